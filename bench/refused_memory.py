@@ -27,6 +27,7 @@ COMMAND_LINES = (
     (("check", "--max-array", "1000"), 1),
     (("check", "--max-array", "100", "--explain"), 1),
     (("check", "--max-array", "100", "--keep-going"), 1),
+    (("check", "--max-array", "100", "--keep-going", "--json"), 1),
     (("check", "--handshake", "client"), 1),
     (("filter", "type='nothing'"), 1),
     (("filter", "arg64='x'"), 1),

@@ -22,7 +22,7 @@ _dbus_wire_rule() {
 _dbus_wire() {
     local word=${COMP_WORDS[COMP_CWORD]} option=${COMP_WORDS[COMP_CWORD-1]}
     local commands='show json list check count calls swap filter handshake help'
-    local options='--explain --max-message --max-array --max-depth --fds --handshake -h --help'
+    local options='--json --explain --max-message --max-array --max-depth --fds --handshake -h --help'
     COMPREPLY=()
     # A redirection names a file, which bash completes.
     [[ $option == [\<\>]* ]] && return
@@ -82,10 +82,10 @@ _dbus_wire() {
             COMPREPLY=($(compgen -W "--keep-going $options" -- "$word"))
             ;;
         count)
-            COMPREPLY=($(compgen -W "--json --keep-going $options" -- "$word"))
+            COMPREPLY=($(compgen -W "--keep-going $options" -- "$word"))
             ;;
         calls)
-            COMPREPLY=($(compgen -W "--json --members --unanswered --errors --slower --keep-going $options" -- "$word"))
+            COMPREPLY=($(compgen -W "--members --unanswered --errors --slower --keep-going $options" -- "$word"))
             ;;
         handshake)
             COMPREPLY=($(compgen -W '--side -h --help' -- "$word"))

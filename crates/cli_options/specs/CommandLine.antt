@@ -38,13 +38,14 @@ limit_rule name most = record (word_rule name) { parser = Some (Signed (pos 0) (
 abbrev pub most_messages : ℕ
 most_messages = 4294967295
 
--- the command with the options that each has: `--explain`, four for limits, and `--handshake`
+-- the command with the options that each has: `--json`, `--explain`, four for limits, and
+-- `--handshake`
 abbrev pub with_options : App → App
 with_options app = with_rule
     (with_rule
     (with_rule
     (with_rule
-    (with_rule (with_rule app (flag_rule (codes "explain"))) (limit_rule (codes "max-message") MESSAGE_LIMIT))
+    (with_rule (with_rule (with_rule app (flag_rule (codes "json"))) (flag_rule (codes "explain"))) (limit_rule (codes "max-message") MESSAGE_LIMIT))
     (limit_rule (codes "max-array") ARRAY_LIMIT))
     (limit_rule (codes "max-depth") DEPTH_LIMIT)) (word_rule (codes "fds"))) (word_rule (codes "handshake"))
 
@@ -84,10 +85,10 @@ abbrev pub filter_app : App
 filter_app = with_window (with_rule (with_selection true (new_app (codes "filter"))) (flag_rule (codes "raw")))
 
 abbrev pub count_app : App
-count_app = with_keep_going (with_rule (new_app (codes "count")) (flag_rule (codes "json")))
+count_app = with_keep_going (new_app (codes "count"))
 
 abbrev pub calls_app : App
-calls_app = with_keep_going (with_rule (with_rule (with_rule (with_rule (with_rule (new_app (codes "calls")) (flag_rule (codes "json"))) (flag_rule (codes "members"))) (flag_rule (codes "unanswered"))) (flag_rule (codes "errors")))
+calls_app = with_keep_going (with_rule (with_rule (with_rule (with_rule (new_app (codes "calls")) (flag_rule (codes "members"))) (flag_rule (codes "unanswered"))) (flag_rule (codes "errors")))
     (limit_rule (codes "slower") most_messages))
 
 abbrev pub handshake_app : App

@@ -107,6 +107,6 @@ leaves_out zero None = false
 leaves_out zero (Some limit) = true
 leaves_out (suc skip) limit = true
 
--- they explain, keep going, or have such a window
+-- they ask for JSON, explain, keep going, or have such a window
 abbrev pub ask_more : Settings → Bool
-ask_more settings = settings.explains || settings.keeps_going || leaves_out settings.window.skip settings.window.limit
+ask_more settings = settings.as_json || settings.explains || settings.keeps_going || leaves_out settings.window.skip settings.window.limit

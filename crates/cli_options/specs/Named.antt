@@ -91,6 +91,7 @@ NamesCommand name rows (Filter selection form) = (name ≡ codes "filter") × Is
 -- set and no other
 pub record HasSettings (rows : List Row) (settings : Settings) : Type 0 where
   pub limits : HasLimits rows settings.limits
+  pub as_json : (settings.as_json ≡ true) ↔ IsGiven (codes "json") rows
   pub explains : (settings.explains ≡ true) ↔ IsGiven (codes "explain") rows
   pub keeps_going : (settings.keeps_going ≡ true) ↔ IsGiven (codes "keep-going") rows
   pub handshake : HasSide rows settings.handshake

@@ -29,10 +29,10 @@ use std::alloc::Global;
 /// that `--side` names. The first of the words is the program's name. `--max-message` and
 /// `--max-array`, in bytes, `--max-depth`, in open containers, and `--fds`, a rule on indexes of
 /// descriptors, name the limits; one that they do not name is that of the specification. The flags
-/// `--explain`, and `--keep-going` of all commands but `swap`, are set if they are among the words,
-/// and `--json` of `count` is its form. `--raw`, of `filter` and `swap`, is the form in which they
-/// write messages. `--json`, `--members`, `--unanswered`, `--errors` and `--slower`, in
-/// milliseconds, of `calls` say what it lists. `--time` of `show` and `--no-time` of `json` say
+/// `--json`, `--explain`, and `--keep-going` of all commands but `swap`, are set if they are among
+/// the words, and `--json` of `count` is its form too. `--raw`, of `filter` and `swap`, is the form
+/// in which they write messages. `--json`, `--members`, `--unanswered`, `--errors` and `--slower`,
+/// in milliseconds, of `calls` say what it lists. `--time` of `show` and `--no-time` of `json` say
 /// whether times are written. `--handshake` names the side whose handshake comes before the
 /// messages. `--skip` and `--limit`, of `show`, `json`, `list` and `filter`, are the numbers of the
 /// window; without them it leaves no message out. `--check-rest` of these is set if it is among the
@@ -141,8 +141,10 @@ fn settings_named(alloc: Global, inner: &ArgMatches) -> Result<Settings, UsageFa
     let limits = limits_named(alloc, inner)?;
     let handshake = side_named(alloc, inner)?;
     let window = window_named(alloc, inner)?;
+    let as_json = is_given(inner, "json");
     Ok(Settings {
         limits,
+        as_json,
         explains: is_given(inner, "explain"),
         keeps_going: is_given(inner, "keep-going"),
         handshake,

@@ -31,6 +31,12 @@ Output:",
             $going,
             "
 
+  With --json a refusal is a line of JSON: an object of the reason, `refused`,
+  its place, `offset`, the number of the message and its place, `message` and
+  `begins`, `packet` if the file has packets, and `place`, `rule` and `header`,
+  which explain it. The line that says how many messages there are is an object
+  of `messages`, `bytes`, `passed_over`, `passed_bytes` and `cut_off`.
+
   With --explain lines after a refusal say which message it is, where its fault
   is, and what has to be there. If a pcap or pcapng file cannot be read to its
   end, the last line on standard error is `capture refused at P: NAME`, with the
@@ -188,9 +194,6 @@ pub(crate) const COUNT_MORE: &str = more!(
   dbus-wire count < capture | grep ' member '"
 );
 
-/// What `--json` of `count` does.
-pub(crate) const COUNT_JSON: &str = "Writes each line of the tables as JSON";
-
 /// What `calls` does.
 pub(crate) const CALLS: &str = "Lists the calls, and what came of each";
 
@@ -224,9 +227,6 @@ pub(crate) const CALLS_MORE: &str = more!(
     "
   dbus-wire calls --unanswered < capture"
 );
-
-/// What `--json` of `calls` does.
-pub(crate) const CALLS_JSON: &str = "Writes each line as JSON";
 
 /// What `--members` of `calls` does.
 pub(crate) const MEMBERS: &str = "Sums the calls up by their members";
@@ -301,6 +301,12 @@ pub(crate) const OWNER: &str = "The owner of a name, as org.a.B=:1.7; any number
 
 /// What `--learn-owners` of `list` and `filter` does.
 pub(crate) const LEARN_OWNERS: &str = "Learns owners from the input, from then on";
+
+/// What `--json` of `check`, `count` and `calls` does.
+pub(crate) const LINES_JSON: &str = "Writes each line as JSON";
+
+/// What `--json` of the other commands does.
+pub(crate) const REFUSALS_JSON: &str = "Tells what is refused as JSON";
 
 /// What `--explain` does.
 pub(crate) const EXPLAIN: &str = "Explains what is refused, in more lines";

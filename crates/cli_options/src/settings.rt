@@ -11,6 +11,8 @@ use dbus_value_model::Limits;
 pub struct Settings {
     /// The limits that the messages are read under.
     pub limits: Limits,
+    /// Whether what is told of refused messages, and the last line, is JSON, RFC 8259.
+    pub as_json: bool,
     /// Whether a refused message, or a refused rule, is explained.
     pub explains: bool,
     /// Whether the messages after a refused one are read too.
@@ -22,11 +24,15 @@ pub struct Settings {
 }
 
 impl Settings {
-    /// Whether they ask for more than limits and a handshake: for explanations, for the messages
-    /// after a refused one, or for a window that leaves some messages out.
+    /// Whether they ask for more than limits and a handshake: for JSON, for explanations, for the
+    /// messages after a refused one, or for a window that leaves some messages out.
     pub fn ask_more(&self) -> bool
         ensures { result ≡ ask_more self.now }
     {
-        self.explains || self.keeps_going || self.window.skip > 0 || self.window.limit.is_some()
+        self.as_json
+            || self.explains
+            || self.keeps_going
+            || self.window.skip > 0
+            || self.window.limit.is_some()
     }
 }

@@ -97,15 +97,18 @@ fn with_arg<'a>(
     command?.arg(arg)
 }
 
-// The command with the options that each command of the program takes.
+// The command with the options that each command of the program takes, of which `--json` has this
+// help.
 fn with_options<'a>(
     alloc: Global,
     command: Result<Command<'a>, AllocError>,
+    json: &'a str,
 ) -> Result<Command<'a>, AllocError>
     ensures { (app : App) → IfOk command.entry (IsLocal app) → IfOk result (IsLocal (with_options app)) }
 {
     let depth = u32::from(DEPTH_LIMIT);
-    let explain = with_arg(command, flag(alloc, "explain", help::EXPLAIN));
+    let formed = with_arg(command, flag(alloc, "json", json));
+    let explain = with_arg(formed, flag(alloc, "explain", help::EXPLAIN));
     let message = limit_option(alloc, "max-message", MESSAGE_LIMIT, help::MAX_MESSAGE);
     let messages = with_arg(explain, message);
     let array = limit_option(alloc, "max-array", ARRAY_LIMIT, help::MAX_ARRAY);
@@ -125,11 +128,12 @@ fn with_options<'a>(
 fn with_keep_going<'a>(
     alloc: Global,
     command: Result<Command<'a>, AllocError>,
+    json: &'a str,
 ) -> Result<Command<'a>, AllocError>
     ensures { (app : App) → IfOk command.entry (IsLocal app) → IfOk result (IsLocal (with_keep_going app)) }
 {
     let going = with_arg(command, flag(alloc, "keep-going", help::KEEP_GOING));
-    with_options(alloc, going)
+    with_options(alloc, going, json)
 }
 
 // The command with `--skip`, `--limit`, `--check-rest`, `--keep-going` and the options that each
@@ -146,7 +150,7 @@ fn with_window<'a>(
         limit_option(alloc, "limit", u32::MAX, help::LIMIT),
     );
     let checking = with_arg(limited, flag(alloc, "check-rest", help::CHECK_REST));
-    with_keep_going(alloc, checking)
+    with_keep_going(alloc, checking, help::REFUSALS_JSON)
 }
 
 // The command with the rules by which it selects messages, and the options beside them.
@@ -203,10 +207,11 @@ fn check_command<'a>(alloc: Global) -> Result<Command<'a>, AllocError>
             help::CHECK_USAGE,
             help::CHECK_MORE,
         ),
+        help::LINES_JSON,
     )
 }
 
-// `count`, with its flag.
+// `count`, which takes no words but its options.
 fn count_command<'a>(alloc: Global) -> Result<Command<'a>, AllocError>
     ensures { IfOk result (IsLocal count_app) }
 {
@@ -217,8 +222,7 @@ fn count_command<'a>(alloc: Global) -> Result<Command<'a>, AllocError>
         help::COUNT_USAGE,
         help::COUNT_MORE,
     );
-    let formed = with_arg(count, flag(alloc, "json", help::COUNT_JSON));
-    with_keep_going(alloc, formed)
+    with_keep_going(alloc, count, help::LINES_JSON)
 }
 
 // `calls`, with its flags.
@@ -232,12 +236,11 @@ fn calls_command<'a>(alloc: Global) -> Result<Command<'a>, AllocError>
         help::CALLS_USAGE,
         help::CALLS_MORE,
     );
-    let formed = with_arg(calls, flag(alloc, "json", help::CALLS_JSON));
-    let summing = with_arg(formed, flag(alloc, "members", help::MEMBERS));
+    let summing = with_arg(calls, flag(alloc, "members", help::MEMBERS));
     let waiting = with_arg(summing, flag(alloc, "unanswered", help::UNANSWERED));
     let failing = with_arg(waiting, flag(alloc, "errors", help::ERRORS));
     let slower = limit_option(alloc, "slower", u32::MAX, help::SLOWER);
-    with_keep_going(alloc, with_arg(failing, slower))
+    with_keep_going(alloc, with_arg(failing, slower), help::LINES_JSON)
 }
 
 // `swap`, with its order, and its flag beside the options of each command.
@@ -248,7 +251,7 @@ fn swap_command<'a>(alloc: Global) -> Result<Command<'a>, AllocError>
     let to = needed_option(alloc, "to", "ORDER", help::ORDER);
     let ordered = with_arg(swap, to);
     let formed = with_arg(ordered, flag(alloc, "raw", help::RAW));
-    with_options(alloc, formed)
+    with_options(alloc, formed, help::REFUSALS_JSON)
 }
 
 // `filter`, with its rules, and its options beside those of each command.

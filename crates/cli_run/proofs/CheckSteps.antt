@@ -69,15 +69,15 @@ module _ {R W E : Type 0} (r : Reading R) (w : Writing W) (e : Writing E) (setti
   gave_up cause packet same s end failed told = stops (ByCause cause) end failed told (stops_as (filled_as settings.window) (wrote_none cause same) s)
 
   -- all messages were counted
-  module _ (counted : Counted) (packet : Option ℕ) (t : Tallies (taken r) settings most packet (Ok counted)) (halts : settings.keeps_going ≡ false) where
+  module _ (counted : Counted) (packet : Option ℕ) (t : Tallies (taken r) settings most packet (Ok counted)) (in_words : settings.as_json ≡ false) (halts : settings.keeps_going ≡ false) where
     abbrev text : List ℕ
     text = fault_line counted.size counted.fault packet
 
     abbrev all : List ℕ
-    all = text ++ closing_line true settings.keeps_going (tally_of counted) 0 counted.fault
+    all = text ++ closing_line settings.as_json true settings.keeps_going (tally_of counted) 0 counted.fault
 
     all_is : all ≡ check_line counted.count counted.size counted.fault packet
-    all_is = ap (λ (b : Bool). text ++ closing_line true b (tally_of counted) 0 counted.fault) halts ∙ line_is (tally_of counted) counted.fault packet
+    all_is = (λ i. text ++ closing_line (in_words i) true (halts i) (tally_of counted) 0 counted.fault) ∙ line_is (tally_of counted) counted.fault packet
 
     abbrev line : List ℕ
     line = check_line counted.count counted.size counted.fault packet
@@ -130,7 +130,7 @@ module _ {R W E : Type 0} (r : Reading R) (w : Writing W) (e : Writing E) (setti
         stops (ByCause Memory) end failed told (within (ByCause Memory) [] (inl refl) t.read_failed (told_nothing w.held w.failures true w.old w.new same) (wrote_nothing e.held e.failures e.old))
     line_not WriteFailed (n, half) end failed told =
         let s = subst (λ (l : List ℕ). Stopped w.held w.failures w.old l n w.new) (sym all_is) half in
-        let due = inr (t.cut, t.last, ap (λ (x : Tally). text ++ closing_line true settings.keeps_going x x.passed counted.fault) t.tally_is) in
+        let due = inr (t.cut, t.last, ap (λ (x : Tally). text ++ closing_line settings.as_json true settings.keeps_going x x.passed counted.fault) t.tally_is) in
         stops Untold end failed told (within Untold all (inl (t.kept, counted.fault, text, t.tells, due)) t.read_failed
         (record { written = take n all; appended = s.appended; front = (drop n all, sym (take-append-drop n all)); failed = s.failed }) (wrote_nothing e.held e.failures e.old))
     line_not cause never end failed told = absurd never

@@ -20,7 +20,7 @@ use Rattle.dbus_stream.proofs.NextSteps.{both_ways}
 use Rattle.cli_options.specs.Limiting.{ask_more}
 use Rattle.cli_options.specs.declared.settings.Settings.{Settings}
 use Rattle.cli_report.specs.Devices.{Taken, reading, taken, Writing, writing}
-use Rattle.cli_report.specs.Telling.{IsToldBy, line_of}
+use Rattle.cli_report.specs.Telling.{line_of}
 use Rattle.cli_report.specs.declared.telling.RefusedMessage.{RefusedMessage}
 use Rattle.cli_report.specs.declared.ending.Cause.{Cause}
 use Rattle.cli_report.specs.declared.ending.Cause.TheVariants.{Memory, ReadFailed, WriteFailed, TooManyReads}
@@ -29,7 +29,7 @@ use Rattle.dbus_count.specs.Spans.{with_times}
 use Rattle.dbus_count.specs.declared.form.Form.{Form}
 use Rattle.cli_report.specs.declared.ending.ExitStatus.{ExitStatus}
 use Rattle.cli_run.specs.ByName.{IsUnwritten, LeavesCounted, Tallies, CountsMessages, CountsThrough, EndsCount, after_messages, counting, span_of, times_of}
-use Rattle.cli_run.specs.Going.{Covers, Goes, GoesThrough, IsMore, IsStopOf, IsToldLast, StopsWithin}
+use Rattle.cli_run.specs.Going.{Covers, Goes, GoesThrough, IsMore, IsStopOf, IsToldIn, IsToldLast, StopsWithin}
 use Rattle.cli_run.specs.Onward.{HasPacketsIf, HasRead, HandsAllOn, HandsOn, HandsSomeOn}
 use Rattle.cli_run.specs.Refusals.{IsFaultIn, IsRefusedIn, number_of}
 use Rattle.cli_run.specs.Inputs.{Placed, sizes_of, wholes}
@@ -89,12 +89,12 @@ check_faults w mid new read.Device a = a.2
 check_faults w mid new read.TooManyReads a = (a.2, a.3)
 
 -- nothing is told of the fault but its line
-told_last : (packets : Option Packets) (settings : Settings) (n offset : ℕ) (kept : List ℕ) (fault : Option Fault) (packet : Option ℕ) → settings.explains ≡ false → settings.keeps_going ≡ false
+told_last : (packets : Option Packets) (settings : Settings) (n offset : ℕ) (kept : List ℕ) (fault : Option Fault) (packet : Option ℕ) → settings.as_json ≡ false → settings.explains ≡ false → settings.keeps_going ≡ false
     → IsFaultIn packets settings.limits offset kept fault packet → IsToldLast packets settings n offset kept fault (fault_line offset fault packet)
-told_last packets settings n offset kept None packet explains halts there = refl
-told_last packets settings n offset kept (Some fault) packet explains halts there =
+told_last packets settings n offset kept None packet in_words explains halts there = refl
+told_last packets settings n offset kept (Some fault) packet in_words explains halts there =
     let refusal : RefusedMessage = record { number = n; offset = offset; fault = fault; packet = packet } in
-    (packet, there, transport (λ i. IsToldBy (sym halts i) (sym explains i) refusal kept (line_of false refusal)) refl)
+    (packet, there, transport (λ i. IsToldIn (sym in_words i) (sym halts i) (sym explains i) refusal kept (line_of false refusal)) refl)
 
 -- of a new reader, which keeps nothing
 module _ {R : Type 0} (left : R → Option (List ℕ)) (calls failures : R → ℕ) (packets : R → Option Packets) (packet : R → Option Packet) (old new : CheckReader R)
@@ -115,8 +115,8 @@ module _ {R : Type 0} (left : R → Option (List ℕ)) (calls failures : R → �
           subst (λ (n : ℕ). IsRefusedIn (packets (source_of old)) settings.limits n a.rest packet_last) a.done
           (refused_there packets packet settings.limits new a.rest a.read_all a.shows_last fault (packets (source_of old)) known a.outcome a.outcome_is e)
 
-  plain_told : (settings.explains ≡ false) × (settings.keeps_going ≡ false)
-  plain_told = or_parts _ _ (or_parts _ _ no_more).0
+  plain_told : ((settings.as_json ≡ false) × (settings.explains ≡ false)) × (settings.keeps_going ≡ false)
+  plain_told = let two = or_parts _ _ (or_parts _ _ no_more).0 in (or_parts _ _ two.0, two.1)
 
   covers : (items : List CutMessage) (rest : List ℕ) → HasRead lengths left calls settings.limits [] old new items rest → Covers Took settings (most_reads_of old) true (wholes items) rest []
   covers items rest h = record {
@@ -152,7 +152,7 @@ module _ {R : Type 0} (left : R → Option (List ℕ)) (calls failures : R → �
   tallies : (res : Result Counted Cause) → HandsOn lengths left calls settings.limits [] failures counts gives_up never_full 0 none_known old new tt tt res → Tallies Took settings (most_reads_of old) packet_last res
   tallies (Ok counted) a =
       let size : counted.size ≡ sizes a.items = omega (arith, a.size_is, is.done) in
-      let told = told_last (packets (source_of old)) settings (length (wholes a.items) + 1) counted.size a.rest counted.fault packet_last plain_told.0 plain_told.1 (fault_there counted a) in
+      let told = told_last (packets (source_of old)) settings (length (wholes a.items) + 1) counted.size a.rest counted.fault packet_last plain_told.0.0 plain_told.0.1 plain_told.1 (fault_there counted a) in
       record {
         parts = wholes a.items;
         rest = a.rest;

@@ -378,10 +378,10 @@ module _ {R A S : Type 0} {takes : S → S → List Placed → (told : List ℕ)
   all = h.messages
 
   abbrev line : List ℕ
-  line = closing_line run.is_check run.settings.keeps_going tally tally.passed fault
+  line = closing_line run.settings.as_json run.is_check run.settings.keeps_going tally tally.passed fault
 
   module _ {leaves : S → S → List Placed → (told : List ℕ) → RunStop → Type 0} {settled : S → Type 0} (laws : AddsUp takes leaves settled full) (rests : settled s1) (s2 : S) where
-    pub closes : (res : Result ExitStatus RunStop) → Closes takes leaves run.is_check run.settings.keeps_going tally fault s1 s2 res
+    pub closes : (res : Result ExitStatus RunStop) → Closes takes leaves run.settings.as_json run.is_check run.settings.keeps_going tally fault s1 s2 res
         → PassesAll (Reads run new) run.settings (most_reads_of run.old) run.is_check takes leaves full run.s0 s2 res
     closes (Ok end) c =
         let came = subst (λ (l : List Placed). takes run.s0 s2 l ((h.told ++ h.text) ++ line)) (append-nil all) (laws.joins run.s0 s1 s2 all [] (h.told ++ h.text) line h.came c.0) in
@@ -427,7 +427,7 @@ module _ {R A S : Type 0} {takes : S → S → List Placed → (told : List ℕ)
           wanted = h.wanted;
           unfilled = λ never. absurd never;
           more = h.text ++ line;
-          all = inl (h.through.kept, fault, h.text, h.through.tells, inr (h.through.cut, h.through.last, ap (λ (x : Tally). h.text ++ closing_line run.is_check run.settings.keeps_going x x.passed fault) h.through.tally_is));
+          all = inl (h.through.kept, fault, h.text, h.through.tells, inr (h.through.cut, h.through.last, ap (λ (x : Tally). h.text ++ closing_line run.settings.as_json run.is_check run.settings.keeps_going x x.passed fault) h.through.tally_is));
           caused = h.through.read_failed;
           came = subst (λ (l : List ℕ). leaves run.s0 s2 all l Untold) (append_assoc h.told h.text line) came;
         }
@@ -436,17 +436,17 @@ module _ {R A S : Type 0} {takes : S → S → List Placed → (told : List ℕ)
 module _ {R A S : Type 0} {takes : S → S → List Placed → (told : List ℕ) → Type 0} {full : S → Bool} {run : Begun R A S} {new : RawReader R A} {tally : Tally} {s1 : S}
     (h : HasEnough run takes full new tally s1) {leaves : S → S → List Placed → (told : List ℕ) → RunStop → Type 0} {settled : S → Type 0} (laws : AddsUp takes leaves settled full) (rests : settled s1) (s2 : S) where
   abbrev due : List ℕ
-  due = closing_line run.is_check run.settings.keeps_going tally tally.passed None
+  due = closing_line run.settings.as_json run.is_check run.settings.keeps_going tally tally.passed None
 
-  due_is : due ≡ closing_line run.is_check run.settings.keeps_going (tally_of h.parts) (passed_count h.parts) None
-  due_is = ap (λ (x : Tally). closing_line run.is_check run.settings.keeps_going x x.passed None) h.tally_is
+  due_is : due ≡ closing_line run.settings.as_json run.is_check run.settings.keeps_going (tally_of h.parts) (passed_count h.parts) None
+  due_is = ap (λ (x : Tally). closing_line run.settings.as_json run.is_check run.settings.keeps_going x x.passed None) h.tally_is
 
   -- of the parts
   enough_after : (s : S) (told : List ℕ) → takes run.s0 s h.messages told → full s ≡ true
       → IsEnough (Took run new) run.settings (most_reads_of run.old) run.is_check (Fills run takes full) h.parts h.messages due
   enough_after s told took enough = (h.last, (s, told, took, enough), due_is)
 
-  pub closes_enough : (res : Result ExitStatus RunStop) → Closes takes leaves run.is_check run.settings.keeps_going tally None s1 s2 res
+  pub closes_enough : (res : Result ExitStatus RunStop) → Closes takes leaves run.settings.as_json run.is_check run.settings.keeps_going tally None s1 s2 res
       → PassesAll (Reads run new) run.settings (most_reads_of run.old) run.is_check takes leaves full run.s0 s2 res
   closes_enough (Ok end) c =
       let came = subst (λ (l : List Placed). takes run.s0 s2 l (h.told ++ due)) (append-nil h.messages) (laws.joins run.s0 s1 s2 h.messages [] h.told due h.came c.0) in

@@ -124,7 +124,7 @@ module _ (packets : Option Packets) (settings : Settings) where
   told_of n offset (item ∷ items) = ([], [], refl, refl, told_of (n + 1) (offset + item.size) items)
 
 -- `check` writes the line of the fault, or else the last line
-pub line_is : (t : Tally) (fault : Option Fault) (packet : Option ℕ) → fault_line t.size fault packet ++ closing_line true false t 0 fault ≡ check_line t.count t.size fault packet
+pub line_is : (t : Tally) (fault : Option Fault) (packet : Option ℕ) → fault_line t.size fault packet ++ closing_line false true false t 0 fault ≡ check_line t.count t.size fault packet
 line_is t None packet = refl
 line_is t (Some fault) packet = append-nil (fault_line t.size (Some fault) packet)
 

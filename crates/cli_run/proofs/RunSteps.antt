@@ -50,7 +50,7 @@ all_of_them checks_rest = record { skip = 0; limit = None; checks_rest = checks_
 
 -- settings that ask for no more than limits and a handshake
 abbrev plain : Settings → Settings
-plain asked = record asked { explains = false; keeps_going = false; window = all_of_them asked.window.checks_rest }
+plain asked = record asked { as_json = false; explains = false; keeps_going = false; window = all_of_them asked.window.checks_rest }
 
 -- by them a command wants all messages
 never_filled : (asked : Settings) (command : Command) (items : List Placed) → IsFilledBy command (plain asked).window items true → ⊥
@@ -77,11 +77,11 @@ first_due checks_rest command items texts line made = ap (λ l. header_before (f
 
 -- of what is told at the end: of `check` one line, and of another command no last line
 module _ (packet : Option ℕ) where
-  first_line : (is_check : Bool) (t : Tally) (fault : Option Fault) → first_of is_check [] (fault_line t.size fault packet ++ closing_line is_check false t 0 fault) ≡ first_of is_check [] (check_line t.count t.size fault packet)
+  first_line : (is_check : Bool) (t : Tally) (fault : Option Fault) → first_of is_check [] (fault_line t.size fault packet ++ closing_line false is_check false t 0 fault) ≡ first_of is_check [] (check_line t.count t.size fault packet)
   first_line true t fault = line_is t fault packet
   first_line false t fault = refl
 
-  second_line : (is_check : Bool) (t : Tally) (fault : Option Fault) → second_of is_check (fault_line t.size fault packet ++ closing_line is_check false t 0 fault) ≡ second_of is_check (fault_line t.size fault packet)
+  second_line : (is_check : Bool) (t : Tally) (fault : Option Fault) → second_of is_check (fault_line t.size fault packet ++ closing_line false is_check false t 0 fault) ≡ second_of is_check (fault_line t.size fault packet)
   second_line true t fault = refl
   second_line false t None = refl
   second_line false t (Some fault) = append-nil (fault_line t.size (Some fault) packet)
@@ -109,9 +109,9 @@ are_messages packets asked n offset bytes (Whole item ∷ parts) rest told b t =
 are_messages packets asked n offset bytes (PassedOver kept fault size ∷ parts) rest told b t = absurd (false≢true t.3.0)
 
 -- then another command has no last line
-no_closing : (is_check : Bool) (tally : Tally) (fault : Option Fault) → is_check ≡ false → tally.passed ≡ 0 → closing_line is_check false tally tally.passed fault ≡ []
-no_closing is_check tally None other none = λ i. closing_line (other i) false tally (none i) None
-no_closing is_check tally (Some fault) other none = λ i. closing_line (other i) false tally (none i) (Some fault)
+no_closing : (is_check : Bool) (tally : Tally) (fault : Option Fault) → is_check ≡ false → tally.passed ≡ 0 → closing_line false is_check false tally tally.passed fault ≡ []
+no_closing is_check tally None other none = λ i. closing_line false (other i) false tally (none i) None
+no_closing is_check tally (Some fault) other none = λ i. closing_line false (other i) false tally (none i) (Some fault)
 
 -- all that was kept is the rest
 rest_is : (cut : Bool) (limits : Limits) (kept rest : List ℕ) (outcome : CutOutcome) (at_end : Type 0) → IsLast cut false limits kept rest outcome at_end
@@ -153,7 +153,7 @@ module _ {R W E : Type 0} (r : Reading R) (w : Writing W) (e : Writing E) (asked
   -- all messages were handed on
   module _ {tally : Tally} {fault : Option Fault} {told text : List ℕ} (h : IsThrough (taken r) (plain asked) most (is_check command) tally fault told text) where
     abbrev closing : List ℕ
-    closing = closing_line (is_check command) false tally tally.passed fault
+    closing = closing_line false (is_check command) false tally tally.passed fault
 
     messages : AreMessages limits h.covers.bytes h.parts h.rest told
     messages = are_messages packets asked 1 0 h.covers.bytes h.parts h.rest told h.covers.begin h.covers.tells
@@ -198,10 +198,10 @@ module _ {R W E : Type 0} (r : Reading R) (w : Writing W) (e : Writing E) (asked
         let place : sizes_of h.parts ≡ sizes messages.items = ap (λ (t : Tally). t.size) (sym tally_is) ∙ size_is in
         transport (λ i. IsFaultIn packets limits (place i) (sym rest_kept.0 i) (fault_is i) last_packet) fault_told.1
 
-    all_due : (told ++ text) ++ closing ≡ fault_line tally.size fault last_packet ++ closing_line (is_check command) false tally 0 fault
+    all_due : (told ++ text) ++ closing ≡ fault_line tally.size fault last_packet ++ closing_line false (is_check command) false tally 0 fault
     all_due =
         let line = fault_told.2 ∙ ap (λ (t : Tally). fault_line t.size fault last_packet) (sym tally_is) in
-        λ i. (messages.none_told i ++ line i) ++ closing_line (is_check command) false tally (passed_is i) fault
+        λ i. (messages.none_told i ++ line i) ++ closing_line false (is_check command) false tally (passed_is i) fault
 
     second_is : second_of (is_check command) ((told ++ text) ++ closing) ≡ line_of
     second_is = ap (second_of (is_check command)) all_due ∙ (second_line last_packet (is_check command) tally fault ∙ (λ i. second_of (is_check command) (fault_line (size_is i) (fault_is i) last_packet)))
@@ -374,10 +374,10 @@ module _ {R W E : Type 0} (r : Reading R) (w : Writing W) (e : Writing E) (asked
 
     -- and the last line after it, if it was reached
     last_due : (s : Within Untold) (cut : Bool) → IsLast cut false limits (due_of s).0 s.rest (due_of s).3.outcome (IsAtEnd (r.left r.new))
-        → s.more ≡ (due_of s).2 ++ closing_line (is_check command) false (tally_with cut s.parts s.rest) (tally_with cut s.parts s.rest).passed (due_of s).1
-        → s.more ≡ (due_of s).2 ++ closing_line (is_check command) false (tally_of s.parts) (passed_count s.parts) (due_of s).1
+        → s.more ≡ (due_of s).2 ++ closing_line false (is_check command) false (tally_with cut s.parts s.rest) (tally_with cut s.parts s.rest).passed (due_of s).1
+        → s.more ≡ (due_of s).2 ++ closing_line false (is_check command) false (tally_of s.parts) (passed_count s.parts) (due_of s).1
     last_due s cut last more =
-        more ∙ ap (λ (b : Bool). (due_of s).2 ++ closing_line (is_check command) false (tally_with b s.parts s.rest) (tally_with b s.parts s.rest).passed (due_of s).1) (rest_is cut limits (due_of s).0 s.rest (due_of s).3.outcome _ last).2
+        more ∙ ap (λ (b : Bool). (due_of s).2 ++ closing_line false (is_check command) false (tally_with b s.parts s.rest) (tally_with b s.parts s.rest).passed (due_of s).1) (rest_is cut limits (due_of s).0 s.rest (due_of s).3.outcome _ last).2
 
     untold : (b : Bool) → is_check command ≡ b → (end : ExitStatus) → (s : Within Untold) → end ≡ status.Failed → GotFirst w.held w.failures b Untold (first_of b (output_of (form_of command) false (plain asked).window s.messages s.came.texts) (s.told ++ s.more)) w.old w.new
         → GotSecond e.held e.failures b Untold (second_of b (s.told ++ s.more)) e.old before → TellsStop e.held e.failures b Untold before e.new → Runs r w e limits most command end
@@ -410,17 +410,17 @@ module _ {R W E : Type 0} (r : Reading R) (w : Writing W) (e : Writing E) (asked
     stopped Untold end s failed tells = untold (is_check command) refl end s failed s.came.first s.came.second tells
 
 -- settings that ask for no more are these
-plain_is : (asked : Settings) (explains goes_on : Bool) (skip : ℕ) (limit : Option ℕ)
-    → ask_more (record asked { explains = explains; keeps_going = goes_on; window = record { skip = skip; limit = limit; checks_rest = asked.window.checks_rest } }) ≡ false
-    → record asked { explains = explains; keeps_going = goes_on; window = record { skip = skip; limit = limit; checks_rest = asked.window.checks_rest } } ≡ plain asked
-plain_is asked false false zero None e = refl
-plain_is asked explains goes_on skip limit e = absurd (false≢true (sym e))
+plain_is : (asked : Settings) (as_json explains goes_on : Bool) (skip : ℕ) (limit : Option ℕ)
+    → ask_more (record asked { as_json = as_json; explains = explains; keeps_going = goes_on; window = record { skip = skip; limit = limit; checks_rest = asked.window.checks_rest } }) ≡ false
+    → record asked { as_json = as_json; explains = explains; keeps_going = goes_on; window = record { skip = skip; limit = limit; checks_rest = asked.window.checks_rest } } ≡ plain asked
+plain_is asked false false false zero None e = refl
+plain_is asked as_json explains goes_on skip limit e = absurd (false≢true (sym e))
 
 -- by them it does what it does under the limits alone
 pub plainly : {R W E : Type 0} (r : Reading R) (w : Writing W) (e : Writing E) (settings : Settings) → ask_more settings ≡ false → (most : ℕ) (command : Command) (end : ExitStatus)
     → RunsWith r w e settings most command end → Runs r w e settings.limits most command end
 plainly r w e settings no_more most command end runs =
-    let by_limits = subst (λ (s : Settings). RunsWith r w e s most command end) (plain_is settings settings.explains settings.keeps_going settings.window.skip settings.window.limit no_more) runs in
+    let by_limits = subst (λ (s : Settings). RunsWith r w e s most command end) (plain_is settings settings.as_json settings.explains settings.keeps_going settings.window.skip settings.window.limit no_more) runs in
     elim by_limits [
       | inl goes ↦ elim goes [
         | inl g ↦ ran r w e settings most command end g

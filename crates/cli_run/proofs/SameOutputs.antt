@@ -25,14 +25,14 @@ use Rattle.cli_options.specs.declared.command.Command.TheVariants.{Show, Json, C
 use Rattle.cli_options.specs.declared.file_form.FileForm.{FileForm}
 use Rattle.cli_options.specs.declared.selection.Selection.{Selection}
 use Rattle.cli_options.specs.declared.settings.Settings.{Settings}
-use Rattle.cli_report.specs.Telling.{IsToldBy, line_of}
+use Rattle.cli_report.specs.Telling.{line_of}
 use Rattle.cli_report.specs.declared.telling.RefusedMessage.{RefusedMessage}
 use Rattle.cli_report.specs.declared.ending.ExitStatus.TheVariants as status
 use Rattle.cli_run.specs.Learning.{ask_sender, known_after}
 use Rattle.cli_run.specs.ByName.{after_messages}
 use Rattle.cli_run.specs.Inputs.{ArePlaced, BeginWithParts, Part, PassedOver, Placed, Whole}
 use Rattle.cli_run.specs.Output.{AreAlike, IsExact, form_of, framed, is_framed, IsOutputOf, IsOutputOfAll, IsTextOf, Picks, is_check, owners_after, owners_known}
-use Rattle.cli_run.specs.Going.{AreTold, IsTold, IsToldLast, passed_count, status_at, tally_of}
+use Rattle.cli_run.specs.Going.{AreTold, IsTold, IsToldIn, IsToldLast, ShowsNone, passed_count, status_at, tally_of}
 use Rattle.cli_run.specs.declared.place.MessagePlace.{MessagePlace}
 use Rattle.cli_run.proofs.Outputs.{output_all_one}
 use Rattle.cli_run.proofs.SameParts.{ArePassed, AreSame, IsKeptOf, bare, one_packet, packet_by}
@@ -86,10 +86,10 @@ are_passed packets settings n offset (Whole item ∷ parts) told t = are_passed 
 are_passed packets settings n offset (PassedOver kept fault size ∷ parts) told t = (t.3.0, are_passed packets settings (n + 1) (offset + size) parts t.1 t.4)
 
 module _ (settings : Settings) where
-  -- without explanations it is a line
-  module _ (off : settings.explains ≡ false) where
+  -- without JSON and explanations it is a line
+  module _ (off : ShowsNone settings) where
     line_is : (refusal : RefusedMessage) (kept text : List ℕ) → IsTold settings refusal kept text → text ≡ line_of settings.keeps_going refusal
-    line_is refusal kept text t = subst (λ b. IsToldBy settings.keeps_going b refusal kept text) off t
+    line_is refusal kept text t = transport (λ i. IsToldIn (off.0 i) settings.keeps_going (off.1 i) refusal kept text) t
 
     -- of a message with one fault, whose packet is one
     one_line : (n m offset at : ℕ) (fault other : Fault) (packet same : Option ℕ) (kept also a b : List ℕ) → n ≡ m → offset ≡ at → fault ≡ other → packet ≡ same

@@ -32,7 +32,7 @@ use Rattle.cli_run.specs.Laws.{AreToldAlike, ExplainsNone, GotAlike, OneCalls, O
 use Rattle.cli_run.specs.ByName.{EndsBy, WritesTables, counting, span_of}
 use Rattle.cli_run.specs.CallListing.{EndsNoted, IsNote, WritesCalls, lack_times, notes, numbered}
 use Rattle.cli_run.specs.CallSumming.{WritesSums}
-use Rattle.cli_run.specs.Going.{AreTold, Goes, GoesFar, GoesThrough, IsThrough, IsToldLast, closing_line, cut_tally, passed_count, status_at, tally_of, tally_with}
+use Rattle.cli_run.specs.Going.{AreTold, Goes, GoesFar, GoesThrough, IsThrough, IsToldLast, ShowsNone, closing_line, cut_tally, passed_count, status_at, tally_of, tally_with}
 use Rattle.cli_run.specs.Inputs.{ArePlaced, BeginWithParts, Part, Placed, size_of, sizes_of, wholes}
 use Rattle.cli_run.specs.Needed.{IsReadFor}
 use Rattle.cli_run.specs.Output.{IsFilledBy, is_check, check_line, fault_line, form_of, header_before, last_line, output_of, second_output, status_of, written}
@@ -149,7 +149,7 @@ module _ (settings : Settings) (is_check : Bool) (input : List ℕ) (bytes : IsB
         (λ i. first i ++ last i) ∙ sym (λ i. first_too i ++ last_too i)
 
     -- or what is refused is of the same packets, and is not explained
-    line_is : settings.explains ≡ false → (all : Packets) → t.packets ≡ Some all → u.packets ≡ Some all → g.told ++ g.text ≡ h.told ++ h.text
+    line_is : ShowsNone settings → (all : Packets) → t.packets ≡ Some all → u.packets ≡ Some all → g.told ++ g.text ≡ h.told ++ h.text
     line_is off all one too =
         let parts = subst (λ (p : Option Packets). AreTold p settings 1 0 g.through.parts g.told) one g.through.covers.tells in
         let parts_too = subst (λ (p : Option Packets). AreTold p settings 1 0 h.through.parts h.told) too h.through.covers.tells in
@@ -168,11 +168,11 @@ module _ (settings : Settings) (is_check : Bool) (input : List ℕ) (bytes : IsB
 
     goes_alike : AreAlikeRuns t u P Q end other
     goes_alike =
-        let closing : closing_line is_check settings.keeps_going g.tally g.tally.passed g.fault ≡ closing_line is_check settings.keeps_going h.tally h.tally.passed h.fault = λ i. closing_line is_check settings.keeps_going (tally_is i) (tally_is i).passed (fault_is i) in
-        let all : g.told ++ g.text ++ closing_line is_check settings.keeps_going g.tally g.tally.passed g.fault ≡ h.told ++ h.text ++ closing_line is_check settings.keeps_going h.tally h.tally.passed h.fault = λ i. told_is i ++ closing i in (
+        let closing : closing_line settings.as_json is_check settings.keeps_going g.tally g.tally.passed g.fault ≡ closing_line settings.as_json is_check settings.keeps_going h.tally h.tally.passed h.fault = λ i. closing_line settings.as_json is_check settings.keeps_going (tally_is i) (tally_is i).passed (fault_is i) in
+        let all : g.told ++ g.text ++ closing_line settings.as_json is_check settings.keeps_going g.tally g.tally.passed g.fault ≡ h.told ++ h.text ++ closing_line settings.as_json is_check settings.keeps_going h.tally h.tally.passed h.fault = λ i. told_is i ++ closing i in (
           g.messages,
           h.messages,
-          g.told ++ g.text ++ closing_line is_check settings.keeps_going g.tally g.tally.passed g.fault,
+          g.told ++ g.text ++ closing_line settings.as_json is_check settings.keeps_going g.tally g.tally.passed g.fault,
           g.came,
           subst (λ (l : List ℕ). Q h.messages l) (sym all) h.came,
           h.end_is ∙ ((λ i. status_at (sym tally_is i).passed (sym fault_is i)) ∙ sym g.end_is),
@@ -205,7 +205,7 @@ module _ (settings : Settings) (is_check : Bool) (input : List ℕ) (bytes : IsB
           let none_too : passed_count h.parts ≡ 0 = ap (λ (x : Tally). x.passed) (sym far_tally) ∙ none in
           none_told settings t.packets 1 0 g.parts g.told none g.covers.tells ∙ sym (none_told settings u.packets 1 0 h.parts h.told none_too h.covers.tells)
 
-      far_lines : settings.explains ≡ false → (all : Packets) → t.packets ≡ Some all → u.packets ≡ Some all → g.told ≡ h.told
+      far_lines : ShowsNone settings → (all : Packets) → t.packets ≡ Some all → u.packets ≡ Some all → g.told ≡ h.told
       far_lines off all here there =
           let parts = subst (λ (p : Option Packets). AreTold p settings 1 0 g.parts g.told) here g.covers.tells in
           let parts_too = subst (λ (p : Option Packets). AreTold p settings 1 0 h.parts h.told) there h.covers.tells in
@@ -219,7 +219,7 @@ module _ (settings : Settings) (is_check : Bool) (input : List ℕ) (bytes : IsB
 
       far_alike : AreAlikeRuns t u P Q end other
       far_alike =
-          let line : g.line ≡ h.line = g.enough.2 ∙ ((λ i. closing_line is_check settings.keeps_going (far_tally i) (far_tally i).passed None) ∙ sym h.enough.2) in (
+          let line : g.line ≡ h.line = g.enough.2 ∙ ((λ i. closing_line settings.as_json is_check settings.keeps_going (far_tally i) (far_tally i).passed None) ∙ sym h.enough.2) in (
             g.messages,
             h.messages,
             g.told ++ g.line,

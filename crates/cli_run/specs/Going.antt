@@ -5,7 +5,7 @@ use Rattle.std.specs.Prelude.{◌≡◌, ◌≢◌, ℕ, zero, suc, ◌+◌, ◌
 use Rattle.std.specs.Io.KnownBytes.{Consumes, IsAtEnd}
 use Rattle.dbus_value_model.specs.declared.fault.Fault.{Fault}
 use Rattle.cli_options.specs.declared.settings.Settings.{Settings}
-use Rattle.cli_report.specs.Telling.{IsToldBy}
+use Rattle.cli_report.specs.Telling.{IsJsonRefusal, IsToldBy}
 use Rattle.cli_report.specs.declared.telling.RefusedMessage.{RefusedMessage}
 use Rattle.cli_report.specs.declared.ending.ExitStatus.{ExitStatus}
 use Rattle.cli_report.specs.declared.ending.ExitStatus.TheVariants as status
@@ -31,9 +31,19 @@ use Rattle.cli_run.specs.declared.visitor.RunStop.TheVariants.{Cause as ByCause,
 
 -- What is told of the parts of an input, and of the rest, and how a run over them ends.
 
--- what is told of a refused message by these settings
+-- what is told of a refused message: a line of JSON; or its line, and then those that explain it,
+-- if that is wanted
+abbrev pub IsToldIn : (as_json goes_on explains : Bool) → RefusedMessage → (kept text : List ℕ) → Type 0
+IsToldIn true goes_on explains refusal kept text = IsJsonRefusal refusal kept text
+IsToldIn false goes_on explains refusal kept text = IsToldBy goes_on explains refusal kept text
+
+-- by these settings
 abbrev pub IsTold : Settings → RefusedMessage → (kept text : List ℕ) → Type 0
-IsTold settings refusal kept text = IsToldBy settings.keeps_going settings.explains refusal kept text
+IsTold settings refusal kept text = IsToldIn settings.as_json settings.keeps_going settings.explains refusal kept text
+
+-- that shows no bytes of the message: it is neither JSON nor explained
+abbrev pub ShowsNone : Settings → Type 0
+ShowsNone settings = (settings.as_json ≡ false) × (settings.explains ≡ false)
 
 module _ (packets : Option Packets) (settings : Settings) where
   -- of the n-th one of an input, which begins at this offset: also the packet of its fault
@@ -91,18 +101,34 @@ abbrev pub counts_line : Tally → List ℕ
 counts_line t = decimal (t.count - t.passed) ++ (codes " messages " ++ (decimal (t.size - t.passed_size) ++ (codes " bytes, "
     ++ (decimal t.passed ++ (codes " passed over " ++ (decimal t.passed_size ++ (codes " bytes" ++ (cut_text t.is_cut ++ codes "\n"))))))))
 
+-- the same as a line of JSON: an object of the messages that are not passed over and their bytes,
+-- of those that are, and of whether the input ends within the last one. RFC 8259.
+abbrev pub truth : Bool → List ℕ
+truth false = codes "false"
+truth true = codes "true"
+
+abbrev pub counts_json : Tally → List ℕ
+counts_json t = codes "{\"messages\":" ++ (decimal (t.count - t.passed) ++ (codes ",\"bytes\":" ++ (decimal (t.size - t.passed_size)
+    ++ (codes ",\"passed_over\":" ++ (decimal t.passed ++ (codes ",\"passed_bytes\":" ++ (decimal t.passed_size
+    ++ (codes ",\"cut_off\":" ++ (truth t.is_cut ++ codes "}\n")))))))))
+
+-- in words, or as JSON
+abbrev pub counts_in : (as_json : Bool) → (words : List ℕ) → Tally → List ℕ
+counts_in false words t = words
+counts_in true words t = counts_json t
+
 -- the line of an input without fault, if there is one
-abbrev pub whole_line : (is_check : Bool) → (count size : ℕ) → List ℕ
-whole_line true count size = ok_line count size
-whole_line false count size = []
+abbrev pub whole_line : (as_json is_check : Bool) → Tally → List ℕ
+whole_line as_json true t = counts_in as_json (ok_line t.count t.size) t
+whole_line as_json false t = []
 
 -- the last line: what was passed over, if anything was refused and the run is to go on; or that of
 -- an input without fault
-abbrev pub closing_line : (is_check goes_on : Bool) → Tally → (passed : ℕ) → Option Fault → List ℕ
-closing_line is_check goes_on t zero None = whole_line is_check t.count t.size
-closing_line is_check false t zero (Some fault) = []
-closing_line is_check true t zero (Some fault) = counts_line t
-closing_line is_check goes_on t (suc n) fault = counts_line t
+abbrev pub closing_line : (as_json is_check goes_on : Bool) → Tally → (passed : ℕ) → Option Fault → List ℕ
+closing_line as_json is_check goes_on t zero None = whole_line as_json is_check t
+closing_line as_json is_check false t zero (Some fault) = []
+closing_line as_json is_check true t zero (Some fault) = counts_in as_json (counts_line t) t
+closing_line as_json is_check goes_on t (suc n) fault = counts_in as_json (counts_line t) t
 
 -- there is a last line: a message was passed over; or `check` found no fault; or a run that is to go
 -- on found one
@@ -161,7 +187,7 @@ module _ (t : Taken) (settings : Settings) (most : ℕ) (is_check : Bool) where
   AreDue parts rest more = (kept : List ℕ) × (fault : Option Fault) × (text : List ℕ) × (tells : TellsRest parts kept fault text)
       × ((IsTellable kept rest tells.outcome (IsAtEnd t.left1) × (more ≡ text))
       ⊎ ((cut : Bool) × IsLast cut settings.keeps_going settings.limits kept rest tells.outcome (IsAtEnd t.left1)
-      × (more ≡ text ++ closing_line is_check settings.keeps_going (tally_with cut parts rest) (tally_with cut parts rest).passed fault)))
+      × (more ≡ text ++ closing_line settings.as_json is_check settings.keeps_going (tally_with cut parts rest) (tally_with cut parts rest).passed fault)))
 
   -- all is told but the last line
   abbrev pub LacksLast : List Part → (rest more : List ℕ) → Type 0
@@ -185,7 +211,7 @@ module _ (t : Taken) (settings : Settings) (most : ℕ) (is_check : Bool) (fille
   -- the last line is due after the parts, since no more is wanted after their messages: nothing
   -- after the last one is looked at
   abbrev pub IsEnough : List Part → List Placed → (more : List ℕ) → Type 0
-  IsEnough parts messages more = EndsWhole parts × filled messages true × (more ≡ closing_line is_check settings.keeps_going (tally_of parts) (passed_count parts) None)
+  IsEnough parts messages more = EndsWhole parts × filled messages true × (more ≡ closing_line settings.as_json is_check settings.keeps_going (tally_of parts) (passed_count parts) None)
 
   -- this was told after the parts, or was to be told if a write of it failed
   abbrev pub IsMore : RunStop → List Part → (rest : List ℕ) → List Placed → (more : List ℕ) → Type 0
@@ -223,7 +249,7 @@ module _ (t : Taken) (settings : Settings) (most : ℕ) (is_check : Bool) (fille
     pub placed : ArePlaced t.packets 1 0 through.parts messages
     pub wanted : AreWanted filled [] messages
     pub unfilled : filled messages false
-    pub came : done messages (told ++ text ++ closing_line is_check settings.keeps_going tally tally.passed fault)
+    pub came : done messages (told ++ text ++ closing_line settings.as_json is_check settings.keeps_going tally tally.passed fault)
     pub end_is : end ≡ status_at tally.passed fault
 
   -- the first parts were taken and told, up to the message after which no more were wanted; and
@@ -266,8 +292,8 @@ module _ {R : Type 0} (r : Reading R) (settings : Settings) (most : ℕ) (is_che
 module _ {S : Type 0} (takes : S → S → List Placed → (told : List ℕ) → Type 0) (leaves : S → S → List Placed → (told : List ℕ) → RunStop → Type 0) where
   -- the last line was told, if there is one, and this is the status; or a write of it failed; or
   -- for want of memory it was not told
-  abbrev pub Closes : (is_check goes_on : Bool) → Tally → Option Fault → S → S → Result ExitStatus RunStop → Type 0
-  Closes is_check goes_on tally fault a b (Ok end) = takes a b [] (closing_line is_check goes_on tally tally.passed fault) × (end ≡ status_at tally.passed fault)
-  Closes is_check goes_on tally fault a b (Err (ByCause Memory)) = (b ≡ a) × HasLastLine is_check goes_on tally.passed fault
-  Closes is_check goes_on tally fault a b (Err (ByCause cause)) = ⊥
-  Closes is_check goes_on tally fault a b (Err Untold) = leaves a b [] (closing_line is_check goes_on tally tally.passed fault) Untold
+  abbrev pub Closes : (as_json is_check goes_on : Bool) → Tally → Option Fault → S → S → Result ExitStatus RunStop → Type 0
+  Closes as_json is_check goes_on tally fault a b (Ok end) = takes a b [] (closing_line as_json is_check goes_on tally tally.passed fault) × (end ≡ status_at tally.passed fault)
+  Closes as_json is_check goes_on tally fault a b (Err (ByCause Memory)) = (b ≡ a) × HasLastLine is_check goes_on tally.passed fault
+  Closes as_json is_check goes_on tally fault a b (Err (ByCause cause)) = ⊥
+  Closes as_json is_check goes_on tally fault a b (Err Untold) = leaves a b [] (closing_line as_json is_check goes_on tally tally.passed fault) Untold

@@ -26,6 +26,7 @@ use Rattle.dbus_count.specs.declared.span.Span.{Span}
 use Rattle.cli_options.specs.Selections.{AreSameCommand}
 use Rattle.cli_report.specs.declared.ending.ExitStatus.TheVariants as status
 use Rattle.cli_run.specs.Running.{Runs, RunsWith, Writes}
+use Rattle.cli_run.specs.Going.{ShowsNone}
 use Rattle.cli_run.specs.Output.{AreAlike, IsExact, IsFirstOutput, IsFront, IsOutputOfAll, form_of, output_of}
 use Rattle.dbus_call_lines.specs.declared.wanted.Wanted.{Wanted}
 use Rattle.cli_run.specs.ByName.{CountsByName}
@@ -92,10 +93,10 @@ ReadAlike r s = (input : List ℕ) × IsBytes input × (r.left r.old ≡ Some in
 abbrev pub GotAlike : {W V : Type 0} → Writing W → Writing V → Type 0
 GotAlike w v = (text : List ℕ) × Wrote w.held w.failures w.old text w.new × Wrote v.held v.failures v.old text v.new
 
--- nothing is explained: it is not asked for, or nothing was refused. What is shown of a refused
--- message's bytes are those that happened to be read
+-- nothing is explained: neither that nor JSON is asked for, or nothing was refused. What is shown of
+-- a refused message's bytes are those that happened to be read
 abbrev pub ExplainsNone : Settings → ExitStatus → Type 0
-ExplainsNone settings end = (settings.explains ≡ false) ⊎ (end ≡ status.Done)
+ExplainsNone settings end = ShowsNone settings ⊎ (end ≡ status.Done)
 
 -- two runs end with one status, and both writers of the one got what those of the other did
 pub record EndAlike {W V E F : Type 0} (w : Writing W) (v : Writing V) (e : Writing E) (f : Writing F) (end other : ExitStatus) : Type 0 where

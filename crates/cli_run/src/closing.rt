@@ -1,6 +1,6 @@
 //! What is written after the messages of an input.
 ghost use Rattle.std.specs.Prelude.{◌≡◌, IfOk, string_bytes};
-ghost use Rattle.cli_run.specs.Going.{counts_line, cut_text};
+ghost use Rattle.cli_run.specs.Going.{counts_json, counts_line, cut_text, truth};
 ghost use Rattle.cli_run.specs.Output.{check_line, ok_line, status_of};
 ghost use Rattle.cli_run.specs.Refusals.{number_of};
 ghost use Rattle.cli_run.specs.Told.{WritesLine};
@@ -96,6 +96,34 @@ pub(crate) fn counts_line<A: Allocator + Copy>(
     format!(in alloc;
         "{count} messages {size} bytes, {passed} passed over {passed_size} bytes{end}\n"
     )
+}
+
+/// The same counts as a line of JSON, RFC 8259: an object of how many messages are not passed over
+/// and how many bytes they have, of those that are, and of whether the input ends within the last.
+pub(crate) fn counts_json<A: Allocator + Copy>(
+    alloc: A,
+    tally: Tally,
+) -> Result<String<A>, AllocError>
+    ensures { IfOk result (λ line. string_bytes line ≡ counts_json tally) }
+{
+    let Tally {
+        passed,
+        passed_size,
+        ..
+    } = tally;
+    let count = tally.count.saturating_sub(passed);
+    let size = tally.size.saturating_sub(passed_size);
+    let cut_off = truth(tally.is_cut);
+    format!(in alloc;
+        "{{\"messages\":{count},\"bytes\":{size},\"passed_over\":{passed},\"passed_bytes\":{passed_size},\"cut_off\":{cut_off}}}\n"
+    )
+}
+
+// How JSON spells a truth value.
+fn truth(is_true: bool) -> &'static str
+    ensures { result.now ≡ truth is_true }
+{
+    if is_true { "true" } else { "false" }
 }
 
 // What says that the input ends within the last message that was passed over.

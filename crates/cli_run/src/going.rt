@@ -1,6 +1,6 @@
 //! The messages of an input, handed on by settings: those that are refused are told, and may be
 //! passed over.
-ghost use Rattle.std.specs.Prelude.{◌≡◌, ◌≤◌, ◌^◌, IfOk};
+ghost use Rattle.std.specs.Prelude.{◌≡◌, ◌≤◌, ◌^◌, IfOk, string_bytes};
 ghost use Rattle.dbus_stream.specs.RawReading.{IsNewReader, kept, most_reads_of, source_of};
 ghost use Rattle.cli_report.specs.Devices.{reading};
 ghost use Rattle.cli_run.specs.Going.{Closes, PassesAll, cause_of, IsTold};
@@ -12,10 +12,12 @@ use crate::handing::hand_all;
 use crate::tally::{Tally, closing_line};
 use crate::visitor::{MessageVisitor, RunStop};
 use cli_options::Settings;
-use cli_report::{Cause, ExitStatus, RefusedMessage, Unwritten, give_up, refusal_text};
+use cli_report::{
+    Cause, ExitStatus, RefusedMessage, Unwritten, give_up, refusal_json, refusal_text,
+};
 use dbus_stream::{Passed, RawReader, ReadFault, Sink, Source};
 use dbus_value_model::Fault;
-use std::alloc::Allocator;
+use std::alloc::{AllocError, Allocator};
 
 /// Hands the messages of a source to the visitor, as long as it wants more, up to its end, a message
 /// that is refused and not passed over, or this number of reads. The visitor tells each refusal,
@@ -62,7 +64,6 @@ fn hand_parts<R: Source, A: Allocator + Copy, V: MessageVisitor>(
     ensures same_reference { R.reference (source_of messages.new) ≡
         R.reference (source_of messages.old) }
 {
-    let goes_on = settings.keeps_going;
     let mut tally = Tally {
         count: 0,
         size: 0,
@@ -78,7 +79,7 @@ fn hand_parts<R: Source, A: Allocator + Copy, V: MessageVisitor>(
         tally = tally.up_to(counted);
         let fault = match counted.fault {
             Some(fault) => fault,
-            None => return close(alloc, is_check, goes_on, tally, None, visitor),
+            None => return close(alloc, settings, is_check, tally, None, visitor),
         };
         let refusal = RefusedMessage {
             number: counted.count + 1,
@@ -91,15 +92,15 @@ fn hand_parts<R: Source, A: Allocator + Copy, V: MessageVisitor>(
             Err(stop) => return Err(stop),
         }
         if !settings.keeps_going {
-            return close(alloc, is_check, goes_on, tally, Some(fault), visitor);
+            return close(alloc, settings, is_check, tally, Some(fault), visitor);
         }
         match messages.pass_over() {
             Ok(Passed::Over) => tally = tally.past(messages.done()),
             Ok(Passed::CutOff) => {
                 let ended = tally.at_end(messages.done());
-                return close(alloc, is_check, goes_on, ended, Some(fault), visitor);
+                return close(alloc, settings, is_check, ended, Some(fault), visitor);
             }
-            Ok(Passed::Not) => return close(alloc, is_check, goes_on, tally, Some(fault), visitor),
+            Ok(Passed::Not) => return close(alloc, settings, is_check, tally, Some(fault), visitor),
             Err(fault) => return Err(RunStop::Cause(cause_of(fault))),
         }
     }
@@ -117,12 +118,7 @@ fn tell<R: Source, A: Allocator + Copy, V: MessageVisitor>(
     ensures tells { Tells V.takes V.leaves (IsTold settings refusal (kept messages.now)) visitor.old visitor.new result }
     ensures settled { IfOk result (λ _. V.settled visitor.new) }
 {
-    let Settings {
-        explains,
-        keeps_going,
-        ..
-    } = settings;
-    let Ok(text) = refusal_text(alloc, keeps_going, explains, refusal, messages) else {
+    let Ok(text) = text_of(alloc, settings, refusal, messages) else {
         return Err(RunStop::Cause(Cause::Memory));
     };
     match visitor.tell(text.as_str()) {
@@ -131,20 +127,42 @@ fn tell<R: Source, A: Allocator + Copy, V: MessageVisitor>(
     }
 }
 
+// What is told of a refusal by the settings.
+fn text_of<R: Source, A: Allocator + Copy>(
+    alloc: A,
+    settings: Settings,
+    refusal: RefusedMessage,
+    messages: &RawReader<R, A>,
+) -> Result<String<A>, AllocError>
+    ensures { IfOk result (λ text.
+        IsTold settings refusal (kept messages.now) (string_bytes text)) }
+{
+    if settings.as_json {
+        return refusal_json(alloc, refusal, messages);
+    }
+    let Settings {
+        explains,
+        keeps_going,
+        ..
+    } = settings;
+    refusal_text(alloc, keeps_going, explains, refusal, messages)
+}
+
 // Has the visitor tell the last line. Returns the status that is due then.
 fn close<A: Allocator + Copy, V: MessageVisitor>(
     alloc: A,
+    settings: Settings,
     is_check: bool,
-    goes_on: bool,
     tally: Tally,
     fault: Option<Fault>,
     visitor: &mut V,
 ) -> Result<ExitStatus, RunStop>
     requires { V.settled visitor.old }
-    ensures closes { Closes V.takes V.leaves is_check goes_on tally fault visitor.old visitor.new result }
+    ensures closes { Closes V.takes V.leaves settings.as_json is_check settings.keeps_going tally
+        fault visitor.old visitor.new result }
     ensures settled { IfOk result (λ _. V.settled visitor.new) }
 {
-    let Ok(line) = closing_line(alloc, is_check, goes_on, tally, fault) else {
+    let Ok(line) = closing_line(alloc, settings, is_check, tally, fault) else {
         return Err(RunStop::Cause(Cause::Memory));
     };
     match visitor.tell(line.as_str()) {

@@ -39,9 +39,10 @@ pub fn plain_run<R: Source, W: Sink, E: Sink>()
 
 /// Two runs of a command by the same settings, neither of which failed, that read the same input
 /// end with the same status, and their writers got the same bytes; but what is explained of a
-/// message that is refused shows its bytes as far as they happened to be read, `Json` may write a
-/// DOUBLE by other digits that read back as its bits, and times are others if the packets are. They are the same if a message is refused, since its line has the packet of its
-/// fault; and of `Swap` and `Filter` that write messages as they are read.
+/// message that is refused, or told of it as JSON, shows its bytes as far as they happened to be
+/// read, `Json` may write a DOUBLE by other digits that read back as its bits, and times are others
+/// if the packets are. They are the same if a message is refused, since its line has the packet of
+/// its fault; and of `Swap` and `Filter` that write messages as they are read.
 pub fn one_run<R, S, W, V, E, F>()
     ensures { OneRun R S W V E F }
 {}

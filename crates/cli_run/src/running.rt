@@ -108,6 +108,7 @@ pub fn run_within<A: Allocator + Copy, R: Source, W: Sink, E: Sink>(
 {
     let settings = Settings {
         limits,
+        as_json: false,
         explains: false,
         keeps_going: false,
         handshake: None,
@@ -135,13 +136,19 @@ pub fn run_within<A: Allocator + Copy, R: Source, W: Sink, E: Sink>(
 /// then `, the last one cut off` if the input ends within that one, of which the bytes that are
 /// there count.
 ///
+/// If they ask for JSON, RFC 8259, each refusal is told by the line of `cli_report::refusal_json` in
+/// place of these, and the last line, also that of `Check`, is an object: `messages` and `bytes` say
+/// how many messages are not passed over and how many bytes they have, `passed_over` and
+/// `passed_bytes` the same of those that are, and `cut_off` whether the input ends within the last
+/// of these.
+///
 /// If the window has a limit, the run ends once so many messages are written: nothing is read after
 /// the last of them, and the status and the last line are those of what was read. With a limit of 0
 /// nothing is read. If the window says that the rest is checked, it is read too. `Check` reads all.
 ///
 /// These lines go to the second writer, but of `Check` to the first. `Check` of an input without
-/// fault writes `ok N messages B bytes`. If the settings ask for explanations, to keep going or for
-/// a window, it holds the bytes of a message as the other commands do.
+/// fault writes `ok N messages B bytes`. If the settings ask for JSON, for explanations, to keep
+/// going or for a window, it holds the bytes of a message as the other commands do.
 ///
 /// `Done`: nothing was refused. `Refused`: something was, and all was told. `Failed`: as
 /// [`run_within`] says; if it was not a write to the second writer that failed, the line of the

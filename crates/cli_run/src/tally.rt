@@ -2,8 +2,9 @@
 ghost use Rattle.std.specs.Prelude.{◌≡◌, ◌≤◌, ◌<◌, ◌+◌, ◌-◌, ◌^◌, IfErr, IfOk, string_bytes, true};
 ghost use Rattle.cli_run.specs.Going.{HasLastLine, closing_line, cut_tally, status_at};
 
-use crate::closing::{counts_line, ok_line};
+use crate::closing::{counts_json, counts_line, ok_line};
 use crate::counted::Counted;
+use cli_options::Settings;
 use cli_report::ExitStatus;
 use dbus_value_model::Fault;
 use std::alloc::{AllocError, Allocator};
@@ -84,22 +85,28 @@ impl Tally {
 }
 
 /// The last line, if there is one: what was passed over, if anything was refused and the run is to
-/// go on; or of `check` that of an input without fault.
+/// go on; or of `check` that of an input without fault. By the settings it is JSON, or in words.
 pub(crate) fn closing_line<A: Allocator + Copy>(
     alloc: A,
+    settings: Settings,
     is_check: bool,
-    goes_on: bool,
     tally: Tally,
     fault: Option<Fault>,
 ) -> Result<String<A>, AllocError>
     ensures line { IfOk result (λ line. string_bytes line ≡
-        closing_line is_check goes_on tally tally.passed fault) }
-    ensures due { IfErr result (λ _. HasLastLine is_check goes_on tally.passed fault) }
+        closing_line settings.as_json is_check settings.keeps_going tally tally.passed fault) }
+    ensures due { IfErr result (λ _.
+        HasLastLine is_check settings.keeps_going tally.passed fault) }
 {
-    if tally.passed > 0 || (goes_on && fault.is_some()) {
+    let is_refused = tally.passed > 0 || (settings.keeps_going && fault.is_some());
+    let is_whole = fault.is_none() && is_check;
+    if settings.as_json && (is_refused || is_whole) {
+        return counts_json(alloc, tally);
+    }
+    if is_refused {
         return counts_line(alloc, tally);
     }
-    if fault.is_none() && is_check {
+    if is_whole {
         return ok_line(alloc, tally.count, tally.size);
     }
     Ok(String::new(alloc))

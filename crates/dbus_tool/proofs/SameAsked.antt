@@ -138,11 +138,12 @@ same_window rows a b p q =
 pub same_settings : (rows : List Row) (a b : Settings) → HasSettings rows a → HasSettings rows b → a ≡ b
 same_settings rows a b p q =
     let limits = same_limits rows a.limits b.limits p.limits q.limits in
+    let as_json = same_flag a.as_json b.as_json p.as_json q.as_json in
     let explains = same_flag a.explains b.explains p.explains q.explains in
     let keeps_going = same_flag a.keeps_going b.keeps_going p.keeps_going q.keeps_going in
     let handshake = same_side a.handshake b.handshake (sym p.handshake ∙ q.handshake) in
     let window = same_window rows a.window b.window p.window q.window in
-    λ i. record { limits = limits i; explains = explains i; keeps_going = keeps_going i; handshake = handshake i; window = window i }
+    λ i. record { limits = limits i; as_json = as_json i; explains = explains i; keeps_going = keeps_going i; handshake = handshake i; window = window i }
 
 -- ---- owners: a bus name has no `=`
 

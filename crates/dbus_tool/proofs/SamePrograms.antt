@@ -46,13 +46,13 @@ use Rattle.cli_report.specs.declared.ending.ExitStatus.{ExitStatus}
 use Rattle.cli_report.specs.declared.ending.ExitStatus.TheVariants as status
 use Rattle.cli_report.specs.Gathering.{Passes}
 use Rattle.cli_report.specs.declared.gathering.Unwritten.{Unwritten}
-use Rattle.cli_run.specs.Laws.{AreOfOneInput, AreOfSamePackets, AreToldAlike, EndAlike, GotAlike, ReadAlike}
+use Rattle.cli_run.specs.Laws.{AreOfOneInput, AreOfSamePackets, AreToldAlike, EndAlike, ExplainsNone, GotAlike, ReadAlike}
 use Rattle.dbus_call_lines.specs.declared.wanted.Wanted.{Wanted}
 use Rattle.cli_run.specs.Output.{AreAlike, IsExact, form_of}
 use Rattle.cli_run.proofs.SameOutputs.{acts_as}
 use Rattle.cli_run.specs.VisitorLaws.{wrote_nothing}
 use Rattle.cli_run.proofs.SameRuns.{one_calls, one_count, one_run, one_sums}
-use Rattle.dbus_tool.specs.Alike.{AreOfSamePacketsFrom, AskAlike, IsOneWay, NameOneWay, OneProgram, RunAlike, TellAlike}
+use Rattle.dbus_tool.specs.Alike.{AreOfSamePacketsFrom, AskAlike, IsOneWay, NameOneWay, OneProgram, RunAlike, TellAlike, TellsOneWay}
 use Rattle.dbus_tool.specs.Handshaking.{TakesHandshake, TellsHandshake, ahead, handshake_line, EndsList, IsListed, Lengthens, Lists, WritesLines, last_line}
 use Rattle.dbus_tool.specs.Words.{Does, DoesBy, DoesCalls, DoesTask, Notes, RunsNoted, calls_wanted, table_form}
 use Rattle.dbus_tool.specs.declared.words.Task.{Task}
@@ -88,7 +88,7 @@ no_fault (Some sub) (Listing settings wanted) refused p h = none_refused sub.1 w
 no_fault (Some sub) (Calls settings wanted) refused p h = takes_none sub.0 sub.1 (mark (codes "calls")) (ap mark p.0) (λ e. omega (arith, e)) (λ e. omega (arith, e)) h.0.named
 no_fault (Some sub) (Handshake side) refused p h = takes_none sub.0 sub.1 (mark (codes "handshake")) (ap mark p.0) (λ e. omega (arith, e)) (λ e. omega (arith, e)) h.0.named
 
-module _ {R W E : Type 0} (left : R → Option (List ℕ)) (calls failures : R → ℕ) (packets : R → Option Packets) (packet : R → Option Packet) (old new : ReadAhead R) (w : Writing W) (e : Writing E) (words : List Text) (one : NameOneWay words) (end : ExitStatus) (done : end ≢ status.Failed) where
+module _ {R W E : Type 0} (left : R → Option (List ℕ)) (calls failures : R → ℕ) (packets : R → Option Packets) (packet : R → Option Packet) (old new : ReadAhead R) (w : Writing W) (e : Writing E) (words : List Text) {due : ExitStatus} (one : NameOneWay words due) (end : ExitStatus) (done : end ≢ status.Failed) where
   answer_is : (answer : Result Asked UsageFault) → IfOk answer (IsNamedBy words) → TellsFault words answer → Does left calls failures packets packet old new w e answer end
       → (asked : Asked) × IsNamedBy words asked × Does left calls failures packets packet old new w e (Ok asked) end
   answer_is (Ok asked) named told does = (asked, named, does)
@@ -103,28 +103,31 @@ module _ {R W E : Type 0} (left : R → Option (List ℕ)) (calls failures : R �
 
 -- ---- what is done in one way
 
-one_way_too : (a b : Asked) → AreSameAsked a b → IsOneWay a → IsOneWay b
-one_way_too (Messages c s) (Messages d t) h one = ((acts_as c d h.0).exact one.0, subst (λ (x : Settings). x.explains ≡ false) h.1 one.1)
-one_way_too (Count s f) (Count t g) h one = subst (λ (x : Settings). x.explains ≡ false) h.0 one
-one_way_too (Calls s f) (Calls t g) h one = subst (λ (x : Settings). x.explains ≡ false) h.0 one
-one_way_too (Handshake a) (Handshake b) h one = tt
-one_way_too (Listing s a) b h one = absurd one
-one_way_too (Messages c s) (Listing t b) h one = absurd h
-one_way_too (Count s f) (Listing t b) h one = absurd h
-one_way_too (Calls s f) (Listing t b) h one = absurd h
-one_way_too (Handshake a) (Listing t b) h one = absurd h
-one_way_too (Handshake a) (Calls t g) h one = absurd h
-one_way_too (Messages c s) (Calls t g) h one = absurd h
-one_way_too (Count s f) (Calls t g) h one = absurd h
-one_way_too (Calls s f) (Messages d t) h one = absurd h
-one_way_too (Calls s f) (Count t g) h one = absurd h
-one_way_too (Calls s f) (Handshake b) h one = absurd h
-one_way_too (Handshake a) (Messages d t) h one = absurd h
-one_way_too (Handshake a) (Count t g) h one = absurd h
-one_way_too (Messages c s) (Count t g) h one = absurd h
-one_way_too (Messages c s) (Handshake b) h one = absurd h
-one_way_too (Count s f) (Messages d t) h one = absurd h
-one_way_too (Count s f) (Handshake b) h one = absurd h
+shows_none : (settings : Settings) (end : ExitStatus) → TellsOneWay settings end → ExplainsNone settings end
+shows_none settings end one = elim one.1 [ inl in_words ↦ inl (in_words, one.0) | inr all ↦ inr all ]
+
+one_way_too : (end : ExitStatus) (a b : Asked) → AreSameAsked a b → IsOneWay end a → IsOneWay end b
+one_way_too end (Messages c s) (Messages d t) h one = ((acts_as c d h.0).exact one.0, subst (λ (x : Settings). TellsOneWay x end) h.1 one.1)
+one_way_too end (Count s f) (Count t g) h one = subst (λ (x : Settings). TellsOneWay x end) h.0 one
+one_way_too end (Calls s f) (Calls t g) h one = subst (λ (x : Settings). TellsOneWay x end) h.0 one
+one_way_too end (Handshake a) (Handshake b) h one = tt
+one_way_too end (Listing s a) b h one = absurd one
+one_way_too end (Messages c s) (Listing t b) h one = absurd h
+one_way_too end (Count s f) (Listing t b) h one = absurd h
+one_way_too end (Calls s f) (Listing t b) h one = absurd h
+one_way_too end (Handshake a) (Listing t b) h one = absurd h
+one_way_too end (Handshake a) (Calls t g) h one = absurd h
+one_way_too end (Messages c s) (Calls t g) h one = absurd h
+one_way_too end (Count s f) (Calls t g) h one = absurd h
+one_way_too end (Calls s f) (Messages d t) h one = absurd h
+one_way_too end (Calls s f) (Count t g) h one = absurd h
+one_way_too end (Calls s f) (Handshake b) h one = absurd h
+one_way_too end (Handshake a) (Messages d t) h one = absurd h
+one_way_too end (Handshake a) (Count t g) h one = absurd h
+one_way_too end (Messages c s) (Count t g) h one = absurd h
+one_way_too end (Messages c s) (Handshake b) h one = absurd h
+one_way_too end (Count s f) (Messages d t) h one = absurd h
+one_way_too end (Count s f) (Handshake b) h one = absurd h
 
 -- without a note
 module _ {R W E : Type 0} (left : R → Option (List ℕ)) (calls failures : R → ℕ) (packets : R → Option Packets) (packet : R → Option Packet) (old new : ReadAhead R) (w : Writing W) (e : Writing E) (settings : Settings) where
@@ -287,34 +290,34 @@ module _ {R S W V E F : Type 0} (one_table : OneTable) (left : R → Option (Lis
       let ends = lists_alike e f end other done other_done h.read k.read one.1 h.ends k.ends in
       record { status_is = ends.0; first = (h.text ++ last_line h.read, h.wrote, subst (λ l. Wrote v.held v.failures v.old l v.new) (sym all) k.wrote); second = ends.1 }
 
-  runs_alike : (c d : Command) (settings : Settings) → Runs (form_of c) settings → AreSameCommand c d → IsExact c → settings.explains ≡ false → DoesTask left calls failures packets packet r0 r1 w e settings (Run c) end
+  runs_alike : (c d : Command) (settings : Settings) → Runs (form_of c) settings → AreSameCommand c d → IsExact c → TellsOneWay settings end → DoesTask left calls failures packets packet r0 r1 w e settings (Run c) end
       → DoesTask other_left other_calls other_failures other_packets other_packet s0 s1 v f settings (Run d) other → EndAlike w v e f end other
   runs_alike c d settings run same exact off = tasks_alike settings (Run c) (Run d) (λ r s taken also here does doing.
       (one_run (ReadAhead R) (ReadAhead S) W V E F (ahead left calls failures packets packet r r1) (ahead other_left other_calls other_failures other_packets other_packet s s1) w v e f settings _ _ c d end other same
-      (record { input = here; told = told_from settings r s taken also (told_of (form_of c) settings run); explains = inl off; done = done; other_done = other_done }) does doing).1 exact (placed_alike (form_of c) settings run r s taken also))
+      (record { input = here; told = told_from settings r s taken also (told_of (form_of c) settings run); explains = shows_none settings end off; done = done; other_done = other_done }) does doing).1 exact (placed_alike (form_of c) settings run r s taken also))
 
-  counts_alike : (settings : Settings) (form : CountForm) → SameFrom settings → settings.explains ≡ false → DoesTask left calls failures packets packet r0 r1 w e settings (CountAll form) end
+  counts_alike : (settings : Settings) (form : CountForm) → SameFrom settings → TellsOneWay settings end → DoesTask left calls failures packets packet r0 r1 w e settings (CountAll form) end
       → DoesTask other_left other_calls other_failures other_packets other_packet s0 s1 v f settings (CountAll form) other → EndAlike w v e f end other
   counts_alike settings form same off = tasks_alike settings (CountAll form) (CountAll form) (λ r s taken also here does doing.
       (one_count (ReadAhead R) (ReadAhead S) W V E F one_table (ahead left calls failures packets packet r r1) (ahead other_left other_calls other_failures other_packets other_packet s s1) w v e f settings (table_form form) _ _ end other
-      (record { input = here; told = inl (same r s taken also); explains = inl off; done = done; other_done = other_done }) does doing).1 (same r s taken also))
+      (record { input = here; told = inl (same r s taken also); explains = shows_none settings end off; done = done; other_done = other_done }) does doing).1 (same r s taken also))
 
   either_alike : (r : Reading (ReadAhead R)) (s : Reading (ReadAhead S)) (settings : Settings) (by_member : Bool) (wanted : Wanted) → AreOfOneInput r s settings end other → AreOfSamePackets r s → DoesCalls r w e settings by_member wanted end
       → DoesCalls s v f settings by_member wanted other → EndAlike w v e f end other
   either_alike r s settings true wanted is same does doing = one_sums (ReadAhead R) (ReadAhead S) W V E F r s w v e f settings wanted _ _ end other is same does doing
   either_alike r s settings false wanted is same does doing = one_calls (ReadAhead R) (ReadAhead S) W V E F r s w v e f settings wanted _ _ end other is same does doing
 
-  called_alike : (settings : Settings) (wanted : WantedCalls) → SameFrom settings → settings.explains ≡ false → DoesTask left calls failures packets packet r0 r1 w e settings (ListAll wanted) end
+  called_alike : (settings : Settings) (wanted : WantedCalls) → SameFrom settings → TellsOneWay settings end → DoesTask left calls failures packets packet r0 r1 w e settings (ListAll wanted) end
       → DoesTask other_left other_calls other_failures other_packets other_packet s0 s1 v f settings (ListAll wanted) other → EndAlike w v e f end other
   called_alike settings wanted same off = tasks_alike settings (ListAll wanted) (ListAll wanted) (λ r s taken also here does doing.
       either_alike (ahead left calls failures packets packet r r1) (ahead other_left other_calls other_failures other_packets other_packet s s1) settings wanted.by_member (calls_wanted wanted)
-      (record { input = here; told = inl (same r s taken also); explains = inl off; done = done; other_done = other_done }) (same r s taken also) does doing)
+      (record { input = here; told = inl (same r s taken also); explains = shows_none settings end off; done = done; other_done = other_done }) (same r s taken also) does doing)
 
-  alike : (a b : Asked) → AreSameAsked a b → IsOneWay a → AskAlike left calls failures packets packet other_left other_calls other_failures other_packets other_packet r0 r1 s0 s1 end a → Does left calls failures packets packet r0 r1 w e (Ok a) end → Does other_left other_calls other_failures other_packets other_packet s0 s1 v f (Ok b) other → EndAlike w v e f end other
+  alike : (a b : Asked) → AreSameAsked a b → IsOneWay end a → AskAlike left calls failures packets packet other_left other_calls other_failures other_packets other_packet r0 r1 s0 s1 end a → Does left calls failures packets packet r0 r1 w e (Ok a) end → Does other_left other_calls other_failures other_packets other_packet s0 s1 v f (Ok b) other → EndAlike w v e f end other
   alike (Messages c settings) (Messages d t) same one told does doing =
       let there = subst (λ (x : Settings). Does other_left other_calls other_failures other_packets other_packet s0 s1 v f (Ok (Messages d x)) other) (sym same.1) doing in
-      runs_alike c d settings told same.0 one.0 one.1 (unnoted left calls failures packets packet r0 r1 w e settings c end done one.1 does)
-      (unnoted other_left other_calls other_failures other_packets other_packet s0 s1 v f settings d other other_done one.1 there)
+      runs_alike c d settings told same.0 one.0 one.1 (unnoted left calls failures packets packet r0 r1 w e settings c end done one.1.0 does)
+      (unnoted other_left other_calls other_failures other_packets other_packet s0 s1 v f settings d other other_done one.1.0 there)
   alike (Count settings form) (Count t g) same one told does doing =
       let there = subst (λ (x : Settings). Does other_left other_calls other_failures other_packets other_packet s0 s1 v f (Ok (Count x g)) other) (sym same.0) doing in
       counts_alike settings form told one does (subst (λ (x : CountForm). Does other_left other_calls other_failures other_packets other_packet s0 s1 v f (Ok (Count settings x)) other) (sym same.1) there)
@@ -346,4 +349,4 @@ one_program R S W V E F one_table left calls failures packets packet other_left 
     let a = answer_is left calls failures packets packet r0 r1 w e words one end done runs.answer runs.named runs.told runs.does in
     let b = answer_is other_left other_calls other_failures other_packets other_packet s0 s1 v f words one other other_done ran.answer ran.named ran.told ran.does in
     alike one_table left calls failures packets packet other_left other_calls other_failures other_packets other_packet r0 r1 s0 s1 w v e f end other input done other_done a.0 b.0 (same_asked words a.0 b.0 a.1 b.1)
-    (one_way_too one.asked a.0 (same_asked words one.asked a.0 one.named a.1) one.one_way) (told a.0 a.1) a.2 b.2
+    (one_way_too end one.asked a.0 (same_asked words one.asked a.0 one.named a.1) one.one_way) (told a.0 a.1) a.2 b.2

@@ -20,20 +20,25 @@ use Rattle.cli_run.specs.Output.{IsExact, form_of}
 use Rattle.dbus_tool.specs.Handshaking.{TakesHandshake, ahead}
 use Rattle.dbus_tool.specs.Words.{RunsWords}
 
+-- nothing that was read of a refused message is shown: it is not explained, and not told as JSON, or
+-- nothing is refused
+abbrev pub TellsOneWay : Settings → (end : ExitStatus) → Type 0
+TellsOneWay settings end = (settings.explains ≡ false) × ((settings.as_json ≡ false) ⊎ (end ≡ status.Done))
+
 -- what is asked for is done in one way: it is neither `json` nor `list` and no `show` with times, and
--- nothing is explained
-abbrev pub IsOneWay : Asked → Type 0
-IsOneWay (Messages command settings) = IsExact command × (settings.explains ≡ false)
-IsOneWay (Count settings form) = settings.explains ≡ false
-IsOneWay (Listing settings wanted) = ⊥
-IsOneWay (Calls settings wanted) = settings.explains ≡ false
-IsOneWay (Handshake side) = Unit {0}
+-- so is what is told
+abbrev pub IsOneWay : (end : ExitStatus) → Asked → Type 0
+IsOneWay end (Messages command settings) = IsExact command × TellsOneWay settings end
+IsOneWay end (Count settings form) = TellsOneWay settings end
+IsOneWay end (Listing settings wanted) = ⊥
+IsOneWay end (Calls settings wanted) = TellsOneWay settings end
+IsOneWay end (Handshake side) = Unit {0}
 
 -- words in which clap finds no fault name this
-pub record NameOneWay (words : List Text) : Type 0 where
+pub record NameOneWay (words : List Text) (end : ExitStatus) : Type 0 where
   pub asked : Asked
   pub named : IsNamedBy words asked
-  pub one_way : IsOneWay asked
+  pub one_way : IsOneWay end asked
   pub faultless : fault_of wire_app words ≡ []
 
 module _ {R S : Type 0} (left : R → Option (List ℕ)) (calls failures : R → ℕ) (packets : R → Option Packets) (packet : R → Option Packet) (other_left : S → Option (List ℕ)) (other_calls other_failures : S → ℕ)
@@ -68,7 +73,7 @@ abbrev pub OneProgram : (R S W V E F : Type 0) → Type 0
 OneProgram R S W V E F = (left : R → Option (List ℕ)) (calls failures : R → ℕ) (packets : R → Option Packets) (packet : R → Option Packet) (other_left : S → Option (List ℕ)) (other_calls other_failures : S → ℕ)
     (other_packets : S → Option Packets) (other_packet : S → Option Packet) (r0 r1 : ReadAhead R) (s0 s1 : ReadAhead S)
     (w : Writing W) (v : Writing V) (e : Writing E) (f : Writing F) (words : List Text) (end other : ExitStatus)
-    → NameOneWay words → ReadAlike (ahead left calls failures packets packet r0 r1) (ahead other_left other_calls other_failures other_packets other_packet s0 s1)
+    → NameOneWay words end → ReadAlike (ahead left calls failures packets packet r0 r1) (ahead other_left other_calls other_failures other_packets other_packet s0 s1)
     → ((asked : Asked) → IsNamedBy words asked → AskAlike left calls failures packets packet other_left other_calls other_failures other_packets other_packet r0 r1 s0 s1 end asked)
     → end ≢ status.Failed → other ≢ status.Failed
     → RunsWords left calls failures packets packet r0 r1 w e words end → RunsWords other_left other_calls other_failures other_packets other_packet s0 s1 v f words other → EndAlike w v e f end other

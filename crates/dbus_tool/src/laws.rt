@@ -12,7 +12,8 @@ use dbus_count::laws::one_table;
 /// line of a refusal has the packet of its fault, and the others have times. Left out are `json`,
 /// which may write a DOUBLE by other digits; `show --time`, as the input has other times if its
 /// packets are others; `--explain`, which shows bytes of a refused message as far as they happened
-/// to be read; and words in which clap finds a fault, since it may report any of several.
+/// to be read, and `--json` if one is refused; and words in which clap finds a fault, since it may
+/// report any of several.
 pub fn one_program<R, S, W, V, E, F>()
     ensures { OneProgram R S W V E F }
 {

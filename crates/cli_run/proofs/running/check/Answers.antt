@@ -15,7 +15,7 @@ returns-in-Ok-write_count g c =
     line_written (reading g.R.Source.left g.R.Source.calls g.R.Source.failures g.R.Source.packets c.args.reader.now _) (writing g.W.Sink.held g.W.Sink.failures c.args.first.now c.write_count.new.first)
     (writing g.E.Sink.held g.E.Sink.failures c.args.second.now _) c.args.settings c.args.reads c.in-Ok.counted c.number_of-packet.result
     (transport (λ i. Tallies (taken (reading g.R.Source.left g.R.Source.calls g.R.Source.failures g.R.Source.packets c.args.reader.now (source i))) c.args.settings c.args.reads (packet i) (Ok c.in-Ok.counted)) tallies)
-    (or_parts _ _ (or_parts _ _ c.requires.no_more).0).1 c.status_of.result c.in-Ok-write_count.ensures refl c.status_of.ensures
+    (or_parts _ _ (or_parts _ _ (or_parts _ _ c.requires.no_more).0).0).0 (or_parts _ _ (or_parts _ _ c.requires.no_more).0).1 c.status_of.result c.in-Ok-write_count.ensures refl c.status_of.ensures
 
 pub returns-in-Err-write_count : goal.returns-in-Err-write_count
 returns-in-Err-write_count g c =
@@ -25,7 +25,7 @@ returns-in-Err-write_count g c =
     line_not (reading g.R.Source.left g.R.Source.calls g.R.Source.failures g.R.Source.packets c.args.reader.now _) (writing g.W.Sink.held g.W.Sink.failures c.args.first.now c.write_count.new.first)
     (writing g.E.Sink.held g.E.Sink.failures c.args.second.now c.give_up.new.second) c.args.settings c.args.reads c.in-Ok.counted c.number_of-packet.result
     (transport (λ i. Tallies (taken (reading g.R.Source.left g.R.Source.calls g.R.Source.failures g.R.Source.packets c.args.reader.now (source i))) c.args.settings c.args.reads (packet i) (Ok c.in-Ok.counted)) tallies)
-    (or_parts _ _ (or_parts _ _ c.requires.no_more).0).1 c.in-Err-write_count.cause c.in-Err-write_count.ensures c.give_up.result c.give_up.ensures.failed c.give_up.ensures.told
+    (or_parts _ _ (or_parts _ _ (or_parts _ _ c.requires.no_more).0).0).0 (or_parts _ _ (or_parts _ _ c.requires.no_more).0).1 c.in-Err-write_count.cause c.in-Err-write_count.ensures c.give_up.result c.give_up.ensures.failed c.give_up.ensures.told
 
 pub returns-in-Err : goal.returns-in-Err
 returns-in-Err g c =
