@@ -12,11 +12,13 @@ use Rattle.dbus_device.specs.Packets.{Packets}
 use Rattle.dbus_stream.specs.Cut.{CutMessage}
 use Rattle.dbus_call_lines.specs.CallLines.{front}
 use Rattle.dbus_call_lines.specs.Keeping.{Keeps, KnowsStray}
-use Rattle.dbus_call_lines.specs.Listing.{AreListedBy, AreRising, ListsAfter, ListsOpen, Numbered, Row, nth, rows_text}
+use Rattle.dbus_call_lines.specs.Listing.{AreListedBy, AreRising, ListsAfter, ListsOpen, Numbered, Row, rows_text}
 use Rattle.dbus_call_lines.specs.declared.wanted.Wanted.{Wanted}
 use Rattle.dbus_call_lines.proofs.Along.{listed_end}
 use Rattle.dbus_call_lines.proofs.Some.{front_rises, some_after}
 use Rattle.dbus_call_lines.proofs.Written.{lines_both}
+use Rattle.dbus_names.specs.Kept.{state_of}
+use Rattle.dbus_names.specs.NameStates.{NameState}
 use Rattle.cli_options.specs.declared.settings.Settings.{Settings}
 use Rattle.cli_report.specs.Devices.{Writing, reading, taken, writing}
 use Rattle.cli_report.specs.Gathering.{Breaks, Gathers, Passes, gathered_bytes}
@@ -28,10 +30,11 @@ use Rattle.cli_report.specs.declared.ending.ExitStatus.{ExitStatus}
 use Rattle.cli_report.specs.declared.ending.ExitStatus.TheVariants as status
 use Rattle.cli_report.specs.declared.gathering.Unwritten.{Unwritten}
 use Rattle.cli_report.proofs.GatherSteps.{breaks_before, breaks_nothing, passes_nothing, passes_whole}
-use Rattle.cli_run.specs.CallListing.{EndsNoted, GathersRows, IsNote, LeavesCalls, ListsThrough, StaysIfShort, TakesCalls, TellsNote, WritesCalls, WritesRows, have_time, notes, number_and_time, numbered}
+use Rattle.cli_run.specs.CallListing.{EndsNoted, GathersRows, IsNote, LeavesCalls, LeavesNamed, ListsNamed, ListsThrough, StaysIfShort, TakesCalls, TellsNote, WritesCalls, WritesRows, all_named, have_time, lack_times, named, named_at, nothing_known, notes, numbered}
 use Rattle.cli_run.specs.CallLaws.{or_false}
 use Rattle.cli_run.specs.Going.{Goes, GoesThrough, StopsWithin}
 use Rattle.cli_run.specs.Inputs.{ArePlaced, IsPlaced, Part, PassedOver, Placed, Whole}
+use Rattle.cli_run.specs.LineNames.{names_after}
 use Rattle.cli_run.specs.OutputWriting.{FailsBy, LeavesFirst}
 use Rattle.cli_run.specs.Told.{GotFirst, GotSecond, WroteOrNot}
 use Rattle.cli_run.specs.VisitorLaws.{told_nothing, wrote_both}
@@ -46,13 +49,14 @@ use Rattle.cli_run.proofs.Wanted.{wanted_as}
 -- ---- without a message
 
 module _ {W E : Type 0} (held : W → Option (List ℕ)) (failures : W → ℕ) (second_held : E → Option (List ℕ)) (second_failures : E → ℕ) (a b : Lister W E)
-    (same_first : b.first.ghost_name ≡ a.first.ghost_name) (same_second : b.second.ghost_name ≡ a.second.ghost_name) (same : b.list ≡ a.list) (timed : b.timed ≡ a.timed) where
+    (same_first : b.first.ghost_name ≡ a.first.ghost_name) (same_second : b.second.ghost_name ≡ a.second.ghost_name) (same : b.list ≡ a.list) (known : b.names ≡ a.names) (timed : b.timed ≡ a.timed) where
   let_out : (told : List ℕ) → Passes held failures [] (gathered_bytes a.gathered) (gathered_bytes b.gathered) a.first.now b.first.now → Wrote second_held second_failures a.second.now told b.second.now
       → TakesCalls held failures second_held second_failures a b [] told
   let_out told passes tells = record {
     same_first = same_first;
     same_second = same_second;
     lists = λ wanted before keeps rising. (transport (λ i. Keeps front wanted (sym (append-nil before) i) (sym same i)) keeps, [], refl, passes);
+    names = ap state_of known;
     timed = timed ∙ or_false a.timed;
     tells = tells;
   }
@@ -81,7 +85,7 @@ module _ {W E : Type 0} (held : W → Option (List ℕ)) (failures : W → ℕ) 
     (same_first : b.first.ghost_name ≡ a.first.ghost_name) (same_second : b.second.ghost_name ≡ a.second.ghost_name) (order : Order) (m : MessageTree) (place : MessagePlace) (size : ℕ)
     (same : b.second.now ≡ a.second.now) (timed : b.timed ≡ (a.timed || is_some place.time)) where
   abbrev x : Numbered
-  x = nth (number_and_time place) m
+  x = named_at place (names_after (state_of a.names) m) m
 
   abbrev item : Placed
   item = record { place = place; item = record { order = order; message = m; size = size } }
@@ -97,11 +101,12 @@ module _ {W E : Type 0} (held : W → Option (List ℕ)) (failures : W → ℕ) 
   none_told : Wrote second_held second_failures a.second.now [] b.second.now
   none_told = told_nothing second_held second_failures false a.second.now b.second.now same
 
-  pub takes_one : ListsIt (gathered_bytes b.gathered) b.first.now (Ok tt) → Takes (Ok tt)
-  takes_one p = record {
+  pub takes_one : ListsIt (gathered_bytes b.gathered) b.first.now (Ok tt) → state_of b.names ≡ names_after (state_of a.names) m → Takes (Ok tt)
+  takes_one p known = record {
     same_first = same_first;
     same_second = same_second;
     lists = λ wanted before keeps rising. let h = p wanted before keeps rising in (h.0, h.1.0, (h.1.0, [], h.1.1, refl, sym (append-nil h.1.0)), h.1.2);
+    names = known;
     timed = timed ∙ ap (λ z. a.timed || z) (or_false (is_some place.time));
     tells = none_told;
   }
@@ -189,6 +194,16 @@ placed_rise packets n offset (Whole item ∷ parts) (x ∷ messages) p = (
 )
 placed_rise packets n offset (PassedOver kept fault size ∷ parts) messages p = placed_rise packets (n + 1) (offset + size) parts messages p
 
+-- and so do they with names
+named_above : (n : ℕ) (os : NameState) (items : List Placed) → AllByRecursion (λ y. nat_cmp n y.place.number ≡ Less) (numbered items) → AllByRecursion (λ y. nat_cmp n y.place.number ≡ Less) (named os items)
+named_above n os [] all = tt
+named_above n os (m ∷ items) all = (all.0, named_above n (names_after os m.item.message) items all.1)
+
+named_rise : (os : NameState) (items : List Placed) → AreRising (numbered items) → AreRising (named os items)
+unfolding IsStrictlySortedBy
+named_rise os [] up = tt
+named_rise os (m ∷ items) up = let now = names_after os m.item.message in (named_above m.place.number now items up.0, named_rise now items up.1)
+
 -- ---- the run
 
 -- how it ends, by what becomes of the calls that wait
@@ -202,30 +217,30 @@ ends_by Writes e Is Was into due end (Ok x) writes ends = inl (writes, ends.0, i
 ends_by Writes e Is Was into due end (Err cause) writes ends = inr (cause, writes, ends.0, ends.1)
 
 module _ {W E : Type 0} (held : W → Option (List ℕ)) (failures : W → ℕ) (second_held : E → Option (List ℕ)) (second_failures : E → ℕ) (wanted : Wanted) (a b : Lister W E) (keeps : Keeps front wanted [] a.list)
-    (none : gathered_bytes a.gathered ≡ []) (untimed : a.timed ≡ false) where
+    (unknown : state_of a.names ≡ nothing_known) (none : gathered_bytes a.gathered ≡ []) (untimed : a.timed ≡ false) where
   -- what was written, and then what waits
-  module _ (last : gathered_bytes b.gathered ≡ []) (items : List Placed) (rises : AreRising (numbered items)) (told : List ℕ) (h : TakesCalls held failures second_held second_failures a b items told) (w2 : W) where
+  module _ (last : gathered_bytes b.gathered ≡ []) (items : List Placed) (rises : AreRising (all_named items)) (told : List ℕ) (h : TakesCalls held failures second_held second_failures a b items told) (w2 : W) where
     abbrev Lists : Type 0
-    Lists = Keeps front wanted (numbered items) b.list × (rows : List Row) × AreListedBy [] (numbered items) rows
+    Lists = Keeps front wanted (all_named items) b.list × (rows : List Row) × AreListedBy [] (all_named items) rows
         × Passes held failures (rows_text wanted rows) (gathered_bytes a.gathered) (gathered_bytes b.gathered) a.first.now b.first.now
 
     lists : Lists
-    lists = h.lists wanted [] keeps rises
+    lists = subst (λ (os : NameState). ListsNamed held failures os items a b) unknown h.lists wanted [] keeps rises
 
     wrote : (l : Lists) → Wrote held failures a.first.now (rows_text wanted l.1) b.first.now
     wrote l = passes_whole held failures (rows_text wanted l.1) (gathered_bytes a.gathered) (gathered_bytes b.gathered) a.first.now b.first.now none last l.3
 
-    writes : (l : Lists) (res : Result (Unit {0}) Cause) → WritesRows (writing held failures b.first.now w2) wanted (ListsOpen (numbered items)) res → WritesCalls (writing held failures a.first.now w2) wanted items res
+    writes : (l : Lists) (res : Result (Unit {0}) Cause) → WritesRows (writing held failures b.first.now w2) wanted (ListsOpen (all_named items)) res → WritesCalls (writing held failures a.first.now w2) wanted items res
     writes l (Ok x) r = (
       l.1 ++ r.0,
-      listed_end [] (numbered items) l.1 r.0 l.2 r.1,
+      listed_end [] (all_named items) l.1 r.0 l.2 r.1,
       subst (λ (t : List ℕ). Wrote held failures a.first.now t w2) (sym (lines_both wanted l.1 r.0))
           (wrote_both held failures (rows_text wanted l.1) (rows_text wanted r.0) a.first.now b.first.now w2 (wrote l) r.2),
     )
     writes l (Err Memory) r = (l.1, l.2, subst (λ (y : W). Wrote held failures a.first.now (rows_text wanted l.1) y) (sym r) (wrote l))
     writes l (Err WriteFailed) r = (
       l.1 ++ r.0,
-      listed_end [] (numbered items) l.1 r.0 l.2 r.1,
+      listed_end [] (all_named items) l.1 r.0 l.2 r.1,
       subst (λ (t : List ℕ). Breaks held failures t [] a.first.now w2) (sym (lines_both wanted l.1 r.0))
           (breaks_after held failures (rows_text wanted l.1) (rows_text wanted r.0) [] [] a.first.now b.first.now w2
           (transport (λ i. Passes held failures (rows_text wanted l.1) (none i) (last i) a.first.now b.first.now) l.3) r.2),
@@ -235,7 +250,7 @@ module _ {W E : Type 0} (held : W → Option (List ℕ)) (failures : W → ℕ) 
 
     written : (res : Result (Unit {0}) Cause) → ((other : Wanted) (before : List Numbered) → Keeps front other before b.list → AreRising before → WritesRows (writing held failures b.first.now w2) other (ListsOpen before) res)
         → WritesCalls (writing held failures a.first.now w2) wanted items res
-    written res waits = writes lists res (waits wanted (numbered items) lists.0 rises)
+    written res waits = writes lists res (waits wanted (all_named items) lists.0 rises)
 
   -- the source and the second writer stand where these do
   module _ {R : Type 0} (left : R → Option (List ℕ)) (calls read_failures : R → ℕ) (packets : R → Option Packets) (settings : Settings) (most : ℕ) (r0 r1 : R) {r2 : R} {e1 : E} (source : r1 ≡ r2) (second : b.second.now ≡ e1) where
@@ -249,9 +264,9 @@ module _ {W E : Type 0} (held : W → Option (List ℕ)) (failures : W → ℕ) 
     abbrev pub IsKnown : (note : List ℕ) → Type 0
     IsKnown note = (other : Wanted) (before : List Numbered) → Keeps front other before b.list → AreRising before → (stray : ℕ) × KnowsStray before stray × (note ≡ notes (is_some wanted.slower && not b.timed) stray)
 
-    is_note : (items : List Placed) → b.timed ≡ (a.timed || have_time items) → Keeps front wanted (numbered items) b.list → AreRising (numbered items) → (note : List ℕ) → IsKnown note → IsNote wanted items note
+    is_note : (items : List Placed) → b.timed ≡ (a.timed || have_time items) → Keeps front wanted (all_named items) b.list → AreRising (all_named items) → (note : List ℕ) → IsKnown note → IsNote (lack_times wanted items) (all_named items) note
     is_note items came kept rises note known =
-        let h = known wanted (numbered items) kept rises in
+        let h = known wanted (all_named items) kept rises in
         (h.0, h.1, h.2 ∙ ap (λ (t : Bool). notes (is_some wanted.slower && not t) h.0) (came ∙ ap (λ t. t || have_time items) untimed))
 
     pub lists_all : {N : (size : ℕ) → Type 0} (w2 : W) (e2 : E) (res : Result (Unit {0}) Cause) (due end : ExitStatus) → gathered_bytes b.gathered ≡ []
@@ -262,12 +277,12 @@ module _ {W E : Type 0} (held : W → Option (List ℕ)) (failures : W → ℕ) 
     lists_all w2 e2 res due end last waits ends goes =
         let all_wanted : (l : List Placed) (b : Bool) → FillsBy (TakesCalls held failures second_held second_failures) (λ _. false) a l b → WantsAll l b = λ l b h. sym h.3 in
         let g = through_by all_wanted goes in
-        let rises = placed_rise (packets r0) 1 0 g.through.parts g.messages g.placed in
+        let rises = named_rise nothing_known g.messages (placed_rise (packets r0) 1 0 g.through.parts g.messages g.placed) in
         record {
           due = due;
           before = e1;
           through = subst (λ (y : R). GoesThrough (taken (reading left calls read_failures packets r0 y)) settings most false WantsAll
-              (λ items told. Wrote second_held second_failures a.second.now told e1 × EndsNoted (WritesCalls (writing held failures a.first.now w2) wanted items) (IsNote wanted items) (writing second_held second_failures e1 e2) due end) due) source
+              (λ items told. Wrote second_held second_failures a.second.now told e1 × EndsNoted (WritesCalls (writing held failures a.first.now w2) wanted items) (IsNote (lack_times wanted items) (all_named items)) (writing second_held second_failures e1 e2) due end) due) source
               (record {
                 tally = g.tally;
                 fault = g.fault;
@@ -280,8 +295,8 @@ module _ {W E : Type 0} (held : W → Option (List ℕ)) (failures : W → ℕ) 
                 unfilled = all_wanted g.messages false g.unfilled;
                 came = (
                   told_as _ g.came.tells,
-                  ends_by (WritesCalls (writing held failures a.first.now w2) wanted g.messages) (writing second_held second_failures e1 e2) (IsNote wanted g.messages) IsKnown
-                      (is_note g.messages g.came.timed (g.came.lists wanted [] keeps rises).0 rises) due end res (written last g.messages rises _ g.came w2 res waits) ends,
+                  ends_by (WritesCalls (writing held failures a.first.now w2) wanted g.messages) (writing second_held second_failures e1 e2) (IsNote (lack_times wanted g.messages) (all_named g.messages)) IsKnown
+                      (is_note g.messages g.came.timed (lists last g.messages rises _ g.came w2).0 rises) due end res (written last g.messages rises _ g.came w2 res waits) ends,
                 );
                 end_is = g.end_is;
               });
@@ -289,12 +304,13 @@ module _ {W E : Type 0} (held : W → Option (List ℕ)) (failures : W → ℕ) 
 
     pub gave_up : {w2 : W} {stop : RunStop} → b.first.now ≡ w2
         → StopsWithin (taken (reading left calls read_failures packets r0 r1)) settings most false (FillsBy (TakesCalls held failures second_held second_failures) (λ _. false) a) (LeavesCalls held failures second_held second_failures a b) stop
-        → StopsWithin (taken (reading left calls read_failures packets r0 r2)) settings most false WantsAll (λ items told stop. (rows : List Row) × AreListedBy [] (numbered items) rows
+        → StopsWithin (taken (reading left calls read_failures packets r0 r2)) settings most false WantsAll (λ items told stop. (rows : List Row) × AreListedBy [] (all_named items) rows
         × GotFirst held failures false stop (rows_text wanted rows) a.first.now w2 × GotSecond second_held second_failures false stop told a.second.now e1) stop
     gave_up {w2} {stop} first stops =
         let s : StopsWithin (taken (reading left calls read_failures packets r0 r1)) settings most false WantsAll (LeavesCalls held failures second_held second_failures a b) stop = stops_as (λ l b h. sym h.3) (λ items told left. left) stops in
-        let l = s.came.lists wanted [] keeps (placed_rise (packets r0) 1 0 s.parts s.messages s.placed) in
-        subst (λ (y : R). StopsWithin (taken (reading left calls read_failures packets r0 y)) settings most false WantsAll (λ items told stop. (rows : List Row) × AreListedBy [] (numbered items) rows
+        let left_so : LeavesNamed held failures nothing_known s.messages stop a b = subst (λ (os : NameState). LeavesNamed held failures os s.messages stop a b) unknown s.came.lists in
+        let l = left_so wanted [] keeps (named_rise nothing_known s.messages (placed_rise (packets r0) 1 0 s.parts s.messages s.placed)) in
+        subst (λ (y : R). StopsWithin (taken (reading left calls read_failures packets r0 y)) settings most false WantsAll (λ items told stop. (rows : List Row) × AreListedBy [] (all_named items) rows
         × GotFirst held failures false stop (rows_text wanted rows) a.first.now w2 × GotSecond second_held second_failures false stop told a.second.now e1) stop) source
         (record {
           parts = s.parts;

@@ -13,7 +13,7 @@ use Rattle.dbus_count.specs.Counting.{Counting}
 use Rattle.dbus_count.specs.Spans.{span_text}
 use Rattle.dbus_count.specs.Tables.{AreTables, words, OneTable}
 use Rattle.dbus_call_lines.specs.Keeping.{ended_rows}
-use Rattle.dbus_call_lines.specs.Listing.{AreListed, Row, rows_text}
+use Rattle.dbus_call_lines.specs.Listing.{AreListed, Row, rows_text, Numbered}
 use Rattle.dbus_call_lines.specs.declared.wanted.Wanted.{Wanted}
 use Rattle.dbus_call_lines.proofs.Rows.{one_list}
 use Rattle.dbus_call_lines.proofs.Stray.{one_stray}
@@ -30,7 +30,7 @@ use Rattle.cli_report.specs.declared.ending.ExitStatus.{ExitStatus}
 use Rattle.cli_report.specs.declared.ending.ExitStatus.TheVariants as status
 use Rattle.cli_run.specs.Laws.{AreToldAlike, ExplainsNone, GotAlike, OneCalls, OneCount, OneRun, OneSums, OneWithin}
 use Rattle.cli_run.specs.ByName.{EndsBy, WritesTables, counting, span_of}
-use Rattle.cli_run.specs.CallListing.{EndsNoted, IsNote, WritesCalls, lack_times, notes, numbered}
+use Rattle.cli_run.specs.CallListing.{EndsNoted, IsNote, WritesCalls, all_named, lack_times, notes, numbered}
 use Rattle.cli_run.specs.CallSumming.{WritesSums}
 use Rattle.cli_run.specs.Going.{AreTold, Goes, GoesFar, GoesThrough, IsThrough, IsToldLast, ShowsNone, closing_line, cut_tally, passed_count, status_at, tally_of, tally_with}
 use Rattle.cli_run.specs.Inputs.{ArePlaced, BeginWithParts, Part, Placed, size_of, sizes_of, wholes}
@@ -303,11 +303,11 @@ ended_noted Writes Is e due end done ends = elim ends [
 ]
 
 -- of the same messages it is the same
-one_note : (wanted : Wanted) (items : List Placed) (note other : List ℕ) → IsNote wanted items note → IsNote wanted items other → note ≡ other
-one_note wanted items note other h k =
-    let count = one_stray [] (numbered items) h.1.0 k.1.0 h.1.1 k.1.1 in
+one_note : (lacks : Bool) (xs : List Numbered) (note other : List ℕ) → IsNote lacks xs note → IsNote lacks xs other → note ≡ other
+one_note lacks xs note other h k =
+    let count = one_stray [] xs h.1.0 k.1.0 h.1.1 k.1.1 in
     let same : h.0 ≡ k.0 = h.1.2 ∙ (ap (λ n. min n (2 ^ 64 - 1)) count ∙ sym k.1.2) in
-    h.2 ∙ (ap (notes (lack_times wanted items)) same ∙ sym k.2)
+    h.2 ∙ (ap (notes lacks) same ∙ sym k.2)
 
 -- nothing is explained, also by the status that was due
 due_explains : (settings : Settings) (due end : ExitStatus) → end ≡ due → ExplainsNone settings end → ExplainsNone settings due
@@ -362,20 +362,20 @@ one_calls R S W V E F r s w v e f settings wanted most more end other is packets
   | inl g ↦ elim listed [
     | inl h ↦ (
         let input = is.input in
-        let due = (ended_noted (WritesCalls w wanted g.through.messages) (IsNote wanted g.through.messages) (writing e.held e.failures g.before e.new) g.due end is.done g.through.came.1).4 in
+        let due = (ended_noted (WritesCalls w wanted g.through.messages) (IsNote (lack_times wanted g.through.messages) (all_named g.through.messages)) (writing e.held e.failures g.before e.new) g.due end is.done g.through.came.1).4 in
         let explains = due_explains settings g.due end due is.explains in
         let all = goes_alike settings false input.0 input.1 g.through h.through explains input.2 input.3 (taken_alike r s end g.due (sym due) is.told) in
         let items = all.0 in
         let also = all.1 in
         let told = all.2 in
-        let one = ended_noted (WritesCalls w wanted items) (IsNote wanted items) (writing e.held e.failures g.before e.new) g.due end is.done all.3.1 in
-        let too = ended_noted (WritesCalls v wanted also) (IsNote wanted also) (writing f.held f.failures h.before f.new) h.due other is.other_done all.4.1 in
+        let one = ended_noted (WritesCalls w wanted items) (IsNote (lack_times wanted items) (all_named items)) (writing e.held e.failures g.before e.new) g.due end is.done all.3.1 in
+        let too = ended_noted (WritesCalls v wanted also) (IsNote (lack_times wanted also) (all_named also)) (writing f.held f.failures h.before f.new) h.due other is.other_done all.4.1 in
         let here = subst (λ (p : Option Packets). ArePlaced p 1 0 all.6 items) packets.one all.7 in
         let there = subst (λ (p : Option Packets). ArePlaced p 1 0 all.6 also) packets.same all.8 in
         let same = one_placed packets.all 1 0 all.6 also items there here in
-        let note = one_note wanted items one.1 too.1 one.2 (subst (λ (l : List Placed). IsNote wanted l too.1) same too.2) in
-        let listed_too = subst (λ (l : List Placed). AreListed [] (numbered l) too.0.0) same too.0.1 in
-        let text : rows_text wanted one.0.0 ≡ rows_text wanted too.0.0 = ap (rows_text wanted) (one_list (numbered items) one.0.0 too.0.0 one.0.1 listed_too) in
+        let note = one_note (lack_times wanted items) (all_named items) one.1 too.1 one.2 (subst (λ (l : List Placed). IsNote (lack_times wanted l) (all_named l) too.1) same too.2) in
+        let listed_too = subst (λ (l : List Placed). AreListed [] (all_named l) too.0.0) same too.0.1 in
+        let text : rows_text wanted one.0.0 ≡ rows_text wanted too.0.0 = ap (rows_text wanted) (one_list (all_named items) one.0.0 too.0.0 one.0.1 listed_too) in
         record {
           status_is = too.4 ∙ (all.5 ∙ sym one.4);
           first = (rows_text wanted one.0.0, one.0.2, subst (λ l. Wrote v.held v.failures v.old l v.new) (sym text) too.0.2);
@@ -396,18 +396,18 @@ one_sums R S W V E F r s w v e f settings wanted most more end other is packets 
   | inl g ↦ elim listed [
     | inl h ↦ (
         let input = is.input in
-        let due = (ended_noted (WritesSums w wanted g.through.messages) (IsNote wanted g.through.messages) (writing e.held e.failures g.before e.new) g.due end is.done g.through.came.1).4 in
+        let due = (ended_noted (WritesSums w wanted g.through.messages) (IsNote (lack_times wanted g.through.messages) (numbered g.through.messages)) (writing e.held e.failures g.before e.new) g.due end is.done g.through.came.1).4 in
         let explains = due_explains settings g.due end due is.explains in
         let all = goes_alike settings false input.0 input.1 g.through h.through explains input.2 input.3 (taken_alike r s end g.due (sym due) is.told) in
         let items = all.0 in
         let also = all.1 in
         let told = all.2 in
-        let one = ended_noted (WritesSums w wanted items) (IsNote wanted items) (writing e.held e.failures g.before e.new) g.due end is.done all.3.1 in
-        let too = ended_noted (WritesSums v wanted also) (IsNote wanted also) (writing f.held f.failures h.before f.new) h.due other is.other_done all.4.1 in
+        let one = ended_noted (WritesSums w wanted items) (IsNote (lack_times wanted items) (numbered items)) (writing e.held e.failures g.before e.new) g.due end is.done all.3.1 in
+        let too = ended_noted (WritesSums v wanted also) (IsNote (lack_times wanted also) (numbered also)) (writing f.held f.failures h.before f.new) h.due other is.other_done all.4.1 in
         let here = subst (λ (p : Option Packets). ArePlaced p 1 0 all.6 items) packets.one all.7 in
         let there = subst (λ (p : Option Packets). ArePlaced p 1 0 all.6 also) packets.same all.8 in
         let same = one_placed packets.all 1 0 all.6 also items there here in
-        let note = one_note wanted items one.1 too.1 one.2 (subst (λ (l : List Placed). IsNote wanted l too.1) same too.2) in
+        let note = one_note (lack_times wanted items) (numbered items) one.1 too.1 one.2 (subst (λ (l : List Placed). IsNote (lack_times wanted l) (numbered l) too.1) same too.2) in
         let listed_too = subst (λ (l : List Placed). AreListed [] (numbered l) too.0.1.0) same too.0.1.1 in
         let rows = one_list (numbered items) one.0.1.0 too.0.1.0 one.0.1.1 listed_too in
         let table = subst (λ (l : List Row). IsTable wanted.form (sums (ended_rows members wanted l)) too.0.0) (sym rows) too.0.1.2 in

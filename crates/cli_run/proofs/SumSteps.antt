@@ -58,7 +58,7 @@ module _ {W E : Type 0} (w : Writing W) (e : Writing E) (wanted : Wanted) (due e
       subst (λ (calls : List EndedCall). IsTable wanted.form (sums calls) table) (sym (ended_both members wanted rows l.0.0)) l.0.2,
     )
 
-    pub ends_so : (res : Result (String Global) Cause) → WritesLast w wanted wanted.form (numbered items) (ended_rows members wanted rows) lacks res → EndsSo res → EndsNoted (WritesSums w wanted items) (IsNote wanted items) e due end
+    pub ends_so : (res : Result (String Global) Cause) → WritesLast w wanted wanted.form (numbered items) (ended_rows members wanted rows) lacks res → EndsSo res → EndsNoted (WritesSums w wanted items) (IsNote (lack_times wanted items) (numbered items)) e due end
     ends_so (Ok note) l ends = inl ((l.0, table_all l.0 (string_bytes note) l.1, l.2), string_bytes note, (l.1.1, l.1.2, l.1.3 ∙ ap (λ b. notes b l.1.1) lack), ends)
     ends_so (Err Memory) l ends = inr (Memory, l, ends.0, ends.1)
     ends_so (Err WriteFailed) l ends = inr (WriteFailed, (l.0, table_all l.0 l.1 l.2, l.3, l.4), ends.0, ends.1)
@@ -87,7 +87,7 @@ module _ {R W E : Type 0} (left : R → Option (List ℕ)) (calls read_failures 
         due = due;
         before = e1;
         through = subst (λ (y : R). GoesThrough (taken (reading left calls read_failures packets r0 y)) settings most false WantsAll
-            (λ items told. Wrote held failures a.second.now told e1 × EndsNoted (WritesSums w wanted items) (IsNote wanted items) (writing held failures e1 e2) due end) due) source
+            (λ items told. Wrote held failures a.second.now told e1 × EndsNoted (WritesSums w wanted items) (IsNote (lack_times wanted items) (numbered items)) (writing held failures e1 e2) due end) due) source
             (record {
               tally = g.tally;
               fault = g.fault;

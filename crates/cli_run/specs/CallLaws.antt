@@ -7,11 +7,14 @@ use Rattle.dbus_call_lines.specs.Listing.{AreListedBy, AreRising, Numbered, Row,
 use Rattle.dbus_call_lines.proofs.Along.{listed_both}
 use Rattle.dbus_call_lines.proofs.Some.{front_rises}
 use Rattle.dbus_call_lines.proofs.Written.{lines_both}
+use Rattle.dbus_names.specs.Kept.{state_of}
+use Rattle.dbus_names.specs.NameStates.{NameState}
 use Rattle.cli_report.specs.Gathering.{Passes, gathered_bytes}
 use Rattle.cli_report.specs.PageLaws.{passes_both, passes_none}
-use Rattle.cli_run.specs.CallListing.{LeavesCalls, TakesCalls, have_time, number_and_time, numbered}
+use Rattle.cli_run.specs.CallListing.{LeavesCalls, LeavesNamed, ListsNamed, TakesCalls, have_time, named, named_at, number_and_time, numbered}
 use Rattle.cli_report.specs.declared.ending.Cause.TheVariants.{Memory, ReadFailed, TooManyReads}
 use Rattle.cli_run.specs.Inputs.{Placed}
+use Rattle.cli_run.specs.LineNames.{names_after, names_after_all}
 use Rattle.cli_run.specs.OutputWriting.{LeavesFirst}
 use Rattle.cli_run.specs.Told.{GotSecond}
 use Rattle.cli_run.specs.Visiting.{AddsUp}
@@ -36,19 +39,41 @@ pub times_both : (x : Bool) (s t : List Placed) → ((x || have_time s) || have_
 times_both x [] t = ap (λ z. z || have_time t) (sym (or_false x))
 times_both x (m ∷ s) t = ap (λ z. z || have_time t) (sym (or_both x (is_some m.place.time) (have_time s))) ∙ (times_both (x || is_some m.place.time) s t ∙ or_both x (is_some m.place.time) (have_time (s ++ t)))
 
+-- what is known after messages and others, and the names that they tell
+pub names_both : (os : NameState) (s t : List Placed) → names_after_all (names_after_all os s) t ≡ names_after_all os (s ++ t)
+names_both os [] t = refl
+names_both os (m ∷ s) t = names_both (names_after os m.item.message) s t
+
+pub named_both : (os : NameState) (s t : List Placed) → named os (s ++ t) ≡ named os s ++ named (names_after_all os s) t
+named_both os [] t = refl
+named_both os (m ∷ s) t = let now = names_after os m.item.message in ap (λ l. named_at m.place now m.item.message ∷ l) (named_both now s t)
+
 -- the numbers of messages and of others rise
+module _ (before all s t : List Numbered) (both : all ≡ s ++ t) where
+  pub then_both : before ++ all ≡ (before ++ s) ++ t
+  then_both = ap (λ l. before ++ l) both ∙ sym (append_assoc before s t)
+
+  pub rise_both : AreRising (before ++ all) → AreRising ((before ++ s) ++ t)
+  rise_both up = subst AreRising then_both up
+
+  pub rise_first : AreRising (before ++ all) → AreRising (before ++ s)
+  rise_first up = front_rises (before ++ s) t (rise_both up)
+
+  pub listed_by_both : (a b : List Row) → AreListedBy before s a → AreListedBy (before ++ s) t b → AreListedBy before all (a ++ b)
+  listed_by_both a b h k = subst (λ (l : List Numbered). AreListedBy before l (a ++ b)) (sym both) (listed_both before s t a b h k)
+
 module _ (before : List Numbered) (s t : List Placed) where
   pub after_both : before ++ numbered (s ++ t) ≡ (before ++ numbered s) ++ numbered t
-  after_both = ap (λ l. before ++ l) (numbered_both s t) ∙ sym (append_assoc before (numbered s) (numbered t))
+  after_both = then_both before (numbered (s ++ t)) (numbered s) (numbered t) (numbered_both s t)
 
   pub rises_both : AreRising (before ++ numbered (s ++ t)) → AreRising ((before ++ numbered s) ++ numbered t)
-  rises_both up = subst AreRising after_both up
+  rises_both = rise_both before (numbered (s ++ t)) (numbered s) (numbered t) (numbered_both s t)
 
   pub rises_first : AreRising (before ++ numbered (s ++ t)) → AreRising (before ++ numbered s)
-  rises_first up = front_rises (before ++ numbered s) (numbered t) (rises_both up)
+  rises_first = rise_first before (numbered (s ++ t)) (numbered s) (numbered t) (numbered_both s t)
 
   pub by_both : (a b : List Row) → AreListedBy before (numbered s) a → AreListedBy (before ++ numbered s) (numbered t) b → AreListedBy before (numbered (s ++ t)) (a ++ b)
-  by_both a b h k = subst (λ (l : List Numbered). AreListedBy before l (a ++ b)) (sym (numbered_both s t)) (listed_both before (numbered s) (numbered t) a b h k)
+  by_both = listed_by_both before (numbered (s ++ t)) (numbered s) (numbered t) (numbered_both s t)
 
 module _ {W E : Type 0} (held : W → Option (List ℕ)) (failures : W → ℕ) (second_held : E → Option (List ℕ)) (second_failures : E → ℕ) where
   abbrev Takes : Lister W E → Lister W E → List Placed → (told : List ℕ) → Type 0
@@ -63,6 +88,7 @@ module _ {W E : Type 0} (held : W → Option (List ℕ)) (failures : W → ℕ) 
     same_second = refl;
     lists = λ wanted before keeps rising.
         (subst (λ (l : List Numbered). Keeps front wanted l a.list) (sym (append-nil before)) keeps, [], refl, passes_none held failures (gathered_bytes a.gathered) a.first.now);
+    names = refl;
     timed = or_false a.timed;
     tells = wrote_nothing second_held second_failures a.second.now;
   }
@@ -72,14 +98,20 @@ module _ {W E : Type 0} (held : W → Option (List ℕ)) (failures : W → ℕ) 
     same_first = k.same_first ∙ h.same_first;
     same_second = k.same_second ∙ h.same_second;
     lists = λ wanted before keeps rising.
-        let first = h.lists wanted before keeps (rises_first before s t rising) in
-        let more = k.lists wanted (before ++ numbered s) first.0 (rises_both before s t rising) in (
-          subst (λ (l : List Numbered). Keeps front wanted l c.list) (sym (after_both before s t)) more.0,
+        let os = state_of a.names in
+        let now = names_after_all os s in
+        let all = named os (s ++ t) in
+        let both = named_both os s t in
+        let later : ListsNamed held failures now t b c = subst (λ (k : NameState). ListsNamed held failures k t b c) h.names k.lists in
+        let first = h.lists wanted before keeps (rise_first before all (named os s) (named now t) both rising) in
+        let more = later wanted (before ++ named os s) first.0 (rise_both before all (named os s) (named now t) both rising) in (
+          subst (λ (l : List Numbered). Keeps front wanted l c.list) (sym (then_both before all (named os s) (named now t) both)) more.0,
           first.1 ++ more.1,
-          by_both before s t first.1 more.1 first.2 more.2,
+          listed_by_both before all (named os s) (named now t) both first.1 more.1 first.2 more.2,
           subst (λ (l : List ℕ). Passes held failures l (gathered_bytes a.gathered) (gathered_bytes c.gathered) a.first.now c.first.now) (sym (lines_both wanted first.1 more.1))
               (passes_both held failures (rows_text wanted first.1) (rows_text wanted more.1) (gathered_bytes a.gathered) (gathered_bytes b.gathered) (gathered_bytes c.gathered) a.first.now b.first.now c.first.now first.3 more.3),
         );
+    names = k.names ∙ (ap (λ os. names_after_all os t) h.names ∙ names_both (state_of a.names) s t);
     timed = k.timed ∙ (ap (λ z. z || have_time t) h.timed ∙ times_both a.timed s t);
     tells = wrote_both second_held second_failures p q a.second.now b.second.now c.second.now h.tells k.tells;
   }
@@ -89,10 +121,15 @@ module _ {W E : Type 0} (held : W → Option (List ℕ)) (failures : W → ℕ) 
     same_first = k.same_first ∙ h.same_first;
     same_second = k.same_second ∙ h.same_second;
     lists = λ wanted before keeps rising.
-        let first = h.lists wanted before keeps (rises_first before s t rising) in
-        let more = k.lists wanted (before ++ numbered s) first.0 (rises_both before s t rising) in (
+        let os = state_of a.names in
+        let now = names_after_all os s in
+        let all = named os (s ++ t) in
+        let both = named_both os s t in
+        let later : LeavesNamed held failures now t stop b c = subst (λ (k : NameState). LeavesNamed held failures k t stop b c) h.names k.lists in
+        let first = h.lists wanted before keeps (rise_first before all (named os s) (named now t) both rising) in
+        let more = later wanted (before ++ named os s) first.0 (rise_both before all (named os s) (named now t) both rising) in (
           first.1 ++ more.0,
-          by_both before s t first.1 more.0 first.2 more.1,
+          listed_by_both before all (named os s) (named now t) both first.1 more.0 first.2 more.1,
           subst (λ (l : List ℕ). LeavesFirst held failures false stop l (gathered_bytes a.gathered) a.first.now c.first.now) (sym (lines_both wanted first.1 more.0))
               (first_after held failures false stop (rows_text wanted first.1) (rows_text wanted more.0) (gathered_bytes a.gathered) (gathered_bytes b.gathered) a.first.now b.first.now c.first.now first.3 more.2),
         );

@@ -17,7 +17,7 @@ use Rattle.cli_report.specs.declared.ending.Cause.{Cause}
 use Rattle.cli_report.specs.declared.ending.Cause.TheVariants.{Memory, WriteFailed}
 use Rattle.cli_report.specs.declared.ending.ExitStatus.{ExitStatus}
 use Rattle.cli_run.specs.ByName.{IsUnwritten}
-use Rattle.cli_run.specs.CallListing.{EndsNoted, IsNote, have_time, notes, numbered}
+use Rattle.cli_run.specs.CallListing.{EndsNoted, IsNote, have_time, lack_times, notes, numbered}
 use Rattle.cli_run.specs.Going.{GivesUp, GoesThrough}
 use Rattle.cli_run.specs.Inputs.{Placed}
 use Rattle.cli_run.specs.Told.{GotSecond}
@@ -76,7 +76,7 @@ pub record SumsThrough {R W E : Type 0} (r : Reading R) (w : Writing W) (e : Wri
   pub due : ExitStatus
   pub before : E
   pub through : GoesThrough (taken r) settings most false WantsAll
-      (λ items told. Wrote e.held e.failures e.old told before × EndsNoted (WritesSums w wanted items) (IsNote wanted items) (writing e.held e.failures before e.new) due end) due
+      (λ items told. Wrote e.held e.failures e.old told before × EndsNoted (WritesSums w wanted items) (IsNote (lack_times wanted items) (numbered items)) (writing e.held e.failures before e.new) due end) due
 
 -- or reading or telling was given up, and no table is written
 abbrev pub SumsCalls : {R W E : Type 0} → Reading R → Writing W → Writing E → Settings → Wanted → (most : ℕ) → ExitStatus → Type 0

@@ -8,7 +8,7 @@ use Rattle.cli_options.specs.declared.wanted_lines.WantedLines.{WantedLines}
 use Rattle.cli_report.specs.Gathering.{Passes, gathered_bytes}
 use Rattle.cli_report.specs.PageLaws.{passes_both, passes_none}
 use Rattle.cli_report.specs.declared.ending.Cause.TheVariants.{Memory, ReadFailed, TooManyReads}
-use Rattle.cli_run.specs.CallLaws.{after_both}
+use Rattle.cli_run.specs.CallLaws.{after_both, names_both}
 use Rattle.cli_run.specs.CallListing.{number_and_time, numbered}
 use Rattle.cli_run.specs.Inputs.{Placed}
 use Rattle.cli_run.specs.LineListing.{AreLinesOf, Carries, LeavesLines, TakesLines}
@@ -25,10 +25,6 @@ use Rattle.cli_run.specs.declared.visitor.RunStop.TheVariants.{Cause as ByCause}
 no_messages : (s t : List Placed) → s ++ t ≡ [] → (s ≡ []) × (t ≡ [])
 no_messages [] t none = (refl, none)
 no_messages (m ∷ s) t none = absurd cc
-
-names_both : (os : NameState) (s t : List Placed) → names_after_all (names_after_all os s) t ≡ names_after_all os (s ++ t)
-names_both os [] t = refl
-names_both os (m ∷ s) t = names_both (names_after os m.item.message) s t
 
 -- messages after others
 lines_of_both : (wanted : WantedLines) (os : NameState) (before : List Numbered) (s t : List Placed) (a b : List (List ℕ)) → AreLinesOf wanted os before s a

@@ -1,4 +1,4 @@
--- Who has which name, as the lines of `list` tell it. D-Bus Specification, "Message Bus Names".
+-- Who has which name, as the lines of `list` and of `calls` tell it. D-Bus Specification, "Message Bus Names".
 use Rattle.std.specs.Prelude.{ℕ, List, [], ◌∷◌, Option, if◌then◌else◌, option_and_then}
 use Rattle.std.specs.FinSet.{from_list}
 use Rattle.dbus_message_model.specs.Messages.{MessageTree}
@@ -7,6 +7,7 @@ use Rattle.dbus_rule_set.specs.Owners.{OwnerSet, owners_in}
 use Rattle.dbus_calls.specs.Events.{destination_of, sender_of}
 use Rattle.dbus_names.specs.Filters.{is_well_known}
 use Rattle.dbus_names.specs.NameStates.{KnownNames, NameState, known_after, known_first}
+use Rattle.dbus_call_lines.specs.Names.{Known}
 use Rattle.dbus_list.specs.Pairs.{ToldCall}
 use Rattle.dbus_list.specs.Told.{Told}
 use Rattle.cli_options.specs.declared.selection.Selection.{Selection}
@@ -31,6 +32,10 @@ names_after_all os (m ∷ items) = names_after_all (names_after os m.item.messag
 abbrev pub owners_for : Selection → NameState → List Ownership
 owners_for selection os = owners_in (if selection.learns then os.owners else given_owners selection)
 
+-- the names by which the connections of a message are known
+abbrev pub known_beside : KnownNames → MessageTree → Known
+known_beside names m = record { sender = option_and_then names (sender_of m); destination = option_and_then names (destination_of m) }
+
 -- what is told beside a message
 abbrev pub told_beside : (answered : Option ToldCall) → KnownNames → MessageTree → Told
-told_beside answered names m = record { answered = answered; sender = option_and_then names (sender_of m); destination = option_and_then names (destination_of m) }
+told_beside answered names m = let known = known_beside names m in record { answered = answered; sender = known.sender; destination = known.destination }

@@ -6,20 +6,25 @@ ghost use Rattle.dbus_header.specs.MessageOutcomes.{IsWhole};
 ghost use Rattle.dbus_validate.specs.Validating.{IsValidatedWhole};
 ghost use Rattle.dbus_call_lines.specs.CallLines.{front};
 ghost use Rattle.dbus_call_lines.specs.Keeping.{Keeps};
-ghost use Rattle.dbus_call_lines.specs.Listing.{AreRising, ListsAfter, ListsOpen, Numbered, nth};
+ghost use Rattle.dbus_call_lines.specs.Listing.{AreRising, ListsAfter, ListsOpen, Numbered};
 ghost use Rattle.dbus_call_lines.specs.declared.wanted.Wanted.{Wanted};
+ghost use Rattle.dbus_names.specs.Kept.{state_of};
 ghost use Rattle.cli_report.specs.Devices.{reading, writing};
 ghost use Rattle.cli_report.specs.Gathering.{gathered_bytes};
 ghost use Rattle.cli_run.specs.CallLaws.{lister_adds_up};
-ghost use Rattle.cli_run.specs.CallListing.{GathersRows, LeavesCalls, ListsCalls, StaysIfShort, TakesCalls, TellsNote, WritesRest, WritesRows, notes, number_and_time, stray_note, times_note};
+ghost use Rattle.cli_run.specs.LineNames.{names_after};
+ghost use Rattle.cli_run.specs.CallListing.{GathersRows, LeavesCalls, ListsCalls, StaysIfShort, TakesCalls, TellsNote, WritesRest, WritesRows, named_at, notes, stray_note, times_note};
 
 use crate::going::{pass_through, tell_stop};
+use crate::line_selector::{known_names, learn_names};
 use crate::output_writer::{First, fail_by};
 use crate::place::Lent;
 use crate::visitor::{MessageVisitor, write_text};
 use cli_options::Settings;
 use cli_report::{Cause, ExitStatus, OutputBuffer, Page, Unwritten, give_up, write_out};
 use dbus_call_lines::{CallList, Lines, Place, Wanted};
+use dbus_names::Names;
+use dbus_rule_set::Owners;
 use dbus_stream::{MOST_READS, Sink, Source};
 use dbus_view::MessageView;
 use std::alloc::{AllocError, Global};
@@ -32,6 +37,8 @@ const TIMES_NOTE: &str = "note: no message has a time, so --slower lists no call
 pub(crate) struct Lister<'a, 'b, W, E> {
     /// The list.
     pub(crate) list: CallList,
+    /// Who has which name, by the messages that were taken.
+    pub(crate) names: Names,
     /// Whether a message had a time.
     pub(crate) timed: bool,
     /// What is gathered for the first writer.
@@ -73,7 +80,13 @@ impl<W: Sink, E: Sink> MessageVisitor for Lister<'_, '_, W, E> {
 
     fn take(&mut self, lent: &Lent<'_>) -> Result<(), Cause> {
         self.timed = self.timed | lent.place.time.is_some();
-        match list_message(&mut self.list, lent, &mut self.gathered, self.first) {
+        match list_message(
+            &mut self.list,
+            &mut self.names,
+            lent,
+            &mut self.gathered,
+            self.first,
+        ) {
             Ok(()) => Ok(()),
             Err(cause) => Err(fail_by(cause, &mut self.gathered, self.first)),
         }
@@ -86,9 +99,10 @@ impl<W: Sink, E: Sink> MessageVisitor for Lister<'_, '_, W, E> {
     ghost adds_up = { lister_adds_up W.held W.failures E.held E.failures };
 }
 
-// Takes a message, and writes or gathers the lines that are due then.
+// Takes a message, learns what it tells of names, and writes or gathers the lines that are due then.
 fn list_message<W: Sink>(
     list: &mut CallList,
+    names: &mut Names,
     lent: &Lent<'_>,
     gathered: &mut OutputBuffer,
     first: &mut W,
@@ -97,14 +111,21 @@ fn list_message<W: Sink>(
     ensures lists { (order : Order) (m : MessageTree) →
         IsWhole lent.now.limits lent.now.bytes.now order m (length lent.now.bytes.now) →
         (wanted : Wanted) (before : List Numbered) → Keeps front wanted before list.old →
-        AreRising (before ++ nth (number_and_time lent.now.place) m ∷ []) →
-        OnOk result (Keeps front wanted (before ++ nth (number_and_time lent.now.place) m ∷ []) list.new) ×
+        AreRising (before ++ named_at lent.now.place (names_after (state_of names.old) m) m ∷ []) →
+        OnOk result (Keeps front wanted
+        (before ++ named_at lent.now.place (names_after (state_of names.old) m) m ∷ []) list.new) ×
         GathersRows (writing W.held W.failures first.old first.new) wanted
-        (ListsAfter before (nth (number_and_time lent.now.place) m))
+        (ListsAfter before (named_at lent.now.place (names_after (state_of names.old) m) m))
         (gathered_bytes gathered.old) (gathered_bytes gathered.new) result }
+    ensures learns { (order : Order) (m : MessageTree) →
+        IsWhole lent.now.limits lent.now.bytes.now order m (length lent.now.bytes.now) →
+        OnOk result (state_of names.new ≡ names_after (state_of names.old) m) }
     ensures stays { StaysIfShort (writing W.held W.failures first.old first.new)
         (gathered_bytes gathered.old) (gathered_bytes gathered.new) result }
 {
+    let Ok(_) = learn_names(lent, names) else {
+        return Err(Cause::Memory);
+    };
     let view = MessageView::of_validated(lent.bytes, lent.limits, lent.validated);
     let mut lines = Lines {
         draft: Page {
@@ -117,7 +138,7 @@ fn list_message<W: Sink>(
         number: lent.place.number,
         time: lent.place.time,
     };
-    match list.take(&mut lines, place, &view) {
+    match list.take(&mut lines, place, known_names(&view, names), &view) {
         Ok(()) => {
             if lines.draft.failed {
                 Err(Cause::WriteFailed)
@@ -132,8 +153,9 @@ fn list_message<W: Sink>(
 /// Lists the calls in the messages of a source and what came of them on the first writer, with at
 /// most 2^32 reads, and tells the second writer of messages that are refused, as
 /// [`crate::run_with`] does. The line of a call is written once it is known what came of it, at the
-/// latest before more is read; those of calls that wait at the end follow in their order. A message
-/// that is refused is no call and no reply. At the end the second writer is told if slow calls are
+/// latest before more is read; those of calls that wait at the end follow in their order. A
+/// connection is told with the name that it is known to have, by the messages up to the call. A
+/// message that is refused is no call and no reply. At the end the second writer is told if slow calls are
 /// wanted and no message has a time, and how many replies answer no call that was seen, if any.
 ///
 /// `Done`, `Refused`: all was written, and whether anything was refused. `Failed`: a read or a
@@ -154,6 +176,7 @@ pub fn list_calls<R: Source, W: Sink, E: Sink>(
 {
     let mut lister = Lister {
         list: CallList::new(alloc, wanted),
+        names: Names::new(alloc, Owners::new(alloc)),
         timed: false,
         gathered: OutputBuffer::new(),
         first,

@@ -19,11 +19,17 @@ use crate::place::Lent;
 use crate::visitor::{MessageVisitor, write_text};
 use cli_options::Settings;
 use cli_report::{Cause, ExitStatus, Unwritten, give_up};
-use dbus_call_lines::{CallList, Form, Place, Wanted};
+use dbus_call_lines::{CallList, CallNames, Form, Place, Wanted};
 use dbus_call_members::MemberSums;
 use dbus_stream::{MOST_READS, Sink, Source, WrittenOnly, write_all};
 use dbus_view::MessageView;
 use std::alloc::{AllocError, Global};
+
+// The sums tell no connection.
+const NO_NAMES: CallNames<'static> = CallNames {
+    sender: None,
+    destination: None,
+};
 
 /// Sums up the calls of messages by their members, and tells the second writer of those that are
 /// refused.
@@ -104,7 +110,7 @@ fn sum_message(
         number: lent.place.number,
         time: lent.place.time,
     };
-    list.take(sums, place, &view)?;
+    list.take(sums, place, NO_NAMES, &view)?;
     if sums.is_short() {
         return Err(AllocError);
     }

@@ -6,17 +6,19 @@ ghost use Rattle.dbus_header.specs.MessageOutcomes.{IsWhole};
 ghost use Rattle.dbus_validate.specs.Validating.{IsValidatedWhole};
 ghost use Rattle.dbus_view.specs.Views.{Views};
 ghost use Rattle.dbus_calls.specs.Events.{destination_of, sender_of};
+ghost use Rattle.dbus_call_lines.specs.Names.{names_seen};
 ghost use Rattle.dbus_list.specs.Pairs.{call_seen, told};
 ghost use Rattle.dbus_list.specs.Told.{told_seen};
 ghost use Rattle.dbus_names.specs.Kept.{state_of};
 ghost use Rattle.dbus_rule_set.specs.Owners.{owners_in};
 ghost use Rattle.cli_options.specs.Selections.{SelectsBy};
-ghost use Rattle.cli_run.specs.LineNames.{first_names, given_owners, names_after, owners_for, told_beside};
+ghost use Rattle.cli_run.specs.LineNames.{first_names, given_owners, known_beside, names_after, owners_for, told_beside};
 
 use crate::filtering::owners_of;
 use crate::place::Lent;
 use crate::selector::Selector;
 use cli_options::WantedLines;
+use dbus_call_lines::CallNames;
 use dbus_list::{AnsweredCall, Beside, KnownCall};
 use dbus_names::{Names, WellKnownNames};
 use dbus_rule_set::Owners;
@@ -114,10 +116,22 @@ pub(crate) fn beside<'b>(
         told_seen result ≡ told_beside (option_map (told lent.now.place.time) answered.now) (state_of names.now).names m }
 {
     let view = MessageView::of_validated(lent.bytes, lent.limits, lent.validated);
+    let known = known_names(&view, names);
     Beside {
         answered: told_of(answered, lent.place.time),
-        sender: sender_name(&view, names),
-        destination: destination_name(&view, names),
+        sender: known.sender,
+        destination: known.destination,
+    }
+}
+
+/// The names by which the connections of the message of the view are known.
+pub(crate) fn known_names<'b>(view: &MessageView, names: &'b Names) -> CallNames<'b>
+    ensures { (order : Order) (m : MessageTree) → Views view.now order m →
+        names_seen result ≡ known_beside (state_of names.now).names m }
+{
+    CallNames {
+        sender: sender_name(view, names),
+        destination: destination_name(view, names),
     }
 }
 

@@ -12,7 +12,7 @@ use Rattle.dbus_match.specs.Matching.{text_of}
 use Rattle.dbus_value_text.specs.Forms.{led}
 use Rattle.dbus_calls.specs.Events.{destination_of, sender_of, text_at}
 use Rattle.dbus_call_lines.specs.Durations.{exact_text}
-use Rattle.dbus_call_lines.specs.CallLines.{HasTwoParts, behind_commas, member_if, outcome_members}
+use Rattle.dbus_call_lines.specs.CallLines.{HasTwoParts, behind_commas, connection_members, member_if, outcome_members}
 use Rattle.dbus_call_lines.specs.Outcomes.{or_dash}
 use Rattle.dbus_call_lines.specs.declared.elapsed.Elapsed.{Elapsed}
 use Rattle.dbus_call_lines.specs.declared.form.Form.TheVariants.{Text, Json}
@@ -22,7 +22,7 @@ pub text_seen : (seen : Option (Bor (List ℕ))) (kind : TextCode) (value : Opti
 text_seen None kind value is = sym (ap text_of is)
 text_seen (Some s) kind value is = sym (ap text_of is)
 
-dash_at : (seen : Option (Bor (List ℕ))) (dash : Bor (List ℕ)) → dash.now ≡ codes "-" → (unwrap_or seen dash).now ≡ or_dash (option_map (λ t. t.now) seen)
+pub dash_at : (seen : Option (Bor (List ℕ))) (dash : Bor (List ℕ)) → dash.now ≡ codes "-" → (unwrap_or seen dash).now ≡ or_dash (option_map (λ t. t.now) seen)
 dash_at None dash is = is
 dash_at (Some s) dash is = refl
 
@@ -32,9 +32,8 @@ pub dash_seen : (seen : Option (Bor (List ℕ))) (dash text : Bor (List ℕ)) (k
 dash_seen seen dash text kind value is same at = ap (λ (b : Bor (List ℕ)). b.now) same ∙ (dash_at seen dash is ∙ ap or_dash (text_seen seen kind value at))
 
 -- the members after the first, each behind a comma
-abbrev pub more_members : (time : Option ℕ) (serial : ℕ) (sender destination path interface name : Option (List ℕ)) → List (List ℕ)
-more_members time serial sender destination path interface name = time_members time ++ (member (codes "serial") (decimal serial)
-    ∷ (member_if (codes "sender") sender ++ (member_if (codes "destination") destination ++ (member_if (codes "path") path ++ (member_if (codes "interface") interface ++ member_if (codes "member") name)))))
+abbrev pub more_members : (time : Option ℕ) (serial : ℕ) (a b c d e : List (List ℕ)) → List (List ℕ)
+more_members time serial a b c d e = time_members time ++ (member (codes "serial") (decimal serial) ∷ (a ++ (b ++ (c ++ (d ++ e)))))
 
 module _ (name value : List ℕ) where
   comma_pieces : (comma quote colon : List ℕ) → ((comma ++ quote) ++ (name ++ (quote ++ colon))) ++ value ≡ (comma ++ ((quote ++ (name ++ quote)) ++ (colon ++ value))) ++ []
@@ -107,9 +106,11 @@ joined : (begin first more others close last : List ℕ) → (begin ++ (first ++
 joined begin first more others close last = simp (append_assoc)
 
 pub two_parts : HasTwoParts
-two_parts Text place call outcome = refl
-two_parts Json place call outcome =
-    let more = more_members place.time call.serial (sender_of call) (destination_of call) (text_at field.PATH call) (text_at field.INTERFACE call) (text_at field.MEMBER call) in
+two_parts Text place names call outcome = refl
+two_parts Json place names call outcome =
+    let more = more_members place.time call.serial (connection_members (codes "sender") (sender_of call) (codes "sender_name") names.sender)
+    (connection_members (codes "destination") (destination_of call) (codes "destination_name") names.destination)
+    (member_if (codes "path") (text_at field.PATH call)) (member_if (codes "interface") (text_at field.INTERFACE call)) (member_if (codes "member") (text_at field.MEMBER call)) in
     let first = member (codes "number") (decimal place.number) in
     joined (codes "{") first (behind_commas more) (behind_commas (outcome_members place.time outcome)) (codes "}") (codes "\n")
     ∙ ap (λ t. (codes "{" ++ ((first ++ t) ++ codes "}")) ++ codes "\n") (sym (flat_map-append (λ m. codes "," ++ m) more (outcome_members place.time outcome)))

@@ -20,9 +20,10 @@ use Rattle.dbus_message_model.specs.declared.message_type.TheConstants as messag
 use Rattle.dbus_message_model.proofs.KnownValues.{suits_of}
 use Rattle.dbus_match.specs.Matching.{text_of}
 use Rattle.dbus_calls.specs.Events.{text_at}
-use Rattle.dbus_call_lines.specs.CallLines.{ArePrinted, IsPrintedLine, call_text, line, member_text, outcome_text, took_text}
+use Rattle.dbus_call_lines.specs.CallLines.{ArePrinted, IsPrintedLine, call_text, connection_text, line, member_text, outcome_text, took_text}
 use Rattle.dbus_call_lines.specs.Durations.{between, milliseconds_text, sign, three_digits, time_between}
-use Rattle.dbus_call_lines.specs.Listing.{AreListed, AreWithin, IsPlaceWithin, Numbered, OnlyPrinted, Row, is_unwanted, own_row, row}
+use Rattle.dbus_call_lines.specs.Listing.{AreListed, AreNames, AreWithin, IsPlaceWithin, Numbered, OnlyPrinted, Row, is_unwanted, own_row, row}
+use Rattle.dbus_call_lines.specs.Names.{Known}
 use Rattle.dbus_call_lines.specs.Outcomes.{Outcome, or_dash, outcome_by}
 use Rattle.dbus_call_lines.specs.Outcomes.Outcome.{Reply, Error, Unwanted, Open, Left, Replaced}
 use Rattle.dbus_call_lines.specs.declared.elapsed.Elapsed.{Elapsed}
@@ -104,6 +105,10 @@ behind_printed : (interface name : Option (List ℕ)) → ArePrinted (or_dash in
 behind_printed None name p q = q
 behind_printed (Some interface) name p q = printed_both interface (codes "." ++ or_dash name) p ((omega arith, omega arith), q)
 
+connection_printed : (name known : Option (List ℕ)) → ArePrinted (or_dash name) → IfSome known (IsKind kinds.BusName) → ArePrinted (connection_text name known)
+connection_printed name None p is = p
+connection_printed name (Some known) p is = printed_both (or_dash name) _ p ((omega arith, omega arith), printed_both known (codes ")") (bus_printed known is.0) (known_printed (codes ")") refl))
+
 decimal_printed : (n : ℕ) → n < 2 ^ 64 → ArePrinted (decimal n)
 decimal_printed n fits = decimal_by_steps (λ _ ds. ArePrinted ds) (λ m small. ((omega (arith, small), omega (arith, small)), tt))
     (λ m ds big h. printed_both ds ((48 + m % 10) ∷ []) h ((omega arith, omega arith), tt)) n fits
@@ -124,12 +129,12 @@ module _ (limits : Limits) (order : Order) (m : MessageTree) (is : IsMessage lim
   pub error_printed : ArePrinted (or_dash (text_at field.ERROR_NAME m))
   error_printed = field_printed kinds.ErrorName (λ t h. interface_printed t h.0) (field_value field.ERROR_NAME m.fields) (suits_of field.ERROR_NAME [] m.fields is.fields)
 
-  call_printed : (number : ℕ) → number < 2 ^ 64 → ArePrinted (call_text number m)
-  call_printed number fits =
+  call_printed : (number : ℕ) → number < 2 ^ 64 → (names : Known) → AreNames names → ArePrinted (call_text number names m)
+  call_printed number fits names are =
       let name : ArePrinted (member_text (text_at field.INTERFACE m) (text_at field.MEMBER m)) = behind_printed (text_at field.INTERFACE m) (text_at field.MEMBER m) interface_is_printed member_is_printed in
       let space : ArePrinted (codes " ") = known_printed (codes " ") refl in
-      printed_both (decimal number) _ (decimal_printed number fits) (printed_both (codes " ") _ space (printed_both (or_dash (text_at field.SENDER m)) _ sender_printed
-      (printed_both (codes " > ") _ (known_printed (codes " > ") refl) (printed_both (or_dash (text_at field.DESTINATION m)) _ destination_printed (printed_both (codes " ") _ space name)))))
+      printed_both (decimal number) _ (decimal_printed number fits) (printed_both (codes " ") _ space (printed_both (connection_text (text_at field.SENDER m) names.sender) _ (connection_printed (text_at field.SENDER m) names.sender sender_printed are.0)
+      (printed_both (codes " > ") _ (known_printed (codes " > ") refl) (printed_both (connection_text (text_at field.DESTINATION m) names.destination) _ (connection_printed (text_at field.DESTINATION m) names.destination destination_printed are.1) (printed_both (codes " ") _ space name)))))
 
 -- ---- how long a call took
 
@@ -194,20 +199,20 @@ by_printed false false false at name fits p = λ sent small. known_printed (code
 
 module _ (limits : Limits) where
   abbrev IsWithin : Numbered → Type 0
-  IsWithin x = (order : Order) × IsMessage limits order x.message × IsPlaceWithin x.place
+  IsWithin x = (order : Order) × IsMessage limits order x.message × IsPlaceWithin x.place × AreNames x.names
 
   outcome_printed : (x : Numbered) → IsWithin x → OutcomePrinted (outcome_by x.place x.message)
   outcome_printed x h = by_printed (x.message.kind == message.METHOD_RETURN) (x.message.kind == message.ERROR) (x.message.kind == message.METHOD_CALL) x.place
       (or_dash (text_at field.ERROR_NAME x.message)) h.2 (error_printed limits h.0 x.message h.1)
 
   abbrev IsPrinted : Row → Type 0
-  IsPrinted r = IsPrintedLine (line Text r.call.place r.call.message r.outcome)
+  IsPrinted r = IsPrintedLine (line Text r.call.place r.call.names r.call.message r.outcome)
 
   row_printed : (outcome : Outcome) → OutcomePrinted outcome → (call : Numbered) → IsWithin call → IsPrinted (row outcome call)
   row_printed outcome p call h =
-      let front = call_text call.place.number call.message in
+      let front = call_text call.place.number call.names call.message in
       let rest = codes " " ++ outcome_text call.place.time outcome in
-      (front ++ rest, printed_both front rest (call_printed limits h.0 call.message h.1 call.place.number h.2.0) ((omega arith, omega arith), p call.place.time h.2.1), sym (append_assoc front rest (codes "\n")))
+      (front ++ rest, printed_both front rest (call_printed limits h.0 call.message h.1 call.place.number h.2.0 call.names h.3) ((omega arith, omega arith), p call.place.time h.2.1), sym (append_assoc front rest (codes "\n")))
 
   rows_printed : (outcome : Outcome) → OutcomePrinted outcome → (calls : List Numbered) → ((call : Numbered) → Contains calls call → IsWithin call) → AllByRecursion IsPrinted (map (row outcome) calls)
   rows_printed outcome p [] each = tt

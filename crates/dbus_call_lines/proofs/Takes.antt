@@ -32,7 +32,7 @@ module _ (texts : Texts) (before : List Numbered) (x : Numbered) {S : Type 0} (g
   Result wanted = Keeps texts wanted (before ++ x ∷ []) list' × (rows : List Row) × ListsAfter before x rows × gains old (ended_rows texts wanted rows) new
 
   abbrev pub own : Wanted → List EndedCall
-  own wanted = ended_if wanted Unwanted x.place (texts wanted.form x.place x.message)
+  own wanted = ended_if wanted Unwanted x.place (texts wanted.form x.place x.names x.message)
 
   abbrev w : Waiting Numbered
   w = run message_of no_calls before

@@ -9,6 +9,7 @@ use Rattle.dbus_json.specs.JsonValues.{listed, member, object, plain, string}
 use Rattle.dbus_json.specs.Times.{time_members}
 use Rattle.dbus_calls.specs.Events.{destination_of, sender_of, text_at}
 use Rattle.dbus_call_lines.specs.Durations.{exact_text, milliseconds_text, time_between}
+use Rattle.dbus_call_lines.specs.Names.{Known}
 use Rattle.dbus_call_lines.specs.Outcomes.{Outcome, or_dash}
 use Rattle.dbus_call_lines.specs.Outcomes.Outcome.{Reply, Error, Unwanted, Open, Left, Replaced}
 use Rattle.dbus_call_lines.specs.declared.elapsed.Elapsed.{Elapsed}
@@ -27,10 +28,15 @@ member_text (Some interface) name = interface ++ (codes "." ++ or_dash name)
 abbrev pub called : MessageTree → List ℕ
 called call = member_text (text_at field.INTERFACE call) (text_at field.MEMBER call)
 
+-- a connection, and behind it in brackets the name by which it is known, if it is
+abbrev pub connection_text : (name known : Option (List ℕ)) → List ℕ
+connection_text name None = or_dash name
+connection_text name (Some known) = or_dash name ++ (codes "(" ++ (known ++ codes ")"))
+
 -- the call: its number, who sent it to whom, and its member
-abbrev pub call_text : (number : ℕ) → MessageTree → List ℕ
-call_text number call =
-    decimal number ++ (codes " " ++ (or_dash (sender_of call) ++ (codes " > " ++ (or_dash (destination_of call)
+abbrev pub call_text : (number : ℕ) → Known → MessageTree → List ℕ
+call_text number names call =
+    decimal number ++ (codes " " ++ (connection_text (sender_of call) names.sender ++ (codes " > " ++ (connection_text (destination_of call) names.destination
     ++ (codes " " ++ called call)))))
 
 -- how long it took, if that is known
@@ -54,14 +60,18 @@ abbrev pub member_if : (name : List ℕ) → Option (List ℕ) → List (List �
 member_if name None = []
 member_if name (Some text) = member name (string text) ∷ []
 
+-- a connection, and the name by which it is known
+abbrev pub connection_members : (name : List ℕ) (text : Option (List ℕ)) (known_name : List ℕ) (known : Option (List ℕ)) → List (List ℕ)
+connection_members name text known_name known = member_if name text ++ member_if known_name known
+
 -- the call: what it has of these
-abbrev pub call_members : Place → MessageTree → List (List ℕ)
-call_members place call =
+abbrev pub call_members : Place → Known → MessageTree → List (List ℕ)
+call_members place names call =
     member (codes "number") (decimal place.number)
     ∷ (time_members place.time
     ++ (member (codes "serial") (decimal call.serial)
-    ∷ (member_if (codes "sender") (sender_of call)
-    ++ (member_if (codes "destination") (destination_of call)
+    ∷ (connection_members (codes "sender") (sender_of call) (codes "sender_name") names.sender
+    ++ (connection_members (codes "destination") (destination_of call) (codes "destination_name") names.destination
     ++ (member_if (codes "path") (text_at field.PATH call)
     ++ (member_if (codes "interface") (text_at field.INTERFACE call)
     ++ member_if (codes "member") (text_at field.MEMBER call)))))))
@@ -95,14 +105,14 @@ outcome_members sent outcome = member (codes "outcome") (plain (outcome_word out
 abbrev pub behind_commas : List (List ℕ) → List ℕ
 behind_commas members = flat_map (λ m. codes "," ++ m) members
 
-abbrev pub line : Form → Place → MessageTree → Outcome → List ℕ
-line Text place call outcome = call_text place.number call ++ (codes " " ++ (outcome_text place.time outcome ++ codes "\n"))
-line Json place call outcome = object (call_members place call ++ outcome_members place.time outcome) ++ codes "\n"
+abbrev pub line : Form → Place → Known → MessageTree → Outcome → List ℕ
+line Text place names call outcome = call_text place.number names call ++ (codes " " ++ (outcome_text place.time outcome ++ codes "\n"))
+line Json place names call outcome = object (call_members place names call ++ outcome_members place.time outcome) ++ codes "\n"
 
 -- its front, which says nothing of what came of the call, and its end, which says that alone
-abbrev pub front : Form → Place → MessageTree → List ℕ
-front Text place call = call_text place.number call
-front Json place call = codes "{" ++ listed (call_members place call)
+abbrev pub front : Form → Place → Known → MessageTree → List ℕ
+front Text place names call = call_text place.number names call
+front Json place names call = codes "{" ++ listed (call_members place names call)
 
 abbrev pub end : Form → (sent : Option ℕ) → Outcome → List ℕ
 end Text sent outcome = codes " " ++ (outcome_text sent outcome ++ codes "\n")
@@ -112,7 +122,7 @@ end Json sent outcome = behind_commas (outcome_members sent outcome) ++ codes "}
 
 -- a line is its front and its end
 abbrev pub HasTwoParts : Type 0
-HasTwoParts = (form : Form) (place : Place) (call : MessageTree) (outcome : Outcome) → front form place call ++ end form place.time outcome ≡ line form place call outcome
+HasTwoParts = (form : Form) (place : Place) (names : Known) (call : MessageTree) (outcome : Outcome) → front form place names call ++ end form place.time outcome ≡ line form place names call outcome
 
 -- What a terminal gets.
 

@@ -11,6 +11,7 @@ use Rattle.dbus_calls.specs.Pairing.{run}
 use Rattle.dbus_calls.specs.Waiting.{no_calls}
 use Rattle.dbus_call_lines.specs.CallLines.{end, front}
 use Rattle.dbus_call_lines.specs.Listing.{HaveStray, ListsAfter, Numbered, Row, message_of, rows_text}
+use Rattle.dbus_call_lines.specs.Names.{Known}
 use Rattle.dbus_call_lines.specs.Outcomes.{Outcome, is_wanted}
 use Rattle.dbus_call_lines.specs.declared.form.Form.{Form}
 use Rattle.dbus_call_lines.specs.declared.wanted.Wanted.{Wanted}
@@ -20,7 +21,7 @@ use Rattle.dbus_call_lines.specs.declared.waiting_call.WaitingCall.{WaitingCall}
 
 -- the text that is kept of a call, in the form that is wanted
 abbrev pub Texts : Type 0
-Texts = Form → Place → MessageTree → List ℕ
+Texts = Form → Place → Known → MessageTree → List ℕ
 
 pub record KeptCall : Type 0 where
   pub place : Place
@@ -34,7 +35,7 @@ kept call =
     record { place = parts.place; destination = option_map string_bytes parts.destination; text = string_bytes parts.text }
 
 abbrev pub kept_of : Texts → Wanted → Numbered → KeptCall
-kept_of texts wanted call = record { place = call.place; destination = destination_of call.message; text = texts wanted.form call.place call.message }
+kept_of texts wanted call = record { place = call.place; destination = destination_of call.message; text = texts wanted.form call.place call.names call.message }
 
 -- of messages so many are replies that answer none, a number that stops at the greatest of 64 bits
 abbrev pub KnowsStray : (before : List Numbered) (stray : ℕ) → Type 0
@@ -64,7 +65,7 @@ abbrev pub ended_kept : Wanted → Outcome → List KeptCall → List EndedCall
 ended_kept wanted outcome calls = flat_map (λ c. ended_if wanted outcome c.place c.text) calls
 
 abbrev pub ended_row : Texts → Wanted → Row → List EndedCall
-ended_row texts wanted r = ended_if wanted r.outcome r.call.place (texts wanted.form r.call.place r.call.message)
+ended_row texts wanted r = ended_if wanted r.outcome r.call.place (texts wanted.form r.call.place r.call.names r.call.message)
 
 abbrev pub ended_rows : Texts → Wanted → List Row → List EndedCall
 ended_rows texts wanted rows = flat_map (ended_row texts wanted) rows

@@ -1,5 +1,6 @@
 pub mod Durations
 pub mod Outcomes
+pub mod Names
 pub mod CallLines
 pub mod Listing
 pub mod Keeping

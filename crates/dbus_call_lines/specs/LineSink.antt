@@ -1,5 +1,5 @@
 -- Calls that ended, as lines of a draft; and the laws that such a sink owes.
-use Rattle.std.proofs.Common.{ℕ, List, [], ◌∷◌, ◌++◌, subst, sym}
+use Rattle.std.proofs.Common.{ℕ, List, [], ◌++◌, subst, sym}
 use Rattle.std.proofs.lemmas.List.Concat.{flat_map-append}
 use Rattle.dbus_call_lines.specs.CallLines.{end}
 use Rattle.dbus_call_lines.specs.Keeping.{EndedCall, lines_text}

@@ -4,6 +4,8 @@ use Rattle.std.specs.Prelude.{◌≡◌, ◌↔◌, ◌<◌, ◌+◌, ◌^◌, �
 use Rattle.std.specs.List.{AllByRecursion, Contains, IsDistinct, flat_map}
 use Rattle.std.specs.List.Sorted.{IsStrictlySortedBy}
 use Rattle.std.specs.Ordering.{nat_cmp}
+use Rattle.dbus_texts.specs.Kinds.{IsKind}
+use Rattle.dbus_texts.specs.declared.text_kind.TextKind.TheVariants.{BusName}
 use Rattle.dbus_value_model.specs.declared.limits.Limits.{Limits}
 use Rattle.dbus_value_model.specs.declared.order.Order.{Order}
 use Rattle.dbus_message_model.specs.Messages.{IsMessage, MessageTree}
@@ -13,20 +15,25 @@ use Rattle.dbus_calls.specs.Events.Event.{Calls, Replies, Leaves, Passes}
 use Rattle.dbus_calls.specs.Pairing.{Answers, IsOpen, IsReply, ends, run}
 use Rattle.dbus_calls.specs.Waiting.{Waiting, answered, no_calls}
 use Rattle.dbus_call_lines.specs.CallLines.{IsPrintedLine, line}
+use Rattle.dbus_call_lines.specs.Names.{Known, unnamed}
 use Rattle.dbus_call_lines.specs.Outcomes.{Outcome, is_wanted, outcome_by}
 use Rattle.dbus_call_lines.specs.Outcomes.Outcome.{Unwanted, Open}
 use Rattle.dbus_call_lines.specs.declared.place.Place.{Place}
 use Rattle.dbus_call_lines.specs.declared.wanted.Wanted.{Wanted}
 use Rattle.dbus_call_lines.specs.declared.form.Form.TheVariants.{Text}
 
--- a message, and its place in the input
+-- a message, its place in the input, and the names by which its connections are known then
 pub record Numbered : Type 0 where
   pub place : Place
+  pub names : Known
   pub message : MessageTree
 
--- the message at this place
+-- the message at this place, with these names, and with none
+abbrev pub named_nth : Place → Known → MessageTree → Numbered
+named_nth place names message = record { place = place; names = names; message = message }
+
 abbrev pub nth : Place → MessageTree → Numbered
-nth place message = record { place = place; message = message }
+nth place message = named_nth place unnamed message
 
 abbrev pub message_of : Numbered → MessageTree
 message_of x = x.message
@@ -103,7 +110,7 @@ AreListedBy before (x ∷ xs) rows = (now more : List Row) × ListsAfter before 
 
 -- the lines of those that are wanted
 abbrev pub row_text : Wanted → Row → List ℕ
-row_text wanted r = if is_wanted wanted r.call.place.time r.outcome then line wanted.form r.call.place r.call.message r.outcome else []
+row_text wanted r = if is_wanted wanted r.call.place.time r.outcome then line wanted.form r.call.place r.call.names r.call.message r.outcome else []
 
 abbrev pub rows_text : Wanted → List Row → List ℕ
 rows_text wanted rows = flat_map (row_text wanted) rows
@@ -137,12 +144,16 @@ OneList = (xs : List Numbered) (rows others : List Row) → AreListed [] xs rows
 abbrev pub IsPlaceWithin : Place → Type 0
 IsPlaceWithin place = (place.number < 2 ^ 64) × IfSome place.time (λ t. t < 2 ^ 64)
 
+-- the names are bus names
+abbrev pub AreNames : Known → Type 0
+AreNames names = IfSome names.sender (IsKind BusName) × IfSome names.destination (IsKind BusName)
+
 abbrev pub AreWithin : Limits → List Numbered → Type 0
-AreWithin limits xs = AllByRecursion (λ x. (order : Order) × IsMessage limits order x.message × IsPlaceWithin x.place) xs
+AreWithin limits xs = AllByRecursion (λ x. (order : Order) × IsMessage limits order x.message × IsPlaceWithin x.place × AreNames x.names) xs
 
 abbrev pub OnlyPrinted : Type 0
 OnlyPrinted = (limits : Limits) (xs : List Numbered) (rows : List Row) → AreWithin limits xs → AreListed [] xs rows
-    → AllByRecursion (λ r. IsPrintedLine (line Text r.call.place r.call.message r.outcome)) rows
+    → AllByRecursion (λ r. IsPrintedLine (line Text r.call.place r.call.names r.call.message r.outcome)) rows
 
 -- How one pass finds what a message ends: it keeps the calls that wait, and takes these away.
 

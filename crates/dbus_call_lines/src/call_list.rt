@@ -12,11 +12,13 @@ ghost use Rattle.dbus_view.specs.Views.{Views};
 ghost use Rattle.dbus_calls.specs.Events.{event_of};
 ghost use Rattle.dbus_calls.specs.Events.Event.{Calls, Replies};
 ghost use Rattle.dbus_call_lines.specs.Keeping.{GainsSorted, Keeps, KnowsStray, TakesNext, Texts, as_list, ended_if, ended_kept, ended_rows, kept, kept_of};
-ghost use Rattle.dbus_call_lines.specs.Listing.{AreRising, ListsOpen, Numbered, Row, nth};
+ghost use Rattle.dbus_call_lines.specs.Listing.{AreRising, ListsOpen, Numbered, Row, named_nth};
+ghost use Rattle.dbus_call_lines.specs.Names.{Known, names_seen};
 ghost use Rattle.dbus_call_lines.specs.Outcomes.{outcome_seen};
 ghost use Rattle.dbus_call_lines.specs.Outcomes.Outcome.{Unwanted};
 ghost use Rattle.dbus_call_lines.specs.declared.wanted.Wanted.{Wanted};
 
+use crate::call_names::CallNames;
 use crate::form::Form;
 use crate::outcome::{Outcome, outcome_of};
 use crate::place::Place;
@@ -40,7 +42,7 @@ use std::collections::BTreeMap;
 /// that it ends.
 ///
 /// ```rust
-/// use dbus_call_lines::{CallList, Form, Lines, Place, Wanted};
+/// use dbus_call_lines::{CallList, CallNames, Form, Lines, Place, Wanted};
 /// use dbus_message::MessageView;
 /// use dbus_show::StringDraft;
 ///
@@ -48,7 +50,9 @@ use std::collections::BTreeMap;
 /// let mut list = CallList::new(alloc, wanted);
 /// let mut text = String::new(alloc);
 /// let mut lines = Lines { draft: StringDraft::new(&mut text) };
-/// list.take(&mut lines, Place { number: 1, time: None }, &MessageView::of(bytes)?)?;
+/// let place = Place { number: 1, time: None };
+/// let names = CallNames { sender: Some("org.example.Lab"), destination: None };
+/// list.take(&mut lines, place, names, &MessageView::of(bytes)?)?;
 /// list.finish(&mut lines)?;
 /// lines.draft.finish()?;
 /// println!(rt; "{text}")?;
@@ -84,10 +88,11 @@ impl CallList {
         self.stray
     }
 
-    /// Takes the message of the view, which is at this place, and adds the calls to the sink that
-    /// are due then: those that it ends, in the order of their numbers, and itself, if it is a call
-    /// that wants no reply. Of these it adds the ones that are wanted. D-Bus Specification,
-    /// "Message Types" ("Method Calls"). Numbers rise from message to message.
+    /// Takes the message of the view, which is at this place, and whose connections are known by
+    /// these names, and adds the calls to the sink that are due then: those that it ends, in the
+    /// order of their numbers, and itself, if it is a call that wants no reply. Of these it adds the
+    /// ones that are wanted. A call is listed with the names of its own message. D-Bus
+    /// Specification, "Message Types" ("Method Calls"). Numbers rise from message to message.
     ///
     /// `AllocError`: an allocation failed. Then nothing is added, and the list is not to be used
     /// again: if a caller left, its calls are lost.
@@ -95,16 +100,17 @@ impl CallList {
         &mut self,
         sink: &mut S,
         place: Place,
+        names: CallNames<'_>,
         view: &MessageView,
     ) -> Result<(), AllocError>
         ensures takes { (order : Order) (m : MessageTree) → Views view.now order m →
             (wanted : Wanted) (before : List Numbered) → Keeps S.texts wanted before self.old →
-            AreRising (before ++ nth place m ∷ []) → OnOk result
-            (TakesNext S.texts S.gains wanted before (nth place m) self.new sink.old sink.new) }
+            AreRising (before ++ named_nth place (names_seen names.entry) m ∷ []) → OnOk result
+            (TakesNext S.texts S.gains wanted before (named_nth place (names_seen names.entry) m) self.new sink.old sink.new) }
         ensures unadded { OnErr result (sink.new ≡ sink.old) }
     {
         match event_of(view) {
-            Event::Call(call) => self.take_call(sink, place, call, view),
+            Event::Call(call) => self.take_call(sink, place, names, call, view),
             Event::Reply(reply) => {
                 self.take_reply(sink, place, reply, view);
                 Ok(())
@@ -122,23 +128,24 @@ impl CallList {
         &mut self,
         sink: &mut S,
         place: Place,
+        names: CallNames<'_>,
         call: CallSeen<'_>,
         view: &MessageView,
     ) -> Result<(), AllocError>
         ensures takes { (order : Order) (m : MessageTree) → Views view.now order m →
             Calls call.entry.caller.now call.entry.serial call.entry.wants_reply ≡ event_of m →
             (wanted : Wanted) (before : List Numbered) → Keeps S.texts wanted before self.old → OnOk result
-            (TakesNext S.texts S.gains wanted before (nth place m) self.new sink.old sink.new) }
+            (TakesNext S.texts S.gains wanted before (named_nth place (names_seen names.entry) m) self.new sink.old sink.new) }
         ensures unadded { OnErr result (sink.new ≡ sink.old) }
     {
         if call.wants_reply {
-            let waiting = self.waiting_call::<S>(place, view)?;
+            let waiting = self.waiting_call::<S>(place, names, view)?;
             let ended = self.open.open(call.caller, call.serial, waiting)?;
             self.add_ended(sink, &ended, Outcome::Replaced);
         } else {
             let ended = self.open.close(call.caller, call.serial);
             self.add_ended(sink, &ended, Outcome::Replaced);
-            self.add_unwanted(sink, place, view);
+            self.add_unwanted(sink, place, names, view);
         }
         Ok(())
     }
@@ -154,8 +161,8 @@ impl CallList {
         ensures { (order : Order) (m : MessageTree) → Views view.now order m →
             Replies reply.entry.caller.now reply.entry.serial
             (option_map (λ s. s.now) reply.entry.sender) ≡ event_of m →
-            (wanted : Wanted) (before : List Numbered) → Keeps S.texts wanted before self.old →
-            TakesNext S.texts S.gains wanted before (nth place m) self.new sink.old sink.new }
+            (names : Known) (wanted : Wanted) (before : List Numbered) → Keeps S.texts wanted before self.old →
+            TakesNext S.texts S.gains wanted before (named_nth place names m) self.new sink.old sink.new }
     {
         let ended = self.open.answer(reply.caller, reply.serial, reply.sender);
         match &ended {
@@ -165,13 +172,19 @@ impl CallList {
     }
 
     // Adds a call that wants no reply.
-    fn add_unwanted<S: CallSink>(&self, sink: &mut S, place: Place, view: &MessageView)
+    fn add_unwanted<S: CallSink>(
+        &self,
+        sink: &mut S,
+        place: Place,
+        names: CallNames<'_>,
+        view: &MessageView,
+    )
         ensures { (order : Order) (m : MessageTree) → Views view.now order m →
             S.gains sink.old
-            (ended_if self.now.wanted Unwanted place (S.texts self.now.wanted.form place m)) sink.new }
+            (ended_if self.now.wanted Unwanted place (S.texts self.now.wanted.form place (names_seen names.entry) m)) sink.new }
     {
         if self.wanted.lists(place.time, Outcome::Unwanted) {
-            sink.add_seen(self.wanted.form, place, view, Outcome::Unwanted);
+            sink.add_seen(self.wanted.form, place, names, view, Outcome::Unwanted);
         }
     }
 
@@ -179,13 +192,14 @@ impl CallList {
     fn waiting_call<S: CallSink>(
         &self,
         place: Place,
+        names: CallNames<'_>,
         view: &MessageView,
     ) -> Result<WaitingCall, AllocError>
         ensures { (order : Order) (m : MessageTree) → Views view.now order m →
-            IfOk result (λ call. kept call ≡ kept_of S.texts self.now.wanted (nth place m)) }
+            IfOk result (λ call. kept call ≡ kept_of S.texts self.now.wanted (named_nth place (names_seen names.entry) m)) }
     {
         let mut text = String::new(self.alloc);
-        text_into::<S>(&mut text, self.wanted.form, place, view)?;
+        text_into::<S>(&mut text, self.wanted.form, place, names, view)?;
         let destination = match view.destination() {
             Some(name) => Some(String::from_str(self.alloc, name)?),
             None => None,
@@ -260,13 +274,14 @@ fn text_into<S: CallSink>(
     out: &mut String,
     form: Form,
     place: Place,
+    names: CallNames<'_>,
     view: &MessageView,
 ) -> Result<(), AllocError>
     ensures { (order : Order) (m : MessageTree) → Views view.now order m →
-        OnOk result (string_bytes out.new ≡ S.texts form place m) }
+        OnOk result (string_bytes out.new ≡ S.texts form place (names_seen names.entry) m) }
 {
     let mut draft = StringDraft::new(out);
-    S::write_kept(&mut draft, form, place, view);
+    S::write_kept(&mut draft, form, place, names, view);
     draft.finish()
 }
 

@@ -7,6 +7,7 @@
 #![tactic(auto)]
 
 mod call_list;
+mod call_names;
 mod elapsed;
 mod ending;
 mod form;
@@ -20,6 +21,7 @@ mod waiting_call;
 mod wanted;
 
 pub use call_list::CallList;
+pub use call_names::CallNames;
 pub use elapsed::{Elapsed, time_between, write_exact, write_milliseconds};
 pub use ending::{write_end, write_took};
 pub use form::Form;

@@ -5,6 +5,7 @@ ghost use Rattle.dbus_call_lines.specs.CallLines.{front};
 ghost use Rattle.dbus_call_lines.specs.LineSink.{WritesLines};
 ghost use Rattle.dbus_call_lines.specs.LineSink as laws;
 
+use crate::call_names::CallNames;
 use crate::ending::write_end;
 use crate::form::Form;
 use crate::fronts::write_front;
@@ -26,8 +27,14 @@ impl<D: Draft> CallSink for Lines<D> {
 
     ghost gains = { WritesLines D.gains };
 
-    fn write_kept<T: Draft>(draft: &mut T, form: Form, place: Place, view: &MessageView) {
-        write_front(draft, form, place, view);
+    fn write_kept<T: Draft>(
+        draft: &mut T,
+        form: Form,
+        place: Place,
+        names: CallNames<'_>,
+        view: &MessageView,
+    ) {
+        write_front(draft, form, place, names, view);
     }
 
     fn add(&mut self, form: Form, place: Place, text: &str, outcome: Outcome) {
@@ -35,8 +42,15 @@ impl<D: Draft> CallSink for Lines<D> {
         write_end(&mut self.draft, form, place.time, outcome);
     }
 
-    fn add_seen(&mut self, form: Form, place: Place, view: &MessageView, outcome: Outcome) {
-        write_front(&mut self.draft, form, place, view);
+    fn add_seen(
+        &mut self,
+        form: Form,
+        place: Place,
+        names: CallNames<'_>,
+        view: &MessageView,
+        outcome: Outcome,
+    ) {
+        write_front(&mut self.draft, form, place, names, view);
         write_end(&mut self.draft, form, place.time, outcome);
     }
 

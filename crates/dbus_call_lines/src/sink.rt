@@ -6,8 +6,10 @@ ghost use Rattle.dbus_value_model.specs.declared.order.Order.{Order};
 ghost use Rattle.dbus_message_model.specs.Messages.{MessageTree};
 ghost use Rattle.dbus_view.specs.Views.{Views};
 ghost use Rattle.dbus_call_lines.specs.Keeping.{EndedCall, Texts, ended};
+ghost use Rattle.dbus_call_lines.specs.Names.{names_seen};
 ghost use Rattle.dbus_call_lines.specs.Outcomes.{outcome_seen};
 
+use crate::call_names::CallNames;
 use crate::form::Form;
 use crate::outcome::Outcome;
 use crate::place::Place;
@@ -24,19 +26,34 @@ pub trait CallSink {
     // It gained calls that ended.
     ghost gains: { Self → List EndedCall → Self → Type 0 };
 
-    /// Appends the text that is to be kept of the call of the view, which is at this place.
-    fn write_kept<D: Draft>(draft: &mut D, form: Form, place: Place, view: &MessageView)
+    /// Appends the text that is to be kept of the call of the view, which is at this place, and
+    /// whose connections are known by these names.
+    fn write_kept<D: Draft>(
+        draft: &mut D,
+        form: Form,
+        place: Place,
+        names: CallNames<'_>,
+        view: &MessageView,
+    )
         ensures { (order : Order) (m : MessageTree) → Views view.now order m →
-            D.gains draft.old (texts form place m) draft.new };
+            D.gains draft.old (texts form place (names_seen names.entry) m) draft.new };
 
     /// Adds a call that was at this place, of which this text was kept, and of which this came.
     fn add(&mut self, form: Form, place: Place, text: &str, outcome: Outcome)
         ensures { gains self.old (ended form place text.now (outcome_seen outcome.entry) ∷ []) self.new };
 
-    /// Adds the call of the view, which is at this place, and of which this came at once.
-    fn add_seen(&mut self, form: Form, place: Place, view: &MessageView, outcome: Outcome)
+    /// Adds the call of the view, which is at this place, whose connections are known by these
+    /// names, and of which this came at once.
+    fn add_seen(
+        &mut self,
+        form: Form,
+        place: Place,
+        names: CallNames<'_>,
+        view: &MessageView,
+        outcome: Outcome,
+    )
         ensures { (order : Order) (m : MessageTree) → Views view.now order m →
-            gains self.old (ended form place (texts form place m) (outcome_seen outcome.entry) ∷ []) self.new };
+            gains self.old (ended form place (texts form place (names_seen names.entry) m) (outcome_seen outcome.entry) ∷ []) self.new };
 
     // What is left alone gains nothing.
     ghost nothing: { (a : Self) → gains a [] a };

@@ -20,7 +20,7 @@ use Rattle.dbus_call_members.specs.declared.member_sums.MemberSums.{MemberSums}
 
 -- the text that is kept of a call is its member
 abbrev pub members : Texts
-members form place call = called call
+members form place names call = called call
 
 -- a METHOD_RETURN came
 abbrev pub is_reply : Outcome → Bool

@@ -10,7 +10,7 @@ ghost use Rattle.dbus_call_members.specs.SumLaws as laws;
 ghost use Rattle.dbus_call_members.specs.Summing.{Adds, members};
 
 use crate::member_sums::MemberSums;
-use dbus_call_lines::{CallSink, Form, Outcome, Place, write_member};
+use dbus_call_lines::{CallNames, CallSink, Form, Outcome, Place, write_member};
 use dbus_show::{Draft, StringDraft};
 use dbus_view::MessageView;
 use std::alloc::{AllocError, Global};
@@ -20,7 +20,13 @@ impl CallSink for MemberSums {
 
     ghost gains = { Adds };
 
-    fn write_kept<D: Draft>(draft: &mut D, _form: Form, _place: Place, view: &MessageView) {
+    fn write_kept<D: Draft>(
+        draft: &mut D,
+        _form: Form,
+        _place: Place,
+        _names: CallNames<'_>,
+        view: &MessageView,
+    ) {
         write_member(draft, view);
     }
 
@@ -33,7 +39,14 @@ impl CallSink for MemberSums {
         }
     }
 
-    fn add_seen(&mut self, form: Form, place: Place, view: &MessageView, outcome: Outcome) {
+    fn add_seen(
+        &mut self,
+        form: Form,
+        place: Place,
+        _names: CallNames<'_>,
+        view: &MessageView,
+        outcome: Outcome,
+    ) {
         match member_of(self.alloc, view) {
             Ok(member) => self.add(form, place, member.as_str(), outcome),
             Err(AllocError) => self.complete = false,

@@ -4,6 +4,7 @@ use Rattle.dbus_call_lines.specs.Keeping.{Keeps}
 use Rattle.dbus_call_lines.specs.Listing.{AreRising, Numbered}
 use Rattle.dbus_call_lines.specs.declared.call_list.CallList.{CallList}
 use Rattle.dbus_call_lines.specs.declared.wanted.Wanted.{Wanted}
+use Rattle.dbus_names.specs.NameStates.{known_first}
 use Rattle.cli_report.specs.Devices.{writing}
 use Rattle.cli_run.specs.CallListing.{WritesRest, notes}
 use Rattle.cli_run.proofs.EndSteps.{taken_by}
@@ -28,7 +29,7 @@ returns-in-Ok-write_rest g c =
     (subst (λ (l : CallList). (other : Wanted) (before : List Numbered) → Keeps front other before l → AreRising before
     → WritesRest (writing g.W.Sink.held g.W.Sink.failures c.into_inner-writer.result.now c.write_rest.new.first) other before lacks (Ok c.in-Ok-write_rest.note))
     c.into_parts-list.ensures.list c.in-Ok-write_rest.ensures)) in
-    inl (lists_all g.W.Sink.held g.W.Sink.failures g.E.Sink.held g.E.Sink.failures c.args.wanted _ c.pass_through-ended.new.visitor (c.new.ensures front) c.new-2.ensures refl
+    inl (lists_all g.W.Sink.held g.W.Sink.failures g.E.Sink.held g.E.Sink.failures c.args.wanted _ c.pass_through-ended.new.visitor (c.new.ensures front) (c.new-3.ensures ∙ ap known_first c.new-2.ensures) c.new-4.ensures refl
     g.R.Source.left g.R.Source.calls g.R.Source.failures g.R.Source.packets c.args.settings _ c.args.reader.now c.pass_through-ended.result.1.now source second
     c.first-1.given.0 c.tell_note.new.second (Ok tt) c.in-Ok.status c.tell_note.result (rw c.in-Ok.is at c.pass_through-ended.ensures.settled)
     (λ other before keeps rising. (rest other before keeps rising).0) (
@@ -53,7 +54,7 @@ returns-in-Err-write_rest g c =
     (subst (λ (l : CallList). (other : Wanted) (before : List Numbered) → Keeps front other before l → AreRising before
     → WritesRest (writing g.W.Sink.held g.W.Sink.failures c.into_inner-writer.result.now c.write_rest.new.first) other before lacks (Err c.in-Err-write_rest.cause))
     c.into_parts-list.ensures.list c.in-Err-write_rest.ensures)) in
-    inl (lists_all g.W.Sink.held g.W.Sink.failures g.E.Sink.held g.E.Sink.failures c.args.wanted _ c.pass_through-ended.new.visitor (c.new.ensures front) c.new-2.ensures refl
+    inl (lists_all g.W.Sink.held g.W.Sink.failures g.E.Sink.held g.E.Sink.failures c.args.wanted _ c.pass_through-ended.new.visitor (c.new.ensures front) (c.new-3.ensures ∙ ap known_first c.new-2.ensures) c.new-4.ensures refl
     g.R.Source.left g.R.Source.calls g.R.Source.failures g.R.Source.packets c.args.settings _ c.args.reader.now c.pass_through-ended.result.1.now source (search rules)
     c.first-1.given.0 c.give_up.new.second (Err c.in-Err-write_rest.cause) c.in-Ok.status c.give_up.result (rw c.in-Ok.is at c.pass_through-ended.ensures.settled) rest
     (c.give_up.ensures.told, c.give_up.ensures.failed) passes)
@@ -69,7 +70,7 @@ returns-in-Err g c =
       failed = c.tell_stop.ensures.failed;
       stop = c.in-Err.stop;
       before = c.second-1.given.0;
-      within = gave_up g.W.Sink.held g.W.Sink.failures g.E.Sink.held g.E.Sink.failures c.args.wanted _ c.pass_through-ended.new.visitor (c.new.ensures front) c.new-2.ensures refl
+      within = gave_up g.W.Sink.held g.W.Sink.failures g.E.Sink.held g.E.Sink.failures c.args.wanted _ c.pass_through-ended.new.visitor (c.new.ensures front) (c.new-3.ensures ∙ ap known_first c.new-2.ensures) c.new-4.ensures refl
           g.R.Source.left g.R.Source.calls g.R.Source.failures g.R.Source.packets c.args.settings _ c.args.reader.now c.pass_through-ended.result.1.now source second (search rules) passes;
       tells = c.tell_stop.ensures.tells;
     })
