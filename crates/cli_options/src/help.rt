@@ -209,10 +209,12 @@ pub(crate) const CALLS_MORE: &str = more!(
   `no reply: the caller left` or `no reply: its serial was used again`; and at
   the end of the input `no reply` for each call that waits. `T ms` is the time
   from the call to the reply, if the file has times. `-` is in place of what a
-  call does not say. With --unanswered, --errors or --slower only calls of these
-  outcomes are listed, with more of these those of each. If the input is refused,
+  call does not say. Behind a unique name is the one by which its connection is
+  known from the messages up to the call, as in `:1.5(org.example.Lab)`. With
+  --unanswered, --errors or --slower only calls of these outcomes are listed,
+  with more of these those of each. If the input is refused,
   `refused at P: NAME` on standard error, and then the calls that wait there are
-  listed. Memory is allocated for calls that wait.
+  listed. Memory is allocated for calls that wait and for names of connections.
 
   With --members the table of the members comes instead, those with most time
   first: `N calls N replies N errors N no reply MEMBER`, and before the member,

@@ -1,6 +1,6 @@
 -- The laws of the visitor that lists messages. They are here, and not in proofs/, because the
 -- trait's law names them.
-use Rattle.std.proofs.Common.{◌≡◌, ℕ, false, List, [], ◌∷◌, ◌++◌, length, Option, refl, sym, ap, ◌∙◌, subst, append-nil, append_assoc}
+use Rattle.std.proofs.Common.{◌≡◌, ℕ, false, List, [], ◌∷◌, ◌++◌, Option, refl, sym, ap, ◌∙◌, subst, append-nil, append_assoc}
 use Rattle.std.proofs.Math.Path.{transport}
 use Rattle.dbus_call_lines.specs.Listing.{Numbered, nth}
 use Rattle.dbus_names.specs.NameStates.{NameState}

@@ -1,5 +1,5 @@
 -- Who has which name, as the lines of `list` and of `calls` tell it. D-Bus Specification, "Message Bus Names".
-use Rattle.std.specs.Prelude.{ℕ, List, [], ◌∷◌, Option, if◌then◌else◌, option_and_then}
+use Rattle.std.specs.Prelude.{List, [], ◌∷◌, Option, if◌then◌else◌, option_and_then}
 use Rattle.std.specs.FinSet.{from_list}
 use Rattle.dbus_message_model.specs.Messages.{MessageTree}
 use Rattle.dbus_match.specs.Matching.{Ownership, ownerships}

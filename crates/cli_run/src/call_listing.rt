@@ -155,8 +155,9 @@ fn list_message<W: Sink>(
 /// [`crate::run_with`] does. The line of a call is written once it is known what came of it, at the
 /// latest before more is read; those of calls that wait at the end follow in their order. A
 /// connection is told with the name that it is known to have, by the messages up to the call. A
-/// message that is refused is no call and no reply. At the end the second writer is told if slow calls are
-/// wanted and no message has a time, and how many replies answer no call that was seen, if any.
+/// message that is refused is no call and no reply. At the end the second writer is told if slow
+/// calls are wanted and no message has a time, and how many replies answer no call that was seen, if
+/// any.
 ///
 /// `Done`, `Refused`: all was written, and whether anything was refused. `Failed`: a read or a
 /// write failed, as many reads were made as may be, or memory ran out; if it was not a write to the

@@ -35,7 +35,8 @@ pub fn one_list()
 {}
 
 /// The lines of the calls in words have only characters of ASCII from the space to `~` before their
-/// line feeds, so that a terminal obeys none of them, whatever the messages hold.
+/// line feeds, so that a terminal obeys none of them, whatever the messages hold that are within the
+/// limits, if names by which connections are known are bus names.
 pub fn only_printed()
     ensures { OnlyPrinted }
 {}

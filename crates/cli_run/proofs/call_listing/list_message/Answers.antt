@@ -1,4 +1,4 @@
-use Rattle.std.proofs.Common.{◌≡◌, List, [], ◌∷◌, ◌++◌, ℕ, rules, refl, ap, subst, sym, ◌∙◌}
+use Rattle.std.proofs.Common.{◌≡◌, [], ◌∷◌, ◌++◌, rules, refl, ap, subst, sym, ◌∙◌}
 use Rattle.std.proofs.Math.Path.{transport}
 use Rattle.dbus_call_lines.specs.CallLines.{front}
 use Rattle.dbus_call_lines.specs.Keeping.{Keeps}
@@ -7,7 +7,6 @@ use Rattle.dbus_call_lines.specs.Names.{Known}
 use Rattle.dbus_call_lines.proofs.Written.{are_lines}
 use Rattle.dbus_names.specs.NameStates.{NameState}
 use Rattle.cli_report.specs.Gathering.{Breaks, Passes, gathered_bytes}
-use Rattle.cli_report.specs.declared.page.Page.{Page}
 use Rattle.cli_run.specs.CallListing.{number_and_time}
 use Rattle.cli_run.specs.LineNames.{known_beside}
 use Rattle.cli_run.proofs.OutputSteps.{views_it}
