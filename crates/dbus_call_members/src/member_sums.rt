@@ -14,18 +14,18 @@ use std::collections::BTreeMap;
 
 /// What came of the calls of each member, and how long they took: a sink of a
 /// `dbus_call_lines::CallList`. A member is its interface, a dot and its name, or the name alone
-/// if the call has no INTERFACE. It holds as much memory as the different members take, and a call
-/// takes time for the logarithm of their number.
+/// if the call has no INTERFACE. Each takes memory, and each call the time of a search among them.
 ///
 /// ```rust
-/// use dbus_call_lines::{CallList, Form, Place, Wanted};
+/// use dbus_call_lines::{CallList, CallNames, Form, Place, Wanted};
 /// use dbus_call_members::MemberSums;
 /// use dbus_message::MessageView;
 ///
 /// let wanted = Wanted { form: Form::Text, unanswered: false, errors: false, slower: None };
 /// let mut list = CallList::new(alloc, wanted);
 /// let mut sums = MemberSums::new(alloc);
-/// list.take(&mut sums, Place { number: 1, time: None }, &MessageView::of(bytes)?)?;
+/// let names = CallNames { sender: None, destination: None };
+/// list.take(&mut sums, Place { number: 1, time: None }, names, &MessageView::of(bytes)?)?;
 /// list.finish(&mut sums)?;
 /// println!(rt; "{}", sums.table(Form::Text)?)?;
 /// ```

@@ -33,12 +33,12 @@ use std::alloc::{AllocError, Global};
 /// its calls.
 ///
 /// ```rust
-/// use dbus_names::Names;
+/// use dbus_names::{Names, WellKnownNames};
 /// use dbus_message::MessageView;
 /// use dbus_rule_set::Owners;
 ///
 /// let mut names = Names::new(alloc, Owners::new(alloc));
-/// names.take(&MessageView::of(bytes)?, &all)?;
+/// names.take(&MessageView::of(bytes)?, &WellKnownNames)?;
 /// println!(rt; "{}", names.owners().of(":1.7").is_some())?;
 /// ```
 #[derive(Drop)]
