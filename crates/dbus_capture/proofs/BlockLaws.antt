@@ -1,6 +1,6 @@
 -- A block of a pcapng file that is no section's is read as it is spelled.
-use Rattle.std.proofs.Common.{◌≡◌, ◌≢◌, inl, inr, ℕ, ◌+◌, ◌-◌, ◌*◌, ◌<◌, ◌≤◌, ◌^◌, true, cond, List, [], ◌++◌, length, Option, None, refl, sym, ap, subst, ◌∙◌, arith, append_assoc, length-append, Some}
-use Rattle.std.specs.Prelude.{◌==◌, slice_get}
+use Rattle.std.proofs.Common.{◌≡◌, ◌≢◌, ◌⊎◌, inl, inr, ℕ, ◌+◌, ◌-◌, ◌*◌, ◌<◌, ◌≤◌, ◌^◌, Bool, true, false, cond, List, [], ◌∷◌, ◌++◌, length, Option, None, refl, sym, ap, subst, ◌∙◌, arith, append_assoc, append-nil, length-append, Some}
+use Rattle.std.specs.Prelude.{slice_get}
 use Rattle.dbus_capture.specs.declared.byte_order.ByteOrder.{ByteOrder}
 use Rattle.dbus_capture.specs.declared.stage.Stage.{Stage}
 use Rattle.dbus_capture.specs.declared.stage.Stage.TheVariants as stages
@@ -9,58 +9,90 @@ use Rattle.dbus_capture.specs.declared.scan.Scan.{Scan}
 use Rattle.dbus_capture.specs.Numbers.{u32_bytes, u16_bytes, u32_at, u16_at}
 use Rattle.dbus_capture.specs.Stages.{begun, is_filed, want}
 use Rattle.dbus_capture.specs.Scans.{place}
-use Rattle.dbus_capture.specs.Blocks.{padded, block_stage, block_by, time_of, give_packet, pass_packet, block_packet, enhanced_by, simple_by, captured_length, decoded_by}
+use Rattle.dbus_capture.specs.Blocks.{padded, block_stage, block_by, time_of, give_packet, pass_packet, pass_cut, block_packet, enhanced_by, simple_by, captured_length, decoded_by}
 use Rattle.dbus_capture.specs.Steps.{run, given}
 use Rattle.dbus_capture.specs.Reading.{InSection}
-use Rattle.dbus_capture.specs.Packets.{Reports, IsTimed, interface_of, packet_bytes, block_front, block_packet_reported}
-use Rattle.dbus_capture.specs.BlockFiles.{FitsBody, framed_bytes, FileBlock, InterfaceBlock, PacketBlock, ObsoleteBlock, SimpleBlock, OtherBlock, block_bytes, block_body, block_payload, bytes_by, HasInterface, IsUncut, FitsBlock}
+use Rattle.dbus_capture.specs.Packets.{Reports, IsTimed, interface_of, packet_bytes, packet_time, block_front}
+use Rattle.dbus_capture.specs.BlockFiles.{FitsBody, framed_bytes, FileBlock, InterfaceBlock, PacketBlock, ObsoleteBlock, SimpleBlock, OtherBlock, block_bytes, block_body, HasInterface, IsUncut, FitsBlockIf, FitsBlock}
+use Rattle.dbus_capture.specs.CutPackets.{Captured, is_cut, whole_payload, cut_count}
+use Rattle.dbus_capture.specs.BlockPackets.{packet_by, block_packets}
+use Rattle.dbus_device.specs.declared.packet.Packet.{Packet}
 use Rattle.dbus_capture.proofs.NumberLaws.{u32_size, u16_size, u32_after, u16_after, u32_last}
 use Rattle.dbus_capture.proofs.StepLaws.{run-append, given-append, run_gives}
+use Rattle.dbus_capture.proofs.KeptLaws.{Kept, kept_then, kept_as, kept_moved, kept_begun, kept_passed, whole_count}
+use Rattle.dbus_capture.proofs.PcapFaultLaws.{lt_true}
 use Rattle.dbus_capture.proofs.PcapOutcomes.{eq_is, eq_not, cases_same}
 use Rattle.dbus_capture.proofs.BlockTurns.{when_true, when_false, lt_false, length_ok, takes_head, ends_block, opens_block, opens_as}
 
--- bytes were taken up to the end of a block
-pub record Went (s : Scan) (bytes : List ℕ) (order : ByteOrder) (interfaces : List Interface) (out : List ℕ) : Type 0 where
+-- Bytes were taken up to the end of a block, of which these were handed on. The place moves on by n,
+-- p packets began, and c that were cut were passed over.
+pub record Went (s : Scan) (bytes : List ℕ) (order : ByteOrder) (interfaces : List Interface) (out : List ℕ) (n p c : ℕ) : Type 0 where
   pub final : Scan
   pub ran : run s bytes ≡ final
   pub gave : given s bytes ≡ out
   pub stands : InSection final order interfaces
+  pub kept : Kept s final n p c
+
+-- bytes of these packets
+abbrev pub Took : Scan → List ℕ → ByteOrder → List Interface → List Captured → Type 0
+Took s bytes order interfaces packets = Went s bytes order interfaces (whole_payload packets) (length bytes) (whole_count packets) (cut_count packets)
 
 -- bytes of which none is handed on, and then more
-pub goes_on : (s m : Scan) (xs ys : List ℕ) (order : ByteOrder) (interfaces : List Interface) (out : List ℕ) → run s xs ≡ m → given s xs ≡ [] → Went m ys order interfaces out → Went s (xs ++ ys) order interfaces out
-goes_on s m xs ys order interfaces out e g w = record {
+pub goes_on : (s m : Scan) (xs ys : List ℕ) (order : ByteOrder) (interfaces : List Interface) (out : List ℕ) (n p c k q d : ℕ) → run s xs ≡ m → given s xs ≡ [] → Kept s m n p c → Went m ys order interfaces out k q d
+    → Went s (xs ++ ys) order interfaces out (n + k) (p + q) (c + d)
+goes_on s m xs ys order interfaces out n p c k q d e g h w = record {
   final = w.final;
   ran = run-append s xs ys ∙ ap (λ (v : Scan). run v ys) e ∙ w.ran;
   gave = given-append s xs ys ∙ ap (λ l. l ++ given (run s xs) ys) g ∙ ap (λ (v : Scan). given v ys) e ∙ w.gave;
   stands = w.stands;
+  kept = kept_then s m w.final n p c k q d h w.kept;
 }
 
-pub respell : (s : Scan) (xs ys : List ℕ) (order : ByteOrder) (interfaces : List Interface) (out : List ℕ) → xs ≡ ys → Went s ys order interfaces out → Went s xs order interfaces out
-respell s xs ys order interfaces out e w = record { final = w.final; ran = ap (run s) e ∙ w.ran; gave = ap (given s) e ∙ w.gave; stands = w.stands }
+pub respell : (s : Scan) (xs ys : List ℕ) (order : ByteOrder) (interfaces : List Interface) (out : List ℕ) (n p c : ℕ) → xs ≡ ys → Went s ys order interfaces out n p c → Went s xs order interfaces out n p c
+respell s xs ys order interfaces out n p c e w = record { final = w.final; ran = ap (run s) e ∙ w.ran; gave = ap (given s) e ∙ w.gave; stands = w.stands; kept = w.kept }
 
-pub hands_as : (s : Scan) (xs : List ℕ) (order : ByteOrder) (interfaces : List Interface) (out told : List ℕ) → out ≡ told → Went s xs order interfaces out → Went s xs order interfaces told
-hands_as s xs order interfaces out told e w = record { final = w.final; ran = w.ran; gave = w.gave ∙ e; stands = w.stands }
+pub hands_as : (s : Scan) (xs : List ℕ) (order : ByteOrder) (interfaces : List Interface) (out told : List ℕ) (n p c : ℕ) → out ≡ told → Went s xs order interfaces out n p c → Went s xs order interfaces told n p c
+hands_as s xs order interfaces out told n p c e w = record { final = w.final; ran = w.ran; gave = w.gave ∙ e; stands = w.stands; kept = w.kept }
+
+pub counts_as : (s : Scan) (xs : List ℕ) (order : ByteOrder) (interfaces : List Interface) (out : List ℕ) (n p c m q d : ℕ) → n ≡ m → p ≡ q → c ≡ d → Went s xs order interfaces out n p c → Went s xs order interfaces out m q d
+counts_as s xs order interfaces out n p c m q d e f g w = record { final = w.final; ran = w.ran; gave = w.gave; stands = w.stands; kept = kept_as s w.final n p c m q d e f g w.kept }
 
 -- the end of a block that leaves the interfaces as they were
 pub went : (t : Scan) (bytes rest : List ℕ) (n : ℕ) (order : ByteOrder) (interfaces : List Interface) → t.fault ≡ None → t.head ≡ begun stages.Trailer → t.give ≡ length bytes → t.skip ≡ length rest
-    → t.total ≡ n → n < 2 ^ 32 → t.order ≡ order → t.interfaces ≡ interfaces → Went t ((bytes ++ rest) ++ u32_bytes order n) order interfaces bytes
+    → t.total ≡ n → n < 2 ^ 32 → t.order ≡ order → t.interfaces ≡ interfaces → Went t ((bytes ++ rest) ++ u32_bytes order n) order interfaces bytes 4 0 0
 went t bytes rest n order interfaces u h g k e low o f =
     let law = ends_block t bytes rest n u h g k e low in
     let same : (bytes ++ rest) ++ u32_bytes order n ≡ (bytes ++ rest) ++ u32_bytes t.order n = ap (λ (v : ByteOrder). (bytes ++ rest) ++ u32_bytes v n) (sym o) in
-    respell t _ _ order interfaces bytes same (record {
-      final = record t { head = begun stages.Block; give = 0; skip = 0; next = place (t.next + 4) };
+    let final : Scan = record t { head = begun stages.Block; give = 0; skip = 0; next = place (t.next + 4) } in
+    respell t _ _ order interfaces bytes 4 0 0 same (record {
+      final = final;
       ran = law.0;
       gave = law.1;
       stands = record { ready = record { unfaulted = u; head = refl; give = refl; skip = refl }; order_is = o; interfaces_are = f };
+      kept = kept_moved t final 4 refl refl refl refl;
     })
 
 -- the beginning of a block that is no section's, and then more
-pub begins_block : (s : Scan) (kind total : ℕ) (m : Scan) (ys : List ℕ) (order : ByteOrder) (interfaces interfaces' : List Interface) (out : List ℕ) → InSection s order interfaces → kind < 2 ^ 32 → total < 2 ^ 32 → kind ≢ 0x0a0d0d0a
-    → block_by s total (block_stage kind) ≡ m → Went m ys order interfaces' out → Went s ((u32_bytes order kind ++ u32_bytes order total) ++ ys) order interfaces' out
-begins_block s kind total m ys order interfaces interfaces' out i k n other e w =
-    let law = opens_block s kind total i.ready k n other in
-    respell s _ _ order interfaces' out (ap (λ (v : ByteOrder). (u32_bytes v kind ++ u32_bytes v total) ++ ys) (sym i.order_is))
-    (goes_on s m (u32_bytes s.order kind ++ u32_bytes s.order total) ys order interfaces' out (law.0 ∙ e) law.1 w)
+pub begins_block : (s : Scan) (kind total : ℕ) (m : Scan) (ys : List ℕ) (order : ByteOrder) (interfaces interfaces' : List Interface) (out : List ℕ) (n k p c : ℕ) → InSection s order interfaces → kind < 2 ^ 32 → total < 2 ^ 32 → kind ≢ 0x0a0d0d0a
+    → block_by s total (block_stage kind) ≡ m → Kept s m n 0 0 → Went m ys order interfaces' out k p c → Went s ((u32_bytes order kind ++ u32_bytes order total) ++ ys) order interfaces' out (n + k) p c
+begins_block s kind total m ys order interfaces interfaces' out n k p c i low fits other e kept w =
+    let law = opens_block s kind total i.ready low fits other in
+    let same_p : 0 + p ≡ p = omega arith in
+    let same_c : 0 + c ≡ c = omega arith in
+    respell s _ _ order interfaces' out (n + k) p c (ap (λ (v : ByteOrder). (u32_bytes v kind ++ u32_bytes v total) ++ ys) (sym i.order_is))
+    (counts_as s _ order interfaces' out (n + k) (0 + p) (0 + c) (n + k) p c refl same_p same_c
+    (goes_on s m (u32_bytes s.order kind ++ u32_bytes s.order total) ys order interfaces' out n 0 0 k p c (law.0 ∙ e) law.1 kept w))
+
+-- the length of a block
+pub framed_size : (order : ByteOrder) (kind : ℕ) (body : List ℕ) → length (framed_bytes order kind body) ≡ 12 + length body
+framed_size order kind body =
+    let w = u32_bytes order (12 + length body) in
+    let l = length-append (u32_bytes order kind ++ w) (body ++ w) in
+    let m = length-append (u32_bytes order kind) w in
+    let n = length-append body w in
+    let a = u32_size order kind in
+    let b = u32_size order (12 + length body) in
+    omega (arith, l, m, n, a, b)
 
 -- ---- a block of another type
 
@@ -68,16 +100,19 @@ pub other_stage : (kind : ℕ) → kind ≢ 1 → kind ≢ 2 → kind ≢ 3 → 
 other_stage kind a b c d =
     when_false _ _ _ (eq_not kind 1 a) ∙ when_false _ _ _ (eq_not kind 2 b) ∙ when_false _ _ _ (eq_not kind 3 c) ∙ when_false _ _ _ (eq_not kind 6 d)
 
-pub other_read : (s : Scan) (order : ByteOrder) (interfaces : List Interface) (kind : ℕ) (body : List ℕ) → InSection s order interfaces → FitsBlock interfaces (OtherBlock kind body) → FitsBody body
-    → Went s (framed_bytes order kind body) order interfaces []
-other_read s order interfaces kind body i f b =
+pub other_read : (s : Scan) (order : ByteOrder) (interfaces : List Interface) (kind : ℕ) (body : List ℕ) → InSection s order interfaces → kind < 2 ^ 32 → kind ≢ 1 → kind ≢ 2 → kind ≢ 3 → kind ≢ 6 → kind ≢ 0x0a0d0d0a → FitsBody body
+    → Took s (framed_bytes order kind body) order interfaces []
+other_read s order interfaces kind body i low not_1 not_2 not_3 not_6 no_section b =
     let total = 12 + length body in
     let m : Scan = record s { head = begun stages.Trailer; skip = total - 12; next = place (s.next + (total - 4)); total = total } in
-    let at = ap (block_by s total) (other_stage kind f.1 f.2 f.3 f.4) ∙ when_true _ _ _ (length_ok 12 total b.whole (omega arith)) in
+    let at = ap (block_by s total) (other_stage kind not_1 not_2 not_3 not_6) ∙ when_true _ _ _ (length_ok 12 total b.whole (omega arith)) in
     let z = i.ready.give in
     let left : total - 12 ≡ length body = omega arith in
-    begins_block s kind total m (body ++ u32_bytes order total) order interfaces interfaces [] i f.0 b.size f.5 at
-    (went m [] body total order interfaces i.ready.unfaulted refl z left refl b.size i.order_is i.interfaces_are)
+    let size = framed_size order kind body in
+    let moved : total - 4 + 4 ≡ length (framed_bytes order kind body) = omega (arith, size) in
+    counts_as s _ order interfaces [] _ _ _ _ _ _ moved refl refl
+    (begins_block s kind total m (body ++ u32_bytes order total) order interfaces interfaces [] (total - 4) 4 0 0 i low b.size no_section at (kept_moved s m (total - 4) refl refl refl refl)
+    (went m [] body total order interfaces i.ready.unfaulted refl z left refl b.size i.order_is i.interfaces_are))
 
 -- ---- a packet
 
@@ -88,23 +123,60 @@ packet_given t size k room link_type time n original h e w =
 packet_passed : (t : Scan) (size k room link_type : ℕ) (time : Option ℕ) (n original : ℕ) → padded n ≤ room → link_type ≢ 231 → block_packet t size k room link_type time n original ≡ pass_packet t size room
 packet_passed t size k room link_type time n original h d = when_false _ _ _ (lt_false room (padded n) h) ∙ when_false _ _ _ (eq_not link_type 231 d)
 
+packet_skipped : (t : Scan) (size k room link_type : ℕ) (time : Option ℕ) (n original : ℕ) → padded n ≤ room → link_type ≡ 231 → n < original → t.passes_cut ≡ true → block_packet t size k room link_type time n original ≡ pass_cut t size room
+packet_skipped t size k room link_type time n original h e short passes =
+    when_false _ _ _ (lt_false room (padded n) h) ∙ when_true _ _ _ (eq_is link_type 231 e) ∙ when_false _ _ _ (lt_false original n (omega (arith, short))) ∙ when_true _ _ _ (lt_true n original short) ∙ when_true _ _ _ passes
+
+-- a D-Bus packet was captured whole; or it was cut, and such packets are passed over
+abbrev pub MayPass : Bool → (original : ℕ) → List ℕ → Type 0
+MayPass passes original bytes = (original ≡ length bytes) ⊎ ((length bytes < original) × (passes ≡ true))
+
+-- such a packet is there if this is
+abbrev pub Takes : (Interface → ℕ → List ℕ → Type 0) → Bool → Type 0
+Takes P passes = (i : Interface) (original : ℕ) (bytes : List ℕ) → P i original bytes → i.link_type ≡ 231 → MayPass passes original bytes
+
 -- what follows the head of a packet's block
-packet_went : (t : Scan) (order : ByteOrder) (interfaces : List Interface) (size k room link_type : ℕ) (time : Option ℕ) (original : ℕ) (bytes rest : List ℕ) (total : ℕ)
-    → t.fault ≡ None → t.give ≡ 0 → t.skip ≡ 0 → t.total ≡ total → total < 2 ^ 32 → t.order ≡ order → t.interfaces ≡ interfaces → room ≡ length bytes + length rest → padded (length bytes) ≤ room → (link_type ≡ 231 → original ≡ length bytes)
-    → Went (block_packet t size k room link_type time (length bytes) original) ((bytes ++ rest) ++ u32_bytes order total) order interfaces (cond (link_type == 231) bytes [])
-packet_went t order interfaces size k room link_type time original bytes rest total u g z e low o f r h whole =
-    elim (cases_same link_type 231) [
-      | inl same ↦
-          let x = give_packet t size room time (length bytes) in
-          let left : room - length bytes ≡ length rest = omega (arith, r) in
-          subst (λ (v : Scan). Went v ((bytes ++ rest) ++ u32_bytes order total) order interfaces (cond (link_type == 231) bytes [])) (sym (packet_given t size k room link_type time (length bytes) original h same (whole same)))
-          (hands_as x _ order interfaces bytes _ (sym (when_true _ _ _ (eq_is link_type 231 same))) (went x bytes rest total order interfaces u refl refl left e low o f))
+record Handed (t x : Scan) (tail : List ℕ) (order : ByteOrder) (interfaces : List Interface) (n : ℕ) (packets : List Captured) : Type 0 where
+  kept : Kept t x n (whole_count packets) (cut_count packets)
+  went : Went x tail order interfaces (whole_payload packets) 4 0 0
+
+handed_as : (t x y : Scan) (tail : List ℕ) (order : ByteOrder) (interfaces : List Interface) (n : ℕ) (packets told : List Captured) → x ≡ y → packets ≡ told → Handed t x tail order interfaces n packets → Handed t y tail order interfaces n told
+handed_as t x y tail order interfaces n packets told e f h = subst (λ (v : Scan). Handed t v tail order interfaces n told) e (subst (Handed t x tail order interfaces n) f h)
+
+packet_went : (t : Scan) (order : ByteOrder) (interfaces : List Interface) (size k room : ℕ) (i : Interface) (time : Option ℕ) (original : ℕ) (bytes rest : List ℕ) (total : ℕ)
+    → t.fault ≡ None → t.give ≡ 0 → t.skip ≡ 0 → t.total ≡ total → total < 2 ^ 32 → t.order ≡ order → t.interfaces ≡ interfaces → room ≡ length bytes + length rest → padded (length bytes) ≤ room → (i.link_type ≡ 231 → MayPass t.passes_cut original bytes)
+    → Handed t (block_packet t size k room i.link_type time (length bytes) original) ((bytes ++ rest) ++ u32_bytes order total) order interfaces (size + room) (packet_by original bytes (Some i))
+packet_went t order interfaces size k room i time original bytes rest total u g z e low o f r h whole =
+    let tail = (bytes ++ rest) ++ u32_bytes order total in
+    let one : Captured = record { original = original; bytes = bytes } in
+    let l = length-append bytes rest in
+    let left : room ≡ length (bytes ++ rest) = omega (arith, r, l) in
+    elim (cases_same i.link_type 231) [
       | inr other ↦
           let x = pass_packet t size room in
-          let l = length-append bytes rest in
-          let left : room ≡ length (bytes ++ rest) = omega (arith, r, l) in
-          subst (λ (v : Scan). Went v ((bytes ++ rest) ++ u32_bytes order total) order interfaces (cond (link_type == 231) bytes [])) (sym (packet_passed t size k room link_type time (length bytes) original h other))
-          (hands_as x _ order interfaces [] _ (sym (when_false _ _ _ (eq_not link_type 231 other))) (went x [] (bytes ++ rest) total order interfaces u refl g left e low o f))
+          handed_as t x _ tail order interfaces (size + room) [] _ (sym (packet_passed t size k room i.link_type time (length bytes) original h other)) (sym (when_false _ _ _ (eq_not i.link_type 231 other)))
+          (record { kept = kept_moved t x (size + room) refl refl refl refl; went = went x [] (bytes ++ rest) total order interfaces u refl g left e low o f })
+      | inl same ↦
+          let dbus : one ∷ [] ≡ packet_by original bytes (Some i) = sym (when_true _ _ _ (eq_is i.link_type 231 same)) in
+          elim (whole same) [
+            | inl all ↦
+                let x = give_packet t size room time (length bytes) in
+                let uncut : is_cut one ≡ false = lt_false (length bytes) original (omega (arith, all)) in
+                let over : room - length bytes ≡ length rest = omega (arith, r) in
+                handed_as t x _ tail order interfaces (size + room) (one ∷ []) _ (sym (packet_given t size k room i.link_type time (length bytes) original h same all)) dbus
+                (record {
+                  kept = kept_as t x _ 1 0 _ _ _ refl (sym (ap (λ (v : Bool). cond v 0 1 + 0) uncut)) (sym (ap (λ (v : Bool). cond v 1 0 + 0) uncut)) (kept_begun t x (size + room) refl refl refl refl);
+                  went = hands_as x tail order interfaces bytes _ 4 0 0 (sym (ap (λ (v : Bool). cond v [] bytes ++ []) uncut ∙ append-nil bytes)) (went x bytes rest total order interfaces u refl refl over e low o f);
+                })
+            | inr cut ↦
+                let x = pass_cut t size room in
+                let short : is_cut one ≡ true = lt_true (length bytes) original cut.0 in
+                handed_as t x _ tail order interfaces (size + room) (one ∷ []) _ (sym (packet_skipped t size k room i.link_type time (length bytes) original h same cut.0 cut.1)) dbus
+                (record {
+                  kept = kept_as t x _ 0 1 _ _ _ refl (sym (ap (λ (v : Bool). cond v 0 1 + 0) short)) (sym (ap (λ (v : Bool). cond v 1 0 + 0) short)) (kept_passed t x (size + room) refl refl refl refl);
+                  went = hands_as x tail order interfaces [] _ 4 0 0 (sym (ap (λ (v : Bool). cond v [] bytes ++ []) short)) (went x [] (bytes ++ rest) total order interfaces u refl g left e low o f);
+                })
+          ]
     ]
 
 -- the head of an enhanced or an obsolete packet block, which begins with four bytes
@@ -165,6 +237,24 @@ module _ (o : ByteOrder) (front : List ℕ) (four : length front ≡ 4) (high lo
       ap (u32_at o 16) (regroup_three ∙ sym (append_assoc ((front ++ u32_bytes o high) ++ u32_bytes o low) (u32_bytes o n) (u32_bytes o original)))
       ∙ u32_last o (((front ++ u32_bytes o high) ++ u32_bytes o low) ++ u32_bytes o n) original 16 four_size h
 
+-- a packet's block, by its head
+block_took : (s : Scan) (order : ByteOrder) (interfaces : List Interface) (kind : ℕ) (m : Scan) (h bytes rest : List ℕ) (original : ℕ) (i : Interface) (size room : ℕ) (x : Scan)
+    → let total = 12 + length (h ++ (bytes ++ rest)) in
+    InSection s order interfaces → kind < 2 ^ 32 → total < 2 ^ 32 → kind ≢ 0x0a0d0d0a → block_by s total (block_stage kind) ≡ m → m.passes_cut ≡ s.passes_cut → m.next ≡ place (s.next + 8) → m.packets ≡ s.packets → m.cut ≡ s.cut
+    → run m h ≡ x → given m h ≡ [] → 8 + (size + room + 4) ≡ total → Handed m x ((bytes ++ rest) ++ u32_bytes order total) order interfaces (size + room) (packet_by original bytes (Some i))
+    → Took s (framed_bytes order kind (h ++ (bytes ++ rest))) order interfaces (packet_by original bytes (Some i))
+block_took s order interfaces kind m h bytes rest original i size room x w low fits other opened passes next packets cut to none sizes after =
+    let body = h ++ (bytes ++ rest) in
+    let total = 12 + length body in
+    let ps = packet_by original bytes (Some i) in
+    let f = framed_size order kind body in
+    let moved : 8 + (size + room + 4) ≡ length (framed_bytes order kind body) = omega (arith, f, sizes) in
+    let same_p : whole_count ps + 0 ≡ whole_count ps = omega arith in
+    let same_c : cut_count ps + 0 ≡ cut_count ps = omega arith in
+    counts_as s _ order interfaces _ _ _ _ _ _ _ moved same_p same_c
+    (begins_block s kind total m (body ++ u32_bytes order total) order interfaces interfaces _ 8 _ _ _ w low fits other opened (kept_moved s m 8 passes next packets cut)
+    (respell m _ _ order interfaces _ _ _ _ (append_assoc h (bytes ++ rest) (u32_bytes order total)) (goes_on m x h ((bytes ++ rest) ++ u32_bytes order total) order interfaces _ _ _ _ _ _ _ to none after.kept after.went)))
+
 -- how such a block is read, by the type and the head that it has
 record IsPacketBlock (kind : ℕ) (stage : Stage) (order : ByteOrder) (interfaces : List Interface) (head : List ℕ) (i : Interface) : Type 0 where
   low : kind < 2 ^ 32
@@ -176,8 +266,8 @@ record IsPacketBlock (kind : ℕ) (stage : Stage) (order : ByteOrder) (interface
 
 packet_read : (s : Scan) (order : ByteOrder) (interfaces : List Interface) (kind : ℕ) (stage : Stage) (i : Interface) (front : List ℕ) (four : length front ≡ 4) (high low original : ℕ) (bytes rest : List ℕ)
     → let h = packet_head order front four high low (length bytes) original in
-    IsPacketBlock kind stage order interfaces h i → InSection s order interfaces → length bytes < 2 ^ 32 → padded (length bytes) ≤ length bytes + length rest → original < 2 ^ 32 → IsUncut i original bytes
-    → FitsBody (h ++ (bytes ++ rest)) → Went s (framed_bytes order kind (h ++ (bytes ++ rest))) order interfaces (cond (i.link_type == 231) bytes [])
+    IsPacketBlock kind stage order interfaces h i → InSection s order interfaces → length bytes < 2 ^ 32 → padded (length bytes) ≤ length bytes + length rest → original < 2 ^ 32 → (i.link_type ≡ 231 → MayPass s.passes_cut original bytes)
+    → FitsBody (h ++ (bytes ++ rest)) → Took s (framed_bytes order kind (h ++ (bytes ++ rest))) order interfaces (packet_by original bytes (Some i))
 packet_read s order interfaces kind stage i front four high low original bytes rest p w fits low_room fits_original whole b =
     let n = length bytes in
     let h = packet_head order front four high low n original in
@@ -195,10 +285,9 @@ packet_read s order interfaces kind stage i front four high low original bytes r
     ∙ ap (λ (v : ℕ). block_packet m 20 12 (total - 32) i.link_type time v (u32_at s.order 16 h)) (ap (λ (v : ByteOrder). u32_at v 12 h) w.order_is ∙ captured_read order front four high low n original fits)
     ∙ ap (λ (v : ℕ). block_packet m 20 12 (total - 32) i.link_type time n v) (ap (λ (v : ByteOrder). u32_at v 16 h) w.order_is ∙ original_read order front four high low n original fits_original) in
     let room : total - 32 ≡ n + length rest = omega (arith, l, k, size) in
-    let after = packet_went m order interfaces 20 12 (total - 32) i.link_type time original bytes rest total w.ready.unfaulted w.ready.give w.ready.skip refl b.size
+    let after = packet_went m order interfaces 20 12 (total - 32) i time original bytes rest total w.ready.unfaulted w.ready.give w.ready.skip refl b.size
     w.order_is w.interfaces_are room (omega (arith, low_room, room)) whole in
-    begins_block s kind total m (body ++ u32_bytes order total) order interfaces interfaces _ w p.low b.size p.no_section opened
-    (respell m _ _ order interfaces _ (append_assoc h (bytes ++ rest) (u32_bytes order total)) (goes_on m _ h ((bytes ++ rest) ++ u32_bytes order total) order interfaces _ to law.1 after))
+    block_took s order interfaces kind m h bytes rest original i 20 (total - 32) _ w p.low b.size p.no_section opened refl refl refl refl to law.1 (omega (arith, l, k, size)) after
 
 enhanced_is : (order : ByteOrder) (interfaces : List Interface) (i : Interface) (number high low n original : ℕ) → number < 2 ^ 32 → slice_get interfaces number ≡ Some i
     → IsPacketBlock 6 stages.Enhanced order interfaces (packet_head order (u32_bytes order number) (u32_size order number) high low n original) i
@@ -213,13 +302,6 @@ enhanced_is order interfaces i number high low n original fits found =
       of = λ m o j. ap (λ (v : ℕ). enhanced_by m h (slice_get m.interfaces v)) (ap (λ (v : ByteOrder). u32_at v 0 h) o ∙ u32_after order [] number _ 0 refl fits)
           ∙ ap (λ (v : List Interface). enhanced_by m h (slice_get v number)) j ∙ ap (enhanced_by m h) found;
     }
-
-pub enhanced_read : (s : Scan) (order : ByteOrder) (interfaces : List Interface) (number high low original : ℕ) (bytes rest : List ℕ) → InSection s order interfaces → FitsBlock interfaces (PacketBlock number high low original bytes rest)
-    → FitsBody (block_body order (PacketBlock number high low original bytes rest)) → Went s (block_bytes order (PacketBlock number high low original bytes rest)) order interfaces (block_payload interfaces (PacketBlock number high low original bytes rest))
-enhanced_read s order interfaces number high low original bytes rest i f b =
-    let found = f.4 in
-    hands_as s _ order interfaces _ _ (sym (ap (bytes_by bytes) found.1)) (packet_read s order interfaces 6 stages.Enhanced found.0 (u32_bytes order number) (u32_size order number) high low original bytes rest
-    (enhanced_is order interfaces found.0 number high low (length bytes) original f.0 found.1) i f.1 f.2 f.3 found.2 b)
 
 halves_size : (order : ByteOrder) (number drops : ℕ) → length (u16_bytes order number ++ u16_bytes order drops) ≡ 4
 halves_size order number drops =
@@ -244,41 +326,58 @@ obsolete_is order interfaces i number drops high low n original fits found =
           ∙ ap (λ (v : List Interface). enhanced_by m h (slice_get v number)) j ∙ ap (enhanced_by m h) found;
     }
 
-pub obsolete_read : (s : Scan) (order : ByteOrder) (interfaces : List Interface) (number drops high low original : ℕ) (bytes rest : List ℕ) → InSection s order interfaces
-    → FitsBlock interfaces (ObsoleteBlock number drops high low original bytes rest) → FitsBody (block_body order (ObsoleteBlock number drops high low original bytes rest))
-    → Went s (block_bytes order (ObsoleteBlock number drops high low original bytes rest)) order interfaces (block_payload interfaces (ObsoleteBlock number drops high low original bytes rest))
-obsolete_read s order interfaces number drops high low original bytes rest i f b =
-    let found = f.4 in
-    hands_as s _ order interfaces _ _ (sym (ap (bytes_by bytes) found.1)) (packet_read s order interfaces 2 stages.ObsoletePacket found.0 (u16_bytes order number ++ u16_bytes order drops) (halves_size order number drops)
-    high low original bytes rest (obsolete_is order interfaces found.0 number drops high low (length bytes) original f.0 found.1) i f.1 f.2 f.3 found.2 b)
+module _ (P : Interface → ℕ → List ℕ → Type 0) (passes : Bool) (takes : Takes P passes) (s : Scan) (order : ByteOrder) (interfaces : List Interface) (w : InSection s order interfaces) (same : s.passes_cut ≡ passes) where
+  may_pass : (i : Interface) (original : ℕ) (bytes : List ℕ) → P i original bytes → i.link_type ≡ 231 → MayPass s.passes_cut original bytes
+  may_pass i original bytes p e = subst (λ (v : Bool). MayPass v original bytes) (sym same) (takes i original bytes p e)
 
-pub simple_read : (s : Scan) (order : ByteOrder) (interfaces : List Interface) (original : ℕ) (bytes rest : List ℕ) → InSection s order interfaces → FitsBlock interfaces (SimpleBlock original bytes rest)
-    → FitsBody (block_body order (SimpleBlock original bytes rest)) → Went s (block_bytes order (SimpleBlock original bytes rest)) order interfaces (block_payload interfaces (SimpleBlock original bytes rest))
-simple_read s order interfaces original bytes rest i f b =
-    let n = length bytes in
-    let h = u32_bytes order original in
-    let body = h ++ (bytes ++ rest) in
-    let total = 12 + length body in
-    let l = length-append h (bytes ++ rest) in
-    let k = length-append bytes rest in
-    let size = u32_size order original in
-    let m : Scan = record s { head = begun stages.Simple; next = place (s.next + 8); total = total; rest = total - 20 } in
-    let opened = opens_as s total (stages.Simple, 16) b.whole (omega (arith, l, size)) in
-    let found = f.2 in
-    let law = takes_head m stages.Simple h (record { unfaulted = i.ready.unfaulted; head = refl; give = i.ready.give; skip = i.ready.skip }) refl (omega (arith, size)) size in
-    let told : u32_at s.order 0 h ≡ original = ap (λ (v : ByteOrder). u32_at v 0 h) i.order_is ∙ u32_last order [] original 0 refl f.0 in
-    let to : run m h ≡ block_packet m 4 0 (total - 16) found.0.link_type None n original =
-    law.0 ∙ ap (λ (v : List Interface). simple_by m h (slice_get v 0)) i.interfaces_are ∙ ap (simple_by m h) found.1
-    ∙ ap (λ (v : ℕ). block_packet m 4 0 (total - 16) found.0.link_type None (captured_length found.0.snap_length v) v) told
-    ∙ ap (λ (v : ℕ). block_packet m 4 0 (total - 16) found.0.link_type None v original) found.2.0 in
-    let low_room = f.1 in
-    let room : total - 16 ≡ n + length rest = omega (arith, l, k, size) in
-    let after = packet_went m order interfaces 4 0 (total - 16) found.0.link_type None original bytes rest total i.ready.unfaulted i.ready.give i.ready.skip refl b.size i.order_is i.interfaces_are room (omega (arith, low_room, room)) found.2.1 in
-    hands_as s _ order interfaces _ _ (sym (ap (bytes_by bytes) found.1))
-    (begins_block s 3 total m (body ++ u32_bytes order total) order interfaces interfaces _ i (omega arith) b.size (λ e. absurd (omega (arith, e))) opened
-    (respell m _ _ order interfaces _ (append_assoc h (bytes ++ rest) (u32_bytes order total)) (goes_on m _ h ((bytes ++ rest) ++ u32_bytes order total) order interfaces _ to law.1 after)))
+  of_found : (bytes : List ℕ) (original : ℕ) (o : Option Interface) (i : Interface) (spelled : List ℕ) → o ≡ Some i → Took s spelled order interfaces (packet_by original bytes (Some i)) → Took s spelled order interfaces (packet_by original bytes o)
+  of_found bytes original o i spelled e t = subst (λ (v : Option Interface). Took s spelled order interfaces (packet_by original bytes v)) (sym e) t
+
+  pub enhanced_read : (number high low original : ℕ) (bytes rest : List ℕ) → FitsBlockIf P interfaces (PacketBlock number high low original bytes rest) → FitsBody (block_body order (PacketBlock number high low original bytes rest))
+      → Took s (block_bytes order (PacketBlock number high low original bytes rest)) order interfaces (block_packets interfaces (PacketBlock number high low original bytes rest))
+  enhanced_read number high low original bytes rest f b =
+      let found = f.4 in
+      of_found bytes original (slice_get interfaces number) found.0 _ found.1 (packet_read s order interfaces 6 stages.Enhanced found.0 (u32_bytes order number) (u32_size order number) high low original bytes rest
+      (enhanced_is order interfaces found.0 number high low (length bytes) original f.0 found.1) w f.1 f.2 f.3 (may_pass found.0 original bytes found.2) b)
+
+  pub obsolete_read : (number drops high low original : ℕ) (bytes rest : List ℕ) → FitsBlockIf P interfaces (ObsoleteBlock number drops high low original bytes rest) → FitsBody (block_body order (ObsoleteBlock number drops high low original bytes rest))
+      → Took s (block_bytes order (ObsoleteBlock number drops high low original bytes rest)) order interfaces (block_packets interfaces (ObsoleteBlock number drops high low original bytes rest))
+  obsolete_read number drops high low original bytes rest f b =
+      let found = f.4 in
+      of_found bytes original (slice_get interfaces number) found.0 _ found.1 (packet_read s order interfaces 2 stages.ObsoletePacket found.0 (u16_bytes order number ++ u16_bytes order drops) (halves_size order number drops)
+      high low original bytes rest (obsolete_is order interfaces found.0 number drops high low (length bytes) original f.0 found.1) w f.1 f.2 f.3 (may_pass found.0 original bytes found.2) b)
+
+  pub simple_read : (original : ℕ) (bytes rest : List ℕ) → FitsBlockIf P interfaces (SimpleBlock original bytes rest) → FitsBody (block_body order (SimpleBlock original bytes rest))
+      → Took s (block_bytes order (SimpleBlock original bytes rest)) order interfaces (block_packets interfaces (SimpleBlock original bytes rest))
+  simple_read original bytes rest f b =
+      let n = length bytes in
+      let h = u32_bytes order original in
+      let body = h ++ (bytes ++ rest) in
+      let total = 12 + length body in
+      let l = length-append h (bytes ++ rest) in
+      let k = length-append bytes rest in
+      let size = u32_size order original in
+      let m : Scan = record s { head = begun stages.Simple; next = place (s.next + 8); total = total; rest = total - 20 } in
+      let opened = opens_as s total (stages.Simple, 16) b.whole (omega (arith, l, size)) in
+      let found = f.2 in
+      let law = takes_head m stages.Simple h (record { unfaulted = w.ready.unfaulted; head = refl; give = w.ready.give; skip = w.ready.skip }) refl (omega (arith, size)) size in
+      let told : u32_at s.order 0 h ≡ original = ap (λ (v : ByteOrder). u32_at v 0 h) w.order_is ∙ u32_last order [] original 0 refl f.0 in
+      let to : run m h ≡ block_packet m 4 0 (total - 16) found.0.link_type None n original =
+      law.0 ∙ ap (λ (v : List Interface). simple_by m h (slice_get v 0)) w.interfaces_are ∙ ap (simple_by m h) found.1
+      ∙ ap (λ (v : ℕ). block_packet m 4 0 (total - 16) found.0.link_type None (captured_length found.0.snap_length v) v) told
+      ∙ ap (λ (v : ℕ). block_packet m 4 0 (total - 16) found.0.link_type None v original) found.2.0 in
+      let low_room = f.1 in
+      let room : total - 16 ≡ n + length rest = omega (arith, l, k, size) in
+      let after = packet_went m order interfaces 4 0 (total - 16) found.0 None original bytes rest total w.ready.unfaulted w.ready.give w.ready.skip refl b.size w.order_is w.interfaces_are room (omega (arith, low_room, room))
+      (may_pass found.0 original bytes found.2.1) in
+      of_found bytes original (slice_get interfaces 0) found.0 _ found.1
+      (block_took s order interfaces 3 m h bytes rest original found.0 4 (total - 16) _ w (omega arith) b.size (λ e. absurd (omega (arith, e))) opened refl refl refl refl to law.1 (omega (arith, l, k, size)) after)
 
 -- ---- what is reported of a packet
+
+-- of a packet whose block begins in this state
+abbrev pub block_packet_reported : Scan → Interface → FileBlock → Packet
+block_packet_reported s i block = record { number = place (s.packets + 1); at = place s.next; time = packet_time i block; length = length (packet_bytes block) }
 
 back_eight : (a : ℕ) → place (place (a + 8) + 2 ^ 64 - 8) ≡ place a
 back_eight a = omega arith

@@ -17,7 +17,7 @@ use Rattle.dbus_capture.specs.PcapFaults.{AreBytes}
 use Rattle.dbus_capture.specs.BlockFiles.{framed_bytes, FileBlock, block_bytes, blocks_bytes, block_payload, blocks_payload, interfaces_after, AllFitBlocks, FileSection, section_body, FitsSection, sections_bytes, sections_payload, AllFitSections}
 use Rattle.dbus_capture.specs.BlockFaults.{IsBlockFault, interfaces_all, last_section, IsPcapngOutcome}
 use Rattle.dbus_capture.proofs.PcapOutcomes.{cases_same}
-use Rattle.dbus_capture.proofs.SectionLaws.{block_ends}
+use Rattle.dbus_capture.proofs.SectionLaws.{block_ends, order_in, interfaces_in, order_last, interfaces_last}
 use Rattle.dbus_capture.proofs.StepLaws.{run-append, given-append, opens}
 use Rattle.dbus_capture.proofs.WordLaws.{are_drop}
 use Rattle.dbus_capture.proofs.EndLaws.{FailsAt, fails_as, fails_from, within_held, run_nothing, given_nothing}
@@ -61,15 +61,6 @@ first_of s a order interfaces bytes w are some =
     ]
 
 -- ---- all that follows
-
--- the order and the interfaces after sections
-abbrev order_in : ByteOrder → List FileSection → ByteOrder
-order_in order [] = order
-order_in order (x ∷ sections) = order_in x.order sections
-
-abbrev interfaces_in : List Interface → List FileSection → List Interface
-interfaces_in interfaces [] = interfaces
-interfaces_in interfaces (x ∷ sections) = interfaces_in (interfaces_all [] x.blocks) sections
 
 -- the bytes are blocks of the section, and then sections
 record AllBlocks (s : Scan) (order : ByteOrder) (interfaces : List Interface) (bytes : List ℕ) : Type 0 where
@@ -288,14 +279,6 @@ outcome_of (suc n) s a order interfaces (x ∷ xs) low w are =
     ]
 
 -- ---- a file
-
-order_last : (x : FileSection) (sections : List FileSection) → order_in x.order sections ≡ (last_section x sections).order
-order_last x [] = refl
-order_last x (y ∷ sections) = order_last y sections
-
-interfaces_last : (x : FileSection) (sections : List FileSection) → interfaces_in (interfaces_all [] x.blocks) sections ≡ interfaces_all [] (last_section x sections).blocks
-interfaces_last x [] = refl
-interfaces_last x (y ∷ sections) = interfaces_last y sections
 
 abbrev HasOutcome : Scan → List ℕ → Type 0
 HasOutcome s bytes = IsPcapngOutcome bytes (given s bytes) (ended (run s bytes)).fault

@@ -11,7 +11,7 @@ use Rattle.dbus_capture.specs.Scans.{place, fresh, refused}
 use Rattle.dbus_capture.specs.Heads.{record_time, packet_of, passed_over}
 use Rattle.dbus_capture.specs.Steps.{run, told, given, ended}
 use Rattle.dbus_capture.specs.PcapFiles.{PcapHeader, PcapPacket, header_bytes, packet_header_bytes, FitsHeader, FitsPacket}
-use Rattle.dbus_capture.specs.CutPackets.{CutPacket, cut_header_bytes, cut_packets_bytes, FitsCutPacket, AllFitCutPackets, is_cut, whole_payload, cut_count, IsReadPast}
+use Rattle.dbus_capture.specs.CutPackets.{Captured, is_cut, whole_payload, cut_count, IsReadPast, CutPacket, cut_header_bytes, cut_packets_bytes, cut_pcap_bytes, captures, FitsCutPacket, AllFitCutPackets}
 use Rattle.dbus_capture.proofs.NumberLaws.{u32_size, u32_after, u32_last}
 use Rattle.dbus_capture.proofs.StepLaws.{run-append, given-append, run_skips}
 use Rattle.dbus_capture.proofs.PcapLaws.{Between, record_taken, packet_taken, after, after_between, order_after}
@@ -100,15 +100,18 @@ module _ (s : Scan) (p : CutPacket) (b : Between s) (passes : s.passes_cut ≡ t
 
 -- ---- any packet
 
+abbrev as_captured : CutPacket → Captured
+as_captured p = record { original = p.original; bytes = p.bytes }
+
 -- it was taken
 record Taken (s : Scan) (p : CutPacket) : Type 0 where
   final : Scan
   ran : run s (cut_header_bytes s.order p ++ p.bytes) ≡ final
-  gave : given s (cut_header_bytes s.order p ++ p.bytes) ≡ cond (is_cut p) [] p.bytes
+  gave : given s (cut_header_bytes s.order p ++ p.bytes) ≡ cond (is_cut (as_captured p)) [] p.bytes
   between : Between final
   passes : final.passes_cut ≡ true
   order_is : final.order ≡ s.order
-  counted : final.cut ≡ place (s.cut + cond (is_cut p) 1 0)
+  counted : final.cut ≡ place (s.cut + cond (is_cut (as_captured p)) 1 0)
 
 cut_after : (s : Scan) (p : PcapPacket) → (after s p).cut ≡ s.cut
 unfolding after
@@ -119,7 +122,7 @@ taken s p b passes low f =
     elim (cases_lt (length p.bytes) p.original) [
       | inl short ↦
           let law = cut_taken s p b passes f short in
-          let cut : is_cut p ≡ true = lt_true (length p.bytes) p.original short in
+          let cut : is_cut (as_captured p) ≡ true = lt_true (length p.bytes) p.original short in
           record {
             final = past s p;
             ran = law.0;
@@ -138,7 +141,7 @@ taken s p b passes low f =
           let spelled : cut_header_bytes s.order p ≡ packet_header_bytes s.order q =
           ap (λ (n : ℕ). u32_bytes s.order p.seconds ++ (u32_bytes s.order p.fraction ++ (u32_bytes s.order (length p.bytes) ++ u32_bytes s.order n))) same in
           let law = packet_taken s q b fits in
-          let whole : is_cut p ≡ false = lt_false (length p.bytes) p.original all in
+          let whole : is_cut (as_captured p) ≡ false = lt_false (length p.bytes) p.original all in
           let none : s.cut ≡ s.cut + 0 = omega arith in
           record {
             final = after s q;
@@ -156,9 +159,9 @@ taken s p b passes low f =
 record AllTaken (s : Scan) (order : ByteOrder) (packets : List CutPacket) : Type 0 where
   final : Scan
   ran : run s (cut_packets_bytes order packets) ≡ final
-  gave : given s (cut_packets_bytes order packets) ≡ whole_payload packets
+  gave : given s (cut_packets_bytes order packets) ≡ whole_payload (captures packets)
   between : Between final
-  counted : final.cut ≡ place (s.cut + cut_count packets)
+  counted : final.cut ≡ place (s.cut + cut_count (captures packets))
 
 place_twice : (a b c : ℕ) → place (place (a + b) + c) ≡ place (a + (b + c))
 place_twice a b c = omega arith
@@ -173,15 +176,15 @@ all_taken s order (p ∷ packets) o b passes low f =
     let t = taken s p b passes low f.0 in
     let one = cut_header_bytes s.order p ++ p.bytes in
     let rest = cut_packets_bytes order packets in
-    let more = all_taken t.final order packets (t.order_is ∙ o) t.between t.passes (t.counted ∙ place_same (s.cut + cond (is_cut p) 1 0) ∙ ap place (sym t.counted)) f.1 in
+    let more = all_taken t.final order packets (t.order_is ∙ o) t.between t.passes (t.counted ∙ place_same (s.cut + cond (is_cut (as_captured p)) 1 0) ∙ ap place (sym t.counted)) f.1 in
     let regroup : cut_packets_bytes order (p ∷ packets) ≡ one ++ rest =
     ap (λ (v : ByteOrder). cut_header_bytes v p ++ (p.bytes ++ rest)) (sym o) ∙ sym (append_assoc (cut_header_bytes s.order p) p.bytes rest) in
     record {
       final = more.final;
       ran = ap (run s) regroup ∙ run-append s one rest ∙ ap (λ (v : Scan). run v rest) t.ran ∙ more.ran;
-      gave = ap (given s) regroup ∙ given-append s one rest ∙ ap (λ l. l ++ given (run s one) rest) t.gave ∙ ap (λ (v : Scan). cond (is_cut p) [] p.bytes ++ given v rest) t.ran ∙ ap (λ l. cond (is_cut p) [] p.bytes ++ l) more.gave;
+      gave = ap (given s) regroup ∙ given-append s one rest ∙ ap (λ l. l ++ given (run s one) rest) t.gave ∙ ap (λ (v : Scan). cond (is_cut (as_captured p)) [] p.bytes ++ given v rest) t.ran ∙ ap (λ l. cond (is_cut (as_captured p)) [] p.bytes ++ l) more.gave;
       between = more.between;
-      counted = more.counted ∙ ap (λ (n : ℕ). place (n + cut_count packets)) t.counted ∙ place_twice s.cut (cond (is_cut p) 1 0) (cut_count packets);
+      counted = more.counted ∙ ap (λ (n : ℕ). place (n + cut_count (captures packets))) t.counted ∙ place_twice s.cut (cond (is_cut (as_captured p)) 1 0) (cut_count (captures packets));
     }
 
 -- ---- the file
@@ -190,7 +193,7 @@ opened_facts : (h : PcapHeader) → ((opened_file true h).passes_cut ≡ true) �
 unfolding opened_file
 opened_facts h = (refl, refl)
 
-pub read_past : (h : PcapHeader) (packets : List CutPacket) → FitsHeader h → AllFitCutPackets packets → IsReadPast h packets
+pub read_past : (h : PcapHeader) (packets : List CutPacket) → FitsHeader h → AllFitCutPackets packets → IsReadPast (cut_pcap_bytes h packets) (captures packets)
 read_past h packets f g =
     let s = fresh true Start in
     let front = header_bytes h in
@@ -201,9 +204,9 @@ read_past h packets f g =
     let none = facts.1 in
     let all = all_taken t h.order packets (order_of_file true h) (opened_between true h) facts.0 (none ∙ ap place (sym none)) g in
     let ran : run s (front ++ rest) ≡ all.final = run-append s front rest ∙ ap (λ (v : Scan). run v rest) one.0 ∙ all.ran in
-    let zero_more : 0 + cut_count packets ≡ cut_count packets = omega arith in
+    let zero_more : 0 + cut_count (captures packets) ≡ cut_count (captures packets) = omega arith in
     record {
       gives = given-append s front rest ∙ ap (λ l. l ++ given (run s front) rest) one.1 ∙ ap (λ (v : Scan). given v rest) one.0 ∙ all.gave;
       unfaulted = ap (λ (v : Scan). (ended v).fault) ran ∙ ap (λ (v : Scan). v.fault) (between_ends all.final all.between) ∙ all.between.unfaulted;
-      counted = ap (λ (v : Scan). v.cut) ran ∙ all.counted ∙ ap (λ (n : ℕ). place (n + cut_count packets)) none ∙ ap place zero_more;
+      counted = ap (λ (v : Scan). v.cut) ran ∙ all.counted ∙ ap (λ (n : ℕ). place (n + cut_count (captures packets))) none ∙ ap place zero_more;
     }

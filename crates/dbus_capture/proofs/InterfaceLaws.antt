@@ -15,12 +15,13 @@ use Rattle.dbus_capture.specs.Scans.{place, refused}
 use Rattle.dbus_capture.specs.Blocks.{padded, after_option, pass_option, option_in}
 use Rattle.dbus_capture.specs.Steps.{run, told, given}
 use Rattle.dbus_capture.specs.Reading.{Ready, InSection}
-use Rattle.dbus_capture.specs.BlockFiles.{FitsBody, InterfaceOption, option_bytes, options_bytes, FitsOption, AllFitOptions, with_option, with_options, end_bytes, FitsEnd, InterfaceBlock, block_bytes, block_body, interfaces_after, FitsBlock}
+use Rattle.dbus_capture.specs.BlockFiles.{FitsBody, framed_bytes, InterfaceOption, option_bytes, options_bytes, FitsOption, AllFitOptions, with_option, with_options, end_bytes, FitsEnd, InterfaceBlock, block_bytes, block_body, interfaces_after, FitsBlock}
 use Rattle.dbus_capture.proofs.NumberLaws.{u32_size, u16_size, u32_last, u16_after}
 use Rattle.dbus_capture.proofs.StepLaws.{run-append, given-append}
 use Rattle.dbus_capture.proofs.PcapOutcomes.{eq_is, eq_not, cases_same}
 use Rattle.dbus_capture.proofs.BlockTurns.{when_true, when_false, lt_false, takes_head, passes, opens_as}
-use Rattle.dbus_capture.proofs.BlockLaws.{Went, goes_on, respell, begins_block}
+use Rattle.dbus_capture.proofs.KeptLaws.{Kept, kept_then, kept_as, kept_moved, kept_still}
+use Rattle.dbus_capture.proofs.BlockLaws.{Went, Took, goes_on, respell, counts_as, begins_block, framed_size}
 
 -- a block of an interface, of whose options so many bytes are left
 record InOptions (t : Scan) (order : ByteOrder) (interfaces : List Interface) (total left : ℕ) (i : Interface) : Type 0 where
@@ -31,21 +32,26 @@ record InOptions (t : Scan) (order : ByteOrder) (interfaces : List Interface) (t
   rest_is : t.rest ≡ left
   interface_is : t.interface ≡ i
 
--- bytes of options were taken
-record WentOn (t : Scan) (bytes : List ℕ) (order : ByteOrder) (interfaces : List Interface) (total left : ℕ) (i : Interface) : Type 0 where
+-- bytes of options were taken, by which the place moves on by n
+record WentOn (t : Scan) (bytes : List ℕ) (order : ByteOrder) (interfaces : List Interface) (total left : ℕ) (i : Interface) (n : ℕ) : Type 0 where
   final : Scan
   ran : run t bytes ≡ final
   gave : given t bytes ≡ []
   stands : InOptions final order interfaces total left i
+  kept : Kept t final n 0 0
 
-went_both : (t : Scan) (xs ys : List ℕ) (order : ByteOrder) (interfaces : List Interface) (total left left' : ℕ) (i i' : Interface) → (w : WentOn t xs order interfaces total left i) → WentOn w.final ys order interfaces total left' i'
-    → WentOn t (xs ++ ys) order interfaces total left' i'
-went_both t xs ys order interfaces total left left' i i' w v = record {
+went_both : (t : Scan) (xs ys : List ℕ) (order : ByteOrder) (interfaces : List Interface) (total left left' : ℕ) (i i' : Interface) (n k : ℕ) → (w : WentOn t xs order interfaces total left i n) → WentOn w.final ys order interfaces total left' i' k
+    → WentOn t (xs ++ ys) order interfaces total left' i' (n + k)
+went_both t xs ys order interfaces total left left' i i' n k w v = record {
   final = v.final;
   ran = run-append t xs ys ∙ ap (λ (s : Scan). run s ys) w.ran ∙ v.ran;
   gave = given-append t xs ys ∙ ap (λ l. l ++ given (run t xs) ys) w.gave ∙ ap (λ (s : Scan). given s ys) w.ran ∙ v.gave;
   stands = v.stands;
+  kept = kept_then t w.final v.final n 0 0 k 0 0 w.kept v.kept;
 }
+
+moves_as : (t : Scan) (bytes : List ℕ) (order : ByteOrder) (interfaces : List Interface) (total left : ℕ) (i : Interface) (n k : ℕ) → n ≡ k → WentOn t bytes order interfaces total left i n → WentOn t bytes order interfaces total left i k
+moves_as t bytes order interfaces total left i n k e = subst (WentOn t bytes order interfaces total left i) e
 
 pub is_option : (left : ℕ) → 0 < left → after_option left ≡ stages.OptionHead
 is_option left h = when_false _ _ _ (eq_not left 0 (λ e. absurd (omega (arith, h, e))))
@@ -72,17 +78,19 @@ option_head_taken t order interfaces total left i code size s some c z =
 
 -- an option that is passed over
 passed : (t : Scan) (order : ByteOrder) (interfaces : List Interface) (total left more : ℕ) (i j : Interface) (size : ℕ) (bytes : List ℕ) → InOptions t order interfaces total left i → left ≡ 4 + (size + more) → length bytes ≡ size
-    → WentOn (pass_option t size j) bytes order interfaces total more j
+    → WentOn (pass_option t size j) bytes order interfaces total more j 0
 passed t order interfaces total left more i j size bytes s e n =
     let p = pass_option t size j in
     let rest : t.rest - 4 - size ≡ more = let r = s.rest_is in omega (arith, r, e) in
     let stage = ap after_option rest in
     let filed : is_filed p.head.stage ≡ true = filed_options (t.rest - 4 - size == 0) in
     let law = passes p [] bytes s.ready.unfaulted filed s.ready.give (sym n) in
+    let final : Scan = record p { give = 0; skip = 0 } in
     record {
-      final = record p { give = 0; skip = 0 };
+      final = final;
       ran = law.0;
       gave = law.1;
+      kept = kept_still p final refl refl refl refl;
       stands = record {
         ready = record { unfaulted = s.ready.unfaulted; head = ap begun stage; give = refl; skip = refl };
         order_is = s.order_is;
@@ -99,7 +107,7 @@ passed t order interfaces total left more i j size bytes s e n =
 
 -- the option of the resolution
 resolved : (t : Scan) (order : ByteOrder) (interfaces : List Interface) (total left more : ℕ) (i : Interface) (value filler : List ℕ) → InOptions t order interfaces total left i → left ≡ 8 + more → length value ≡ 1 → length filler ≡ 3
-    → WentOn (record t { head = begun stages.Resolution; next = place (t.next + 4); rest = t.rest - 8 }) (value ++ filler) order interfaces total more (record i { resolution = slice_index value 0 })
+    → WentOn (record t { head = begun stages.Resolution; next = place (t.next + 4); rest = t.rest - 8 }) (value ++ filler) order interfaces total more (record i { resolution = slice_index value 0 }) 4
 resolved t order interfaces total left more i [] filler s e v f = absurd (omega (arith, v))
 resolved t order interfaces total left more i (x ∷ xs) filler s e v f =
     let m : Scan = record t { head = begun stages.Resolution; next = place (t.next + 4); rest = t.rest - 8 } in
@@ -108,10 +116,12 @@ resolved t order interfaces total left more i (x ∷ xs) filler s e v f =
     let four : length bytes ≡ 4 = omega (arith, l, v, f) in
     let rest : t.rest - 8 ≡ more = let r = s.rest_is in omega (arith, r, e) in
     let law = takes_head m stages.Resolution bytes (record { unfaulted = s.ready.unfaulted; head = refl; give = s.ready.give; skip = s.ready.skip }) refl (omega (arith, four)) four in
+    let final : Scan = record m { head = begun (after_option (t.rest - 8)); next = place (m.next + 4); interface = record t.interface { resolution = x } } in
     record {
-      final = record m { head = begun (after_option (t.rest - 8)); next = place (m.next + 4); interface = record t.interface { resolution = x } };
+      final = final;
       ran = law.0;
       gave = law.1;
+      kept = kept_moved m final 4 refl refl refl refl;
       stands = record {
         ready = record { unfaulted = s.ready.unfaulted; head = ap (λ (n : ℕ). begun (after_option n)) rest; give = s.ready.give; skip = s.ready.skip };
         order_is = s.order_is;
@@ -134,7 +144,7 @@ pub not_end : (t : Scan) (code size : ℕ) → code ≢ 0 → padded size ≤ t.
 not_end t code size c h = when_false _ _ _ (eq_not code 0 c) ∙ when_false _ _ _ (lt_false (t.rest - 4) (padded size) h)
 
 option_taken : (t : Scan) (order : ByteOrder) (interfaces : List Interface) (total more : ℕ) (i : Interface) (o : InterfaceOption) → InOptions t order interfaces total (length (option_bytes order o) + more) i → FitsOption o
-    → WentOn t (option_bytes order o) order interfaces total more (with_option i o)
+    → WentOn t (option_bytes order o) order interfaces total more (with_option i o) (length (option_bytes order o))
 option_taken t order interfaces total more i o s f =
     let head = u16_bytes order o.code ++ u16_bytes order (length o.value) in
     let body = o.value ++ o.filler in
@@ -150,6 +160,7 @@ option_taken t order interfaces total more i o s f =
     let first = option_head_taken t order interfaces total (length (option_bytes order o) + more) i o.code (length o.value) s (omega (arith, left)) f.code f.size in
     let low : padded (length o.value) ≤ t.rest - 4 = let r = s.rest_is in omega (arith, r, left) in
     let to = first.0 ∙ not_end t o.code (length o.value) f.no_end low in
+    let all : 4 + padded (length o.value) + 0 ≡ length (option_bytes order o) = omega (arith, size) in
     elim (cases_same o.code 9) [
       | inl nine ↦
           let one = f.resolution nine in
@@ -159,7 +170,9 @@ option_taken t order interfaces total more i o s f =
           ∙ when_true _ (record t { head = begun stages.Resolution; next = place (t.next + 4); rest = t.rest - 8 }) (refused t 2 reasons.OptionLength) (eq_is (length o.value) 1 one) in
           let eight : length (option_bytes order o) + more ≡ 8 + more = let p : padded (length o.value) ≡ 4 = ap padded one in omega (arith, size, p) in
           let w = resolved t order interfaces total (length (option_bytes order o) + more) more i o.value o.filler s eight one three in
-          joined t head body order interfaces total more i o _ (to ∙ is) first.1 (record i { resolution = slice_index o.value 0 }) (sym (when_true _ _ _ (eq_is o.code 9 nine))) w
+          let m : Scan = record t { head = begun stages.Resolution; next = place (t.next + 4); rest = t.rest - 8 } in
+          let eight_all : 4 + 4 ≡ length (option_bytes order o) = let p : padded (length o.value) ≡ 4 = ap padded one in omega (arith, size, p) in
+          joined t head body order interfaces total more i o m 4 4 (to ∙ is) first.1 (record i { resolution = slice_index o.value 0 }) (sym (when_true _ _ _ (eq_is o.code 9 nine))) (kept_moved t m 4 refl refl refl refl) eight_all w
       | inr not_nine ↦ elim (cases_same o.code 14) [
         | inl shift ↦
             let is = when_false _ (cond (length o.value == 1) (record t { head = begun stages.Resolution; next = place (t.next + 4); rest = t.rest - 8 }) (refused t 2 reasons.OptionLength))
@@ -167,22 +180,26 @@ option_taken t order interfaces total more i o s f =
             ∙ when_true _ (pass_option t (padded (length o.value)) (record t.interface { has_offset = true })) (pass_option t (padded (length o.value)) t.interface) (eq_is o.code 14 shift)
             ∙ ap (λ (v : Interface). pass_option t (padded (length o.value)) (record v { has_offset = true })) s.interface_is in
             let w = passed t order interfaces total (length (option_bytes order o) + more) more i (record i { has_offset = true }) (padded (length o.value)) body s left body_size in
-            joined t head body order interfaces total more i o _ (to ∙ is) first.1 (record i { has_offset = true })
-            (sym (when_false _ _ _ (eq_not o.code 9 not_nine) ∙ when_true _ _ _ (eq_is o.code 14 shift))) w
+            let m = pass_option t (padded (length o.value)) (record i { has_offset = true }) in
+            joined t head body order interfaces total more i o m (4 + padded (length o.value)) 0 (to ∙ is) first.1 (record i { has_offset = true })
+            (sym (when_false _ _ _ (eq_not o.code 9 not_nine) ∙ when_true _ _ _ (eq_is o.code 14 shift))) (kept_moved t m (4 + padded (length o.value)) refl refl refl refl) all w
         | inr not_shift ↦
             let is = when_false _ (cond (length o.value == 1) (record t { head = begun stages.Resolution; next = place (t.next + 4); rest = t.rest - 8 }) (refused t 2 reasons.OptionLength))
             (cond (o.code == 14) (pass_option t (padded (length o.value)) (record t.interface { has_offset = true })) (pass_option t (padded (length o.value)) t.interface)) (eq_not o.code 9 not_nine)
             ∙ when_false _ (pass_option t (padded (length o.value)) (record t.interface { has_offset = true })) (pass_option t (padded (length o.value)) t.interface) (eq_not o.code 14 not_shift)
             ∙ ap (λ (v : Interface). pass_option t (padded (length o.value)) v) s.interface_is in
             let w = passed t order interfaces total (length (option_bytes order o) + more) more i i (padded (length o.value)) body s left body_size in
-            joined t head body order interfaces total more i o _ (to ∙ is) first.1 i (sym (when_false _ _ _ (eq_not o.code 9 not_nine) ∙ when_false _ _ _ (eq_not o.code 14 not_shift))) w
+            let m = pass_option t (padded (length o.value)) i in
+            joined t head body order interfaces total more i o m (4 + padded (length o.value)) 0 (to ∙ is) first.1 i (sym (when_false _ _ _ (eq_not o.code 9 not_nine) ∙ when_false _ _ _ (eq_not o.code 14 not_shift)))
+            (kept_moved t m (4 + padded (length o.value)) refl refl refl refl) all w
       ]
     ]
   where
-    joined : (t : Scan) (head body : List ℕ) (order : ByteOrder) (interfaces : List Interface) (total more : ℕ) (i : Interface) (o : InterfaceOption) (m : Scan) → run t head ≡ m → given t head ≡ [] → (j : Interface) → j ≡ with_option i o
-        → WentOn m body order interfaces total more j → WentOn t (head ++ body) order interfaces total more (with_option i o)
-    joined t head body order interfaces total more i o m e g j same w = record {
+    joined : (t : Scan) (head body : List ℕ) (order : ByteOrder) (interfaces : List Interface) (total more : ℕ) (i : Interface) (o : InterfaceOption) (m : Scan) (n k : ℕ) → run t head ≡ m → given t head ≡ [] → (j : Interface) → j ≡ with_option i o
+        → Kept t m n 0 0 → n + k ≡ length (head ++ body) → WentOn m body order interfaces total more j k → WentOn t (head ++ body) order interfaces total more (with_option i o) (length (head ++ body))
+    joined t head body order interfaces total more i o m n k e g j same kept all w = record {
       final = w.final;
+      kept = kept_as t w.final (n + k) 0 0 (length (head ++ body)) 0 0 all refl refl (kept_then t m w.final n 0 0 k 0 0 kept w.kept);
       ran = run-append t head body ∙ ap (λ (s : Scan). run s body) e ∙ w.ran;
       gave = given-append t head body ∙ ap (λ l. l ++ given (run t head) body) g ∙ ap (λ (s : Scan). given s body) e ∙ w.gave;
       stands = subst (InOptions w.final order interfaces total more) same w.stands;
@@ -190,24 +207,25 @@ option_taken t order interfaces total more i o s f =
 
 -- all options
 options_taken : (t : Scan) (order : ByteOrder) (interfaces : List Interface) (total more : ℕ) (i : Interface) (options : List InterfaceOption) → InOptions t order interfaces total (length (options_bytes order options) + more) i → AllFitOptions options
-    → WentOn t (options_bytes order options) order interfaces total more (with_options i options)
+    → WentOn t (options_bytes order options) order interfaces total more (with_options i options) (length (options_bytes order options))
 unfolding run given told
 options_taken t order interfaces total more i [] s f =
-    record { final = t; ran = refl; gave = refl; stands = subst (λ (n : ℕ). InOptions t order interfaces total n i) (let z : 0 + more ≡ more = omega arith in z) s }
+    record { final = t; ran = refl; gave = refl; stands = subst (λ (n : ℕ). InOptions t order interfaces total n i) (let z : 0 + more ≡ more = omega arith in z) s; kept = kept_still t t refl refl refl refl }
 options_taken t order interfaces total more i (o ∷ options) s f =
     let one = option_bytes order o in
     let others = options_bytes order options in
     let l = length-append one others in
     let regroup : length (one ++ others) + more ≡ length one + (length others + more) = omega (arith, l) in
     let w = option_taken t order interfaces total (length others + more) i o (subst (λ (n : ℕ). InOptions t order interfaces total n i) regroup s) f.0 in
-    went_both t one others order interfaces total (length others + more) more (with_option i o) (with_options (with_option i o) options) w
-    (options_taken w.final order interfaces total more (with_option i o) options w.stands f.1)
+    moves_as t _ order interfaces total more _ (length one + length others) (length (one ++ others)) (sym l)
+    (went_both t one others order interfaces total (length others + more) more (with_option i o) (with_options (with_option i o) options) _ _ w
+    (options_taken w.final order interfaces total more (with_option i o) options w.stands f.1))
 
 -- the end of the options
 end_taken : (t : Scan) (order : ByteOrder) (interfaces : List Interface) (total : ℕ) (i : Interface) (end : Option (List ℕ)) → InOptions t order interfaces total (length (end_bytes order end)) i → FitsEnd end
-    → WentOn t (end_bytes order end) order interfaces total 0 i
+    → WentOn t (end_bytes order end) order interfaces total 0 i (length (end_bytes order end))
 unfolding run given told
-end_taken t order interfaces total i None s f = record { final = t; ran = refl; gave = refl; stands = s }
+end_taken t order interfaces total i None s f = record { final = t; ran = refl; gave = refl; stands = s; kept = kept_still t t refl refl refl refl }
 end_taken t order interfaces total i (Some more) s f =
     let bytes = u16_bytes order 0 ++ more in
     let two = take 2 more in
@@ -227,8 +245,10 @@ end_taken t order interfaces total i (Some more) s f =
     let r = s.rest_is in
     let over = passes m [] rest s.ready.unfaulted refl s.ready.give (omega (arith, r, left)) in
     let regroup : bytes ≡ head ++ rest = ap (λ (v : List ℕ). u16_bytes order 0 ++ v) (sym (take-append-drop 2 more)) ∙ sym (append_assoc (u16_bytes order 0) two rest) in
+    let final : Scan = record m { give = 0; skip = 0 } in
     record {
-      final = record m { give = 0; skip = 0 };
+      final = final;
+      kept = kept_as t final t.rest 0 0 (length bytes) 0 0 r refl refl (kept_moved t final t.rest refl refl refl refl);
       ran = ap (run t) regroup ∙ run-append t head rest ∙ ap (λ (v : Scan). run v rest) to ∙ over.0;
       gave = ap (given t) regroup ∙ given-append t head rest ∙ ap (λ v. v ++ given (run t head) rest) law.1 ∙ ap (λ (v : Scan). given v rest) to ∙ over.1;
       stands = record {
@@ -244,15 +264,17 @@ end_taken t order interfaces total i (Some more) s f =
 -- ---- the block
 
 interface_ends : (t : Scan) (order : ByteOrder) (interfaces : List Interface) (total : ℕ) (i : Interface) → InOptions t order interfaces total 0 i → total < 2 ^ 32 → length interfaces < 64
-    → Went t (u32_bytes order total) order (interfaces ++ i ∷ []) []
+    → Went t (u32_bytes order total) order (interfaces ++ i ∷ []) [] 4 0 0
 interface_ends t order interfaces total i s low few =
     let w = u32_bytes order total in
     let size = u32_size order total in
     let law = takes_head t stages.InterfaceTrailer w s.ready refl (omega (arith, size)) size in
     let told : u32_at t.order 0 w ≡ total = ap (λ (v : ByteOrder). u32_at v 0 w) s.order_is ∙ u32_last order [] total 0 refl low in
     let room : nat_le 64 (length t.interfaces) ≡ false = ap (λ (v : List Interface). nat_le 64 (length v)) s.interfaces_are ∙ le_false 64 (length interfaces) few in
+    let final : Scan = record t { head = begun stages.Block; next = place (t.next + 4); interfaces = t.interfaces ++ t.interface ∷ [] } in
     record {
-      final = record t { head = begun stages.Block; next = place (t.next + 4); interfaces = t.interfaces ++ t.interface ∷ [] };
+      final = final;
+      kept = kept_moved t final 4 refl refl refl refl;
       ran = law.0 ∙ when_true _ _ _ (eq_is _ _ (told ∙ sym s.total_is)) ∙ when_false _ _ _ room;
       gave = law.1;
       stands = record {
@@ -265,12 +287,13 @@ interface_ends t order interfaces total i s low few =
     le_false : (a b : ℕ) → b < a → nat_le a b ≡ false
     le_false a b h = grind (arith, h)
 
-went_after : (t : Scan) (xs ys : List ℕ) (order : ByteOrder) (interfaces interfaces' : List Interface) (total left : ℕ) (i : Interface) → (w : WentOn t xs order interfaces total left i) → Went w.final ys order interfaces' [] → Went t (xs ++ ys) order interfaces' []
-went_after t xs ys order interfaces interfaces' total left i w v = goes_on t w.final xs ys order interfaces' [] w.ran w.gave v
+went_after : (t : Scan) (xs ys : List ℕ) (order : ByteOrder) (interfaces interfaces' : List Interface) (total left : ℕ) (i : Interface) (n k : ℕ) → (w : WentOn t xs order interfaces total left i n) → Went w.final ys order interfaces' [] k 0 0
+    → Went t (xs ++ ys) order interfaces' [] (n + k) 0 0
+went_after t xs ys order interfaces interfaces' total left i n k w v = goes_on t w.final xs ys order interfaces' [] n 0 0 k 0 0 w.ran w.gave w.kept v
 
 pub interface_read : (s : Scan) (order : ByteOrder) (interfaces : List Interface) (link_type reserved snap_length : ℕ) (options : List InterfaceOption) (end : Option (List ℕ)) → InSection s order interfaces → FitsBlock interfaces (InterfaceBlock link_type reserved snap_length options end)
     → FitsBody (block_body order (InterfaceBlock link_type reserved snap_length options end))
-    → Went s (block_bytes order (InterfaceBlock link_type reserved snap_length options end)) order (interfaces_after interfaces (InterfaceBlock link_type reserved snap_length options end)) []
+    → Took s (block_bytes order (InterfaceBlock link_type reserved snap_length options end)) order (interfaces_after interfaces (InterfaceBlock link_type reserved snap_length options end)) []
 interface_read s order interfaces link_type reserved snap_length options end i f b =
     let h = u16_bytes order link_type ++ (u16_bytes order reserved ++ u32_bytes order snap_length) in
     let spelled = options_bytes order options in
@@ -308,7 +331,12 @@ interface_read s order interfaces link_type reserved snap_length options end i f
     let w3 = interface_ends w2.final order interfaces total (with_options described options) w2.stands b.size f.4 in
     let w = u32_bytes order total in
     let interfaces' = interfaces ++ with_options described options ∷ [] in
-    let tail = went_after t spelled (ending ++ w) order interfaces interfaces' total (length ending) (with_options described options) w1 (went_after w1.final ending w order interfaces interfaces' total 0 (with_options described options) w2 w3) in
+    let one = length spelled in
+    let two = length ending in
+    let tail = went_after t spelled (ending ++ w) order interfaces interfaces' total two (with_options described options) one (two + 4) w1 (went_after w1.final ending w order interfaces interfaces' total 0 (with_options described options) two 4 w2 w3) in
     let regroup : (h ++ (spelled ++ ending)) ++ w ≡ h ++ (spelled ++ (ending ++ w)) = append_assoc h (spelled ++ ending) w ∙ ap (λ (v : List ℕ). h ++ v) (append_assoc spelled ending w) in
-    begins_block s 1 total m (body ++ w) order interfaces interfaces' [] i (omega arith) b.size (λ e. absurd (omega (arith, e))) opened
-    (respell m _ _ order interfaces' [] regroup (goes_on m t h (spelled ++ (ending ++ w)) order interfaces' [] law.0 law.1 tail))
+    let whole = framed_size order 1 body in
+    let moved : 8 + (8 + (one + (two + 4))) ≡ length (framed_bytes order 1 body) = omega (arith, whole, l, p, eight) in
+    counts_as s _ order interfaces' [] _ _ _ _ _ _ moved refl refl
+    (begins_block s 1 total m (body ++ w) order interfaces interfaces' [] 8 (8 + (one + (two + 4))) 0 0 i (omega arith) b.size (λ e. absurd (omega (arith, e))) opened (kept_moved s m 8 refl refl refl refl)
+    (respell m _ _ order interfaces' [] (8 + (one + (two + 4))) 0 0 regroup (goes_on m t h (spelled ++ (ending ++ w)) order interfaces' [] 8 0 0 (one + (two + 4)) 0 0 law.0 law.1 (kept_moved m t 8 refl refl refl refl) tail)))

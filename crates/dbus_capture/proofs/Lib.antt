@@ -10,6 +10,7 @@ pub mod PcapFaultLaws
 pub mod PcapOutcomes
 pub mod PacketLaws
 pub mod BlockTurns
+pub mod KeptLaws
 pub mod BlockLaws
 pub mod InterfaceLaws
 pub mod SectionLaws
@@ -23,3 +24,4 @@ pub mod InterfaceBlocks
 pub mod SectionBlocks
 pub mod BlockOutcomes
 pub mod CutLaws
+pub mod BlockPacketLaws

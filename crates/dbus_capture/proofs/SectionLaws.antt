@@ -1,5 +1,5 @@
 -- A pcapng file is read as it is spelled.
-use Rattle.std.proofs.Common.{◌≡◌, ◌⊎◌, inl, inr, ℕ, ◌+◌, ◌-◌, ◌<◌, ◌≤◌, ◌^◌, ◌%◌, Bool, true, false, cond, List, [], ◌∷◌, ◌++◌, length, None, Some, refl, sym, ap, ◌∙◌, arith, append_assoc, length-append}
+use Rattle.std.proofs.Common.{◌≡◌, ◌⊎◌, inl, inr, ℕ, ◌+◌, ◌-◌, ◌<◌, ◌≤◌, ◌^◌, ◌%◌, Bool, true, false, cond, List, [], ◌∷◌, ◌++◌, length, None, Some, refl, sym, ap, subst, ◌∙◌, arith, append_assoc, length-append}
 use Rattle.std.specs.Prelude.{◌||◌, ◌==◌}
 use Rattle.dbus_capture.specs.declared.byte_order.ByteOrder.{ByteOrder}
 use Rattle.dbus_capture.specs.declared.byte_order.ByteOrder.TheVariants.{Little, Big}
@@ -12,42 +12,53 @@ use Rattle.dbus_capture.specs.Stages.{is_raw, Heading, begun}
 use Rattle.dbus_capture.specs.Scans.{place, fresh, refused}
 use Rattle.dbus_capture.specs.Blocks.{is_length, order_mark, section_by, section_head, decoded, decoded_by}
 use Rattle.dbus_capture.specs.Steps.{Turn, Gathers, run, told, given, turn_of, may_end, ended}
-use Rattle.dbus_capture.specs.Reading.{IsRead, Ready, InSection}
-use Rattle.dbus_capture.specs.BlockFiles.{FitsBody, framed_bytes, FileBlock, InterfaceBlock, PacketBlock, ObsoleteBlock, SimpleBlock, OtherBlock, block_bytes, block_body, blocks_bytes, block_payload, blocks_payload, interfaces_after, FitsBlock, AllFitBlocks, FileSection, section_body, section_bytes, FitsSection, sections_bytes, sections_payload, AllFitSections}
-use Rattle.dbus_capture.specs.BlockFaults.{interfaces_all}
+use Rattle.dbus_capture.specs.Reading.{Ready, InSection}
+use Rattle.dbus_capture.specs.BlockFiles.{FitsBody, framed_bytes, FileBlock, InterfaceBlock, PacketBlock, ObsoleteBlock, SimpleBlock, OtherBlock, block_bytes, block_body, blocks_bytes, interfaces_after, FitsBlockIf, AllFitBlocksIf, FileSection, section_body, section_bytes, FitsSectionIf, sections_bytes, AllFitSectionsIf}
+use Rattle.dbus_capture.specs.CutPackets.{Captured, whole_payload}
+use Rattle.dbus_capture.specs.BlockPackets.{block_packets, blocks_packets, sections_packets}
+use Rattle.dbus_capture.specs.BlockFaults.{interfaces_all, last_section}
+use Rattle.dbus_capture.proofs.KeptLaws.{kept_then, kept_as, kept_moved, kept_still, payload_both, whole_both, cut_both}
 use Rattle.dbus_capture.proofs.NumberLaws.{u32_size, u16_size, u32_after, u16_after, part_after}
 use Rattle.dbus_capture.proofs.StepLaws.{run-append, given-append, opens, turn_gathers}
 use Rattle.dbus_capture.proofs.HeadLaws.{run_head}
 use Rattle.dbus_capture.proofs.PcapOutcomes.{eq_is}
 use Rattle.dbus_capture.proofs.BlockTurns.{when_true, both_true, length_ok, takes_head}
-use Rattle.dbus_capture.proofs.BlockLaws.{Went, goes_on, respell, went, other_read, enhanced_read, obsolete_read, simple_read}
+use Rattle.dbus_capture.proofs.BlockLaws.{Went, Took, Takes, goes_on, respell, counts_as, went, framed_size, other_read, enhanced_read, obsolete_read, simple_read}
 use Rattle.dbus_capture.proofs.InterfaceLaws.{interface_read}
+
+-- bytes that were taken, and then more
+took_then : (s : Scan) (xs ys : List ℕ) (order order' : ByteOrder) (interfaces interfaces' : List Interface) (ps qs : List Captured) → (w : Took s xs order interfaces ps) → Took w.final ys order' interfaces' qs → Took s (xs ++ ys) order' interfaces' (ps ++ qs)
+took_then s xs ys order order' interfaces interfaces' ps qs w v = record {
+  final = v.final;
+  ran = run-append s xs ys ∙ ap (λ (t : Scan). run t ys) w.ran ∙ v.ran;
+  gave = given-append s xs ys ∙ ap (λ l. l ++ given (run s xs) ys) w.gave ∙ ap (λ (t : Scan). whole_payload ps ++ given t ys) w.ran ∙ ap (λ l. whole_payload ps ++ l) v.gave ∙ sym (payload_both ps qs);
+  stands = v.stands;
+  kept = kept_as s v.final _ _ _ _ _ _ (sym (length-append xs ys)) (sym (whole_both ps qs)) (sym (cut_both ps qs)) (kept_then s w.final v.final _ _ _ _ _ _ w.kept v.kept);
+}
+
+took_nothing : (s : Scan) (order : ByteOrder) (interfaces : List Interface) → InSection s order interfaces → Took s [] order interfaces []
+unfolding run given told
+took_nothing s order interfaces i = record { final = s; ran = refl; gave = refl; stands = i; kept = kept_still s s refl refl refl refl }
 
 -- ---- the blocks of a section
 
-block_read : (s : Scan) (order : ByteOrder) (interfaces : List Interface) (block : FileBlock) → InSection s order interfaces → FitsBlock interfaces block → FitsBody (block_body order block)
-    → Went s (block_bytes order block) order (interfaces_after interfaces block) (block_payload interfaces block)
-block_read s order interfaces (InterfaceBlock link_type reserved snap_length options end) i f b = interface_read s order interfaces link_type reserved snap_length options end i f b
-block_read s order interfaces (PacketBlock number high low original bytes rest) i f b = enhanced_read s order interfaces number high low original bytes rest i f b
-block_read s order interfaces (ObsoleteBlock number drops high low original bytes rest) i f b = obsolete_read s order interfaces number drops high low original bytes rest i f b
-block_read s order interfaces (SimpleBlock original bytes rest) i f b = simple_read s order interfaces original bytes rest i f b
-block_read s order interfaces (OtherBlock kind body) i f b = other_read s order interfaces kind body i f b
+module _ (P : Interface → ℕ → List ℕ → Type 0) (passes : Bool) (takes : Takes P passes) where
+  block_read : (s : Scan) (order : ByteOrder) (interfaces : List Interface) (block : FileBlock) → InSection s order interfaces → s.passes_cut ≡ passes → FitsBlockIf P interfaces block → FitsBody (block_body order block)
+      → Took s (block_bytes order block) order (interfaces_after interfaces block) (block_packets interfaces block)
+  block_read s order interfaces (InterfaceBlock link_type reserved snap_length options end) i e f b = interface_read s order interfaces link_type reserved snap_length options end i f b
+  block_read s order interfaces (PacketBlock number high low original bytes rest) i e f b = enhanced_read P passes takes s order interfaces i e number high low original bytes rest f b
+  block_read s order interfaces (ObsoleteBlock number drops high low original bytes rest) i e f b = obsolete_read P passes takes s order interfaces i e number drops high low original bytes rest f b
+  block_read s order interfaces (SimpleBlock original bytes rest) i e f b = simple_read P passes takes s order interfaces i e original bytes rest f b
+  block_read s order interfaces (OtherBlock kind body) i e f b = other_read s order interfaces kind body i f.0 f.1 f.2 f.3 f.4 f.5 b
 
-went_then : (s : Scan) (xs ys : List ℕ) (order order' : ByteOrder) (interfaces interfaces' : List Interface) (out more : List ℕ) → (w : Went s xs order interfaces out) → Went w.final ys order' interfaces' more → Went s (xs ++ ys) order' interfaces' (out ++ more)
-went_then s xs ys order order' interfaces interfaces' out more w v = record {
-  final = v.final;
-  ran = run-append s xs ys ∙ ap (λ (t : Scan). run t ys) w.ran ∙ v.ran;
-  gave = given-append s xs ys ∙ ap (λ l. l ++ given (run s xs) ys) w.gave ∙ ap (λ (t : Scan). out ++ given t ys) w.ran ∙ ap (λ l. out ++ l) v.gave;
-  stands = v.stands;
-}
-
-blocks_read : (s : Scan) (order : ByteOrder) (interfaces : List Interface) (blocks : List FileBlock) → InSection s order interfaces → AllFitBlocks order interfaces blocks → Went s (blocks_bytes order blocks) order (interfaces_all interfaces blocks) (blocks_payload interfaces blocks)
-unfolding run given told
-blocks_read s order interfaces [] i f = record { final = s; ran = refl; gave = refl; stands = i }
-blocks_read s order interfaces (block ∷ blocks) i f =
-    let w = block_read s order interfaces block i f.0 f.1 in
-    went_then s (block_bytes order block) (blocks_bytes order blocks) order order (interfaces_after interfaces block) (interfaces_all (interfaces_after interfaces block) blocks) (block_payload interfaces block) (blocks_payload (interfaces_after interfaces block) blocks) w
-    (blocks_read w.final order (interfaces_after interfaces block) blocks w.stands f.2)
+  blocks_read : (s : Scan) (order : ByteOrder) (interfaces : List Interface) (blocks : List FileBlock) → InSection s order interfaces → s.passes_cut ≡ passes → AllFitBlocksIf P order interfaces blocks
+      → Took s (blocks_bytes order blocks) order (interfaces_all interfaces blocks) (blocks_packets interfaces blocks)
+  blocks_read s order interfaces [] i e f = took_nothing s order interfaces i
+  blocks_read s order interfaces (block ∷ blocks) i e f =
+      let w = block_read s order interfaces block i e f.0 f.1 in
+      let later = interfaces_after interfaces block in
+      took_then s (block_bytes order block) (blocks_bytes order blocks) order order later (interfaces_all later blocks) (block_packets interfaces block) (blocks_packets later blocks) w
+      (blocks_read w.final order later blocks w.stands (w.kept.passes ∙ e) f.2)
 
 -- ---- the first block of a section
 
@@ -145,10 +156,10 @@ unfolding decoded
 decodes_section t h e = ap (λ (v : Heading). decoded_by v.stage t h) e
 
 -- what follows the head of a section's first block
-section_went : (t : Scan) (s : FileSection) → t.fault ≡ None → t.give ≡ 0 → FitsSection s
+section_went : (P : Interface → ℕ → List ℕ → Type 0) (t : Scan) (s : FileSection) → t.fault ≡ None → t.give ≡ 0 → FitsSectionIf P s
     → let total = 12 + length (section_body s) in
-    Went (record t { head = begun stages.Trailer; skip = total - 28; next = place (t.next + (total - 4)); order = s.order; total = total; interfaces = [] }) (s.options ++ u32_bytes s.order total) s.order [] []
-section_went t s u g f =
+    Went (record t { head = begun stages.Trailer; skip = total - 28; next = place (t.next + (total - 4)); order = s.order; total = total; interfaces = [] }) (s.options ++ u32_bytes s.order total) s.order [] [] 4 0 0
+section_went P t s u g f =
     let total = 12 + length (section_body s) in
     let head = u32_bytes s.order 0x1a2b3c4d ++ (u16_bytes s.order 1 ++ (u16_bytes s.order s.minor ++ s.size)) in
     let l = length-append head s.options in
@@ -156,12 +167,27 @@ section_went t s u g f =
     let left : total - 28 ≡ length s.options = omega (arith, l, a) in
     went _ [] s.options total s.order [] u refl g left refl f.body.size refl refl
 
+-- the whole of it
+section_took : (s t : Scan) (x : FileSection) (head : List ℕ) → {P : Interface → ℕ → List ℕ → Type 0} → t.fault ≡ None → t.give ≡ 0 → t.passes_cut ≡ s.passes_cut → t.next ≡ s.next → t.packets ≡ s.packets → t.cut ≡ s.cut
+    → let total = 12 + length (section_body x) in
+    let m : Scan = record t { head = begun stages.Trailer; skip = total - 28; next = place (t.next + (total - 4)); order = x.order; total = total; interfaces = [] } in
+    run s head ≡ m → given s head ≡ [] → FitsSectionIf P x → framed_bytes x.order 0x0a0d0d0a (section_body x) ≡ head ++ (x.options ++ u32_bytes x.order total) → 4 ≤ total
+    → Took s (framed_bytes x.order 0x0a0d0d0a (section_body x)) x.order [] []
+section_took s t x head {P} u g passes next packets cut to none f spelled least =
+    let total = 12 + length (section_body x) in
+    let m : Scan = record t { head = begun stages.Trailer; skip = total - 28; next = place (t.next + (total - 4)); order = x.order; total = total; interfaces = [] } in
+    let size = framed_size x.order 0x0a0d0d0a (section_body x) in
+    let moved : total - 4 + 4 ≡ length (framed_bytes x.order 0x0a0d0d0a (section_body x)) = omega (arith, size, least) in
+    counts_as s _ x.order [] [] _ _ _ _ _ _ moved refl refl
+    (respell s _ _ x.order [] [] _ _ _ spelled
+    (goes_on s m head (x.options ++ u32_bytes x.order total) x.order [] [] (total - 4) 0 0 4 0 0 to none (kept_moved s m (total - 4) passes (ap (λ (v : ℕ). place (v + (total - 4))) next) packets cut) (section_went P t x u g f)))
+
 regroup_section : (h8 h16 options w : List ℕ) → h8 ++ ((h16 ++ options) ++ w) ≡ (h8 ++ h16) ++ (options ++ w)
 regroup_section h8 h16 options w = ap (λ (l : List ℕ). h8 ++ l) (append_assoc h16 options w) ∙ sym (append_assoc h8 h16 (options ++ w))
 
 -- a section after another
-next_section : (s : Scan) (order : ByteOrder) (interfaces : List Interface) (x : FileSection) → InSection s order interfaces → FitsSection x → Went s (framed_bytes x.order 0x0a0d0d0a (section_body x)) x.order [] []
-next_section s order interfaces x i f =
+next_section : (P : Interface → ℕ → List ℕ → Type 0) (s : Scan) (order : ByteOrder) (interfaces : List Interface) (x : FileSection) → InSection s order interfaces → FitsSectionIf P x → Took s (framed_bytes x.order 0x0a0d0d0a (section_body x)) x.order [] []
+next_section P s order interfaces x i f =
     let o = x.order in
     let total = 12 + length (section_body x) in
     let h8 = u32_bytes o 0x0a0d0d0a ++ u32_bytes o total in
@@ -177,8 +203,7 @@ next_section s order interfaces x i f =
     let told = section_told o x.minor total x.size f.size f.minor f.body.size m f.body.whole (omega (arith, l, b)) in
     let to : run s (h8 ++ h16) ≡ _ = run-append s h8 h16 ∙ ap (λ (v : Scan). run v h16) to_t ∙ second.0 ∙ decodes_section m (h8 ++ h16) refl ∙ told in
     let none : given s (h8 ++ h16) ≡ [] = given-append s h8 h16 ∙ ap (λ v. v ++ given (run s h8) h16) first.1 ∙ ap (λ (v : Scan). given v h16) to_t ∙ second.1 in
-    respell s _ _ o [] [] (regroup_section h8 h16 x.options (u32_bytes o total))
-    (goes_on s _ (h8 ++ h16) (x.options ++ u32_bytes o total) o [] [] to none (section_went m x i.ready.unfaulted i.ready.give f))
+    section_took s m x (h8 ++ h16) i.ready.unfaulted i.ready.give refl refl refl refl to none f (regroup_section h8 h16 x.options (u32_bytes o total)) (omega (arith, l, b))
 
 -- the first section
 opens_section : (passes : Bool) (o : ByteOrder) (rest : List ℕ) → let t : Scan = record (fresh passes stages.Start) { head = begun stages.Section } in
@@ -186,8 +211,8 @@ opens_section : (passes : Bool) (o : ByteOrder) (rest : List ℕ) → let t : Sc
 opens_section passes Little rest = opens (fresh passes stages.Start) (record (fresh passes stages.Start) { head = begun stages.Section }) 10 (13 ∷ 13 ∷ 10 ∷ rest) refl refl
 opens_section passes Big rest = opens (fresh passes stages.Start) (record (fresh passes stages.Start) { head = begun stages.Section }) 10 (13 ∷ 13 ∷ 10 ∷ rest) refl refl
 
-first_section : (passes : Bool) (x : FileSection) → FitsSection x → Went (fresh passes stages.Start) (framed_bytes x.order 0x0a0d0d0a (section_body x)) x.order [] []
-first_section passes x f =
+first_section : (P : Interface → ℕ → List ℕ → Type 0) (passes : Bool) (x : FileSection) → FitsSectionIf P x → Took (fresh passes stages.Start) (framed_bytes x.order 0x0a0d0d0a (section_body x)) x.order [] []
+first_section P passes x f =
     let s = fresh passes stages.Start in
     let o = x.order in
     let total = 12 + length (section_body x) in
@@ -205,35 +230,54 @@ first_section passes x f =
     let told = section_told o x.minor total x.size f.size f.minor f.body.size m f.body.whole (omega (arith, l, b)) in
     let to : run s (h8 ++ h16) ≡ _ = ap (run s) regroup ∙ opening.0 ∙ ap (run m) (sym regroup) ∙ law.0 ∙ told in
     let none : given s (h8 ++ h16) ≡ [] = ap (given s) regroup ∙ opening.1 ∙ ap (given m) (sym regroup) ∙ law.1 in
-    respell s _ _ o [] [] (regroup_section h8 h16 x.options (u32_bytes o total))
-    (goes_on s _ (h8 ++ h16) (x.options ++ u32_bytes o total) o [] [] to none (section_went m x refl refl f))
+    section_took s m x (h8 ++ h16) refl refl refl refl refl refl to none f (regroup_section h8 h16 x.options (u32_bytes o total)) (omega (arith, l, b))
 
 -- ---- the file
 
--- the bytes of a file's sections were taken
-record Reached (s : Scan) (bytes out : List ℕ) : Type 0 where
-  order : ByteOrder
-  interfaces : List Interface
-  went : Went s bytes order interfaces out
+-- the order and the interfaces after sections
+abbrev pub order_in : ByteOrder → List FileSection → ByteOrder
+order_in order [] = order
+order_in order (x ∷ sections) = order_in x.order sections
 
-sections_read : (s : Scan) (order : ByteOrder) (interfaces : List Interface) (sections : List FileSection) → InSection s order interfaces → AllFitSections sections → Reached s (sections_bytes sections) (sections_payload sections)
-unfolding run given told
-sections_read s order interfaces [] i f = record { order = order; interfaces = interfaces; went = record { final = s; ran = refl; gave = refl; stands = i } }
-sections_read s order interfaces (x ∷ sections) i f =
-    let w = next_section s order interfaces x i f.0 in
-    let v = blocks_read w.final x.order [] x.blocks w.stands f.0.blocks in
-    let both = went_then s (framed_bytes x.order 0x0a0d0d0a (section_body x)) (blocks_bytes x.order x.blocks) x.order x.order [] (interfaces_all [] x.blocks) [] (blocks_payload [] x.blocks) w v in
-    let more = sections_read both.final x.order (interfaces_all [] x.blocks) sections both.stands f.1 in
-    record { order = more.order; interfaces = more.interfaces; went = went_then s (section_bytes x) (sections_bytes sections) x.order more.order (interfaces_all [] x.blocks) more.interfaces (blocks_payload [] x.blocks) (sections_payload sections) both more.went }
+abbrev pub interfaces_in : List Interface → List FileSection → List Interface
+interfaces_in interfaces [] = interfaces
+interfaces_in interfaces (x ∷ sections) = interfaces_in (interfaces_all [] x.blocks) sections
 
-file_read : (passes : Bool) (x : FileSection) (sections : List FileSection) → FitsSection x → AllFitSections sections → Reached (fresh passes stages.Start) (sections_bytes (x ∷ sections)) (sections_payload (x ∷ sections))
-file_read passes x sections f g =
-    let s = fresh passes stages.Start in
-    let w = first_section passes x f in
-    let v = blocks_read w.final x.order [] x.blocks w.stands f.blocks in
-    let both = went_then s (framed_bytes x.order 0x0a0d0d0a (section_body x)) (blocks_bytes x.order x.blocks) x.order x.order [] (interfaces_all [] x.blocks) [] (blocks_payload [] x.blocks) w v in
-    let more = sections_read both.final x.order (interfaces_all [] x.blocks) sections both.stands g in
-    record { order = more.order; interfaces = more.interfaces; went = went_then s (section_bytes x) (sections_bytes sections) x.order more.order (interfaces_all [] x.blocks) more.interfaces (blocks_payload [] x.blocks) (sections_payload sections) both more.went }
+pub order_last : (x : FileSection) (sections : List FileSection) → order_in x.order sections ≡ (last_section x sections).order
+order_last x [] = refl
+order_last x (y ∷ sections) = order_last y sections
+
+pub interfaces_last : (x : FileSection) (sections : List FileSection) → interfaces_in (interfaces_all [] x.blocks) sections ≡ interfaces_all [] (last_section x sections).blocks
+interfaces_last x [] = refl
+interfaces_last x (y ∷ sections) = interfaces_last y sections
+
+module _ (P : Interface → ℕ → List ℕ → Type 0) (passes : Bool) (takes : Takes P passes) where
+  with_blocks : (s : Scan) (x : FileSection) → s.passes_cut ≡ passes → FitsSectionIf P x → Took s (framed_bytes x.order 0x0a0d0d0a (section_body x)) x.order [] [] → Took s (section_bytes x) x.order (interfaces_all [] x.blocks) (blocks_packets [] x.blocks)
+  with_blocks s x e f w =
+      took_then s (framed_bytes x.order 0x0a0d0d0a (section_body x)) (blocks_bytes x.order x.blocks) x.order x.order [] (interfaces_all [] x.blocks) [] (blocks_packets [] x.blocks) w
+      (blocks_read P passes takes w.final x.order [] x.blocks w.stands (w.kept.passes ∙ e) f.blocks)
+
+  sections_read : (s : Scan) (order : ByteOrder) (interfaces : List Interface) (sections : List FileSection) → InSection s order interfaces → s.passes_cut ≡ passes → AllFitSectionsIf P sections
+      → Took s (sections_bytes sections) (order_in order sections) (interfaces_in interfaces sections) (sections_packets sections)
+  sections_read s order interfaces [] i e f = took_nothing s order interfaces i
+  sections_read s order interfaces (x ∷ sections) i e f =
+      let w = with_blocks s x e f.0 (next_section P s order interfaces x i f.0) in
+      let here = interfaces_all [] x.blocks in
+      took_then s (section_bytes x) (sections_bytes sections) x.order (order_in x.order sections) here (interfaces_in here sections) (blocks_packets [] x.blocks) (sections_packets sections) w
+      (sections_read w.final x.order here sections w.stands (w.kept.passes ∙ e) f.1)
+
+  pub file_read : (x : FileSection) (sections : List FileSection) → FitsSectionIf P x → AllFitSectionsIf P sections
+      → Took (fresh passes stages.Start) (sections_bytes (x ∷ sections)) (last_section x sections).order (interfaces_all [] (last_section x sections).blocks) (sections_packets (x ∷ sections))
+  file_read x sections f g =
+      let s = fresh passes stages.Start in
+      let w = with_blocks s x refl f (first_section P passes x f) in
+      let here = interfaces_all [] x.blocks in
+      let bytes = sections_bytes (x ∷ sections) in
+      let packets = sections_packets (x ∷ sections) in
+      subst (λ (v : ByteOrder). Took s bytes v (interfaces_all [] (last_section x sections).blocks) packets) (order_last x sections)
+      (subst (λ (v : List Interface). Took s bytes (order_in x.order sections) v packets) (interfaces_last x sections)
+      (took_then s (section_bytes x) (sections_bytes sections) x.order (order_in x.order sections) here (interfaces_in here sections) (blocks_packets [] x.blocks) (sections_packets sections) w
+      (sections_read w.final x.order here sections w.stands w.kept.passes g)))
 
 -- between two blocks a file may end
 pub block_ends : (s : Scan) → Ready s stages.Block → ended s ≡ s
@@ -242,12 +286,3 @@ block_ends s r =
     let raw : is_raw s.head.stage ≡ false = ap (λ (v : Heading). is_raw v.stage) r.head in
     let t : turn_of s ≡ Gathers = turn_gathers s.fault (is_raw s.head.stage) s.give s.skip r.unfaulted raw r.give r.skip in
     ap (λ (v : Turn). cond (may_end v s.head.stage s.head.bytes) s cut) t ∙ ap (λ (v : Heading). cond (may_end Gathers v.stage v.bytes) s cut) r.head
-
-pub pcapng_whole : (passes : Bool) (x : FileSection) (sections : List FileSection) → FitsSection x → AllFitSections sections → IsRead passes (sections_bytes (x ∷ sections)) (sections_payload (x ∷ sections))
-pcapng_whole passes x sections f g =
-    let r = file_read passes x sections f g in
-    let w = r.went in
-    record {
-      gives = w.gave;
-      unfaulted = ap (λ (v : Scan). (ended v).fault) w.ran ∙ ap (λ (v : Scan). v.fault) (block_ends w.final w.stands.ready) ∙ w.stands.ready.unfaulted;
-    }

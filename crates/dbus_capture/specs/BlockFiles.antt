@@ -113,17 +113,25 @@ IsUncut i original bytes = i.link_type ≡ 231 → original ≡ length bytes
 abbrev pub HasInterface : List Interface → ℕ → (Interface → Type 0) → Type 0
 HasInterface interfaces number P = (i : Interface) × (slice_get interfaces number ≡ Some i) × P i
 
+-- a block that has a spelling, if its packet has been captured so
+abbrev pub FitsBlockIf : (Interface → (original : ℕ) → List ℕ → Type 0) → List Interface → FileBlock → Type 0
+FitsBlockIf P interfaces (InterfaceBlock link_type reserved snap_length options end) = (link_type < 2 ^ 16) × (snap_length < 2 ^ 32) × AllFitOptions options × FitsEnd end × (length interfaces < 64)
+FitsBlockIf P interfaces (PacketBlock number high low original bytes rest) = (number < 2 ^ 32) × (length bytes < 2 ^ 32) × (padded (length bytes) ≤ length bytes + length rest) × (original < 2 ^ 32) × HasInterface interfaces number (λ i. P i original bytes)
+FitsBlockIf P interfaces (ObsoleteBlock number drops high low original bytes rest) = (number < 2 ^ 16) × (length bytes < 2 ^ 32) × (padded (length bytes) ≤ length bytes + length rest) × (original < 2 ^ 32) × HasInterface interfaces number (λ i. P i original bytes)
+FitsBlockIf P interfaces (SimpleBlock original bytes rest) = (original < 2 ^ 32) × (padded (length bytes) ≤ length bytes + length rest)
+    × HasInterface interfaces 0 (λ i. (captured_length i.snap_length original ≡ length bytes) × P i original bytes)
+FitsBlockIf P interfaces (OtherBlock kind body) = (kind < 2 ^ 32) × (kind ≢ 1) × (kind ≢ 2) × (kind ≢ 3) × (kind ≢ 6) × (kind ≢ 0x0a0d0d0a)
+
+abbrev pub AllFitBlocksIf : (Interface → (original : ℕ) → List ℕ → Type 0) → ByteOrder → List Interface → List FileBlock → Type 0
+AllFitBlocksIf P order interfaces [] = Unit {0}
+AllFitBlocksIf P order interfaces (block ∷ blocks) = FitsBlockIf P interfaces block × FitsBody (block_body order block) × AllFitBlocksIf P order (interfaces_after interfaces block) blocks
+
+-- the same of blocks whose D-Bus packets were captured whole
 abbrev pub FitsBlock : List Interface → FileBlock → Type 0
-FitsBlock interfaces (InterfaceBlock link_type reserved snap_length options end) = (link_type < 2 ^ 16) × (snap_length < 2 ^ 32) × AllFitOptions options × FitsEnd end × (length interfaces < 64)
-FitsBlock interfaces (PacketBlock number high low original bytes rest) = (number < 2 ^ 32) × (length bytes < 2 ^ 32) × (padded (length bytes) ≤ length bytes + length rest) × (original < 2 ^ 32) × HasInterface interfaces number (λ i. IsUncut i original bytes)
-FitsBlock interfaces (ObsoleteBlock number drops high low original bytes rest) = (number < 2 ^ 16) × (length bytes < 2 ^ 32) × (padded (length bytes) ≤ length bytes + length rest) × (original < 2 ^ 32) × HasInterface interfaces number (λ i. IsUncut i original bytes)
-FitsBlock interfaces (SimpleBlock original bytes rest) = (original < 2 ^ 32) × (padded (length bytes) ≤ length bytes + length rest)
-    × HasInterface interfaces 0 (λ i. (captured_length i.snap_length original ≡ length bytes) × IsUncut i original bytes)
-FitsBlock interfaces (OtherBlock kind body) = (kind < 2 ^ 32) × (kind ≢ 1) × (kind ≢ 2) × (kind ≢ 3) × (kind ≢ 6) × (kind ≢ 0x0a0d0d0a)
+FitsBlock interfaces block = FitsBlockIf IsUncut interfaces block
 
 abbrev pub AllFitBlocks : ByteOrder → List Interface → List FileBlock → Type 0
-AllFitBlocks order interfaces [] = Unit {0}
-AllFitBlocks order interfaces (block ∷ blocks) = FitsBlock interfaces block × FitsBody (block_body order block) × AllFitBlocks order (interfaces_after interfaces block) blocks
+AllFitBlocks order interfaces blocks = AllFitBlocksIf IsUncut order interfaces blocks
 
 -- the bytes of a packet, if its link type is 231, D-Bus
 abbrev pub bytes_by : List ℕ → Option Interface → List ℕ
@@ -157,11 +165,22 @@ section_body s = (u32_bytes s.order 0x1a2b3c4d ++ (u16_bytes s.order 1 ++ (u16_b
 abbrev pub section_bytes : FileSection → List ℕ
 section_bytes s = framed_bytes s.order 0x0a0d0d0a (section_body s) ++ blocks_bytes s.order s.blocks
 
-pub record FitsSection (s : FileSection) : Type 0 where
+pub record FitsSectionIf (P : Interface → (original : ℕ) → List ℕ → Type 0) (s : FileSection) : Type 0 where
   pub minor : (s.minor ≡ 0) ⊎ (s.minor ≡ 2)
   pub size : length s.size ≡ 8
   pub body : FitsBody (section_body s)
-  pub blocks : AllFitBlocks s.order [] s.blocks
+  pub blocks : AllFitBlocksIf P s.order [] s.blocks
+
+abbrev pub AllFitSectionsIf : (Interface → (original : ℕ) → List ℕ → Type 0) → List FileSection → Type 0
+AllFitSectionsIf P [] = Unit {0}
+AllFitSectionsIf P (s ∷ sections) = FitsSectionIf P s × AllFitSectionsIf P sections
+
+-- the same of sections whose D-Bus packets were captured whole
+abbrev pub FitsSection : FileSection → Type 0
+FitsSection s = FitsSectionIf IsUncut s
+
+abbrev pub AllFitSections : List FileSection → Type 0
+AllFitSections sections = AllFitSectionsIf IsUncut sections
 
 -- a file has one section or more
 abbrev pub sections_bytes : List FileSection → List ℕ
@@ -171,7 +190,3 @@ sections_bytes (s ∷ sections) = section_bytes s ++ sections_bytes sections
 abbrev pub sections_payload : List FileSection → List ℕ
 sections_payload [] = []
 sections_payload (s ∷ sections) = blocks_payload [] s.blocks ++ sections_payload sections
-
-abbrev pub AllFitSections : List FileSection → Type 0
-AllFitSections [] = Unit {0}
-AllFitSections (s ∷ sections) = FitsSection s × AllFitSections sections

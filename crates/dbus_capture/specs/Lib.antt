@@ -10,6 +10,7 @@ pub mod PcapFiles
 pub mod PcapFaults
 pub mod CutPackets
 pub mod BlockFiles
+pub mod BlockPackets
 pub mod BlockFaults
 pub mod Packets
 pub mod Reading

@@ -10,7 +10,8 @@ use Rattle.dbus_capture.specs.declared.interface.Interface.{Interface}
 use Rattle.dbus_capture.specs.declared.scan.Scan.{Scan}
 use Rattle.dbus_capture.specs.Numbers.{u32_bytes, u16_bytes}
 use Rattle.dbus_capture.specs.Blocks.{time_of}
-use Rattle.dbus_capture.specs.BlockFiles.{FileBlock, InterfaceBlock, PacketBlock, ObsoleteBlock, SimpleBlock, OtherBlock, block_kind, block_body}
+use Rattle.dbus_capture.specs.BlockFiles.{FileBlock, InterfaceBlock, PacketBlock, ObsoleteBlock, SimpleBlock, OtherBlock, block_kind, block_body, FileSection, sections_bytes}
+use Rattle.dbus_capture.specs.BlockPackets.{sections_packets}
 
 -- The packet of the bytes that were handed on last, after a read: the one that began last, if the
 -- read gave any, and the one before it otherwise.
@@ -72,11 +73,11 @@ packet_front order block = []
 abbrev pub block_front : ByteOrder → FileBlock → List ℕ
 block_front order block = (u32_bytes order (block_kind block) ++ u32_bytes order (12 + length (block_body order block))) ++ packet_front order block
 
--- of a packet whose block begins in this state
-abbrev pub block_packet_reported : Scan → Interface → FileBlock → Packet
-block_packet_reported s i block = record {
-  number = place (s.packets + 1);
-  at = place s.next;
+-- of a packet of this interface, whose block follows these sections
+abbrev pub pcapng_packet_reported : List FileSection → Interface → FileBlock → Packet
+pcapng_packet_reported sections i block = record {
+  number = place (length (sections_packets sections) + 1);
+  at = place (length (sections_bytes sections));
   time = packet_time i block;
   length = length (packet_bytes block);
 }

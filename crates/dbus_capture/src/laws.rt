@@ -4,19 +4,18 @@
 //! clause `part`.
 //!
 //! [`Source::read`]: dbus_device::Source::read
-ghost use Rattle.std.specs.Prelude.{◌≡◌, ◌<◌, ◌+◌, ℕ, ◌++◌, List, ◌∷◌, length, Bool, false, Some, None, slice_get};
+ghost use Rattle.std.specs.Prelude.{◌≡◌, ◌<◌, ◌+◌, ℕ, ◌++◌, List, [], ◌∷◌, length, Bool, false, Some, None, slice_get};
 ghost use Rattle.dbus_capture.specs.Stages.{first_stage, IsFirstOfStream};
 ghost use Rattle.dbus_capture.specs.Scans.{fresh};
 ghost use Rattle.dbus_capture.specs.Steps.{run, given, packet_given, ended};
-ghost use Rattle.dbus_capture.specs.Reading.{IsRead, InSection};
+ghost use Rattle.dbus_capture.specs.Reading.{IsRead};
 ghost use Rattle.dbus_capture.specs.PcapFiles.{PcapHeader, PcapPacket, FitsHeader, FitsPacket, AllFitPackets, packet_header_bytes, pcap_bytes, payload};
-ghost use Rattle.dbus_capture.specs.BlockFiles.{FileBlock, FitsBlock, FitsBody, block_body, FileSection, FitsSection, AllFitSections, sections_bytes, sections_payload};
+ghost use Rattle.dbus_capture.specs.BlockFiles.{FileBlock, FitsBlock, FitsBody, block_body, FileSection, FitsSectionIf, AllFitSectionsIf, FitsSection, AllFitSections, sections_bytes, sections_payload};
 ghost use Rattle.dbus_capture.specs.PcapFaults.{AreBytes, IsPcapOutcome};
-ghost use Rattle.dbus_capture.specs.CutPackets.{CutPacket, AllFitCutPackets, IsReadPast};
-ghost use Rattle.dbus_capture.specs.BlockFaults.{IsPcapngOutcome};
-ghost use Rattle.dbus_capture.specs.Packets.{Reports, IsTimed, interface_of, packet_bytes, pcap_packet_reported, block_front, block_packet_reported};
-ghost use Rattle.dbus_capture.specs.declared.scan.Scan.{Scan};
-ghost use Rattle.dbus_capture.specs.declared.byte_order.ByteOrder.{ByteOrder};
+ghost use Rattle.dbus_capture.specs.CutPackets.{CutPacket, AllFitCutPackets, cut_pcap_bytes, captures, IsReadPast};
+ghost use Rattle.dbus_capture.specs.BlockPackets.{IsPart, sections_packets};
+ghost use Rattle.dbus_capture.specs.BlockFaults.{interfaces_all, last_section, IsPcapngOutcome};
+ghost use Rattle.dbus_capture.specs.Packets.{Reports, IsTimed, interface_of, packet_bytes, pcap_packet_reported, block_front, pcapng_packet_reported};
 ghost use Rattle.dbus_capture.specs.declared.interface.Interface.{Interface};
 ghost use Rattle.dbus_capture.specs.declared.stage.Stage.TheVariants as stages;
 
@@ -41,7 +40,8 @@ pub fn pcap_outcome()
 /// the capture gives the bytes of the others, counts these, and there is no fault.
 pub fn cut_packets_are_passed_over()
     ensures { (header : PcapHeader) (packets : List CutPacket) →
-        FitsHeader header → AllFitCutPackets packets → IsReadPast header packets }
+        FitsHeader header → AllFitCutPackets packets →
+        IsReadPast (cut_pcap_bytes header packets) (captures packets) }
 {}
 
 /// A pcapng file of one section or more, all of whose packets were captured whole, is read whole:
@@ -50,6 +50,14 @@ pub fn pcapng_is_read()
     ensures { (passes_cut : Bool) (x : FileSection) (sections : List FileSection) →
         FitsSection x → AllFitSections sections →
         IsRead passes_cut (sections_bytes (x ∷ sections)) (sections_payload (x ∷ sections)) }
+{}
+
+/// A pcapng file some of whose packets of link type 231 were cut is read past these, if they are to
+/// be passed over: the capture gives the bytes of the others, counts these, and there is no fault.
+pub fn cut_blocks_are_passed_over()
+    ensures { (x : FileSection) (sections : List FileSection) →
+        FitsSectionIf IsPart x → AllFitSectionsIf IsPart sections →
+        IsReadPast (sections_bytes (x ∷ sections)) (sections_packets (x ∷ sections)) }
 {}
 
 /// Bytes that begin as a pcapng file are such a file, and the capture gives the bytes of its packets
@@ -74,16 +82,19 @@ pub fn pcap_packet_is_reported()
         (pcap_packet_reported header packets packet) }
 {}
 
-/// The same of a packet in a block of a pcapng file, from the start of its block: its number and
-/// its place count on from there. A simple packet block has no time.
+/// The same of a packet in a block that follows whole sections of a pcapng file. A simple packet
+/// block has no time.
 pub fn pcapng_packet_is_reported()
-    ensures { (s : Scan) (order : ByteOrder) (interfaces : List Interface) (i : Interface)
-        (block : FileBlock) (front back : List ℕ) →
-        InSection s order interfaces → FitsBlock interfaces block →
-        FitsBody (block_body order block) → IsTimed block →
+    ensures { (passes_cut : Bool) (x : FileSection) (sections : List FileSection) (i : Interface)
+        (block : FileBlock) (front back : List ℕ) → let last = last_section x sections in
+        let interfaces = interfaces_all [] last.blocks in
+        FitsSection x → AllFitSections sections → FitsBlock interfaces block →
+        FitsBody (block_body last.order block) → IsTimed block →
         slice_get interfaces (interface_of block) ≡ Some i → i.link_type ≡ 231 →
         packet_bytes block ≡ front ++ back →
-        Reports (run s (block_front order block ++ front)) (block_packet_reported s i block) }
+        Reports (run (fresh passes_cut stages.Start) (sections_bytes (x ∷ sections) ++
+        (block_front last.order block ++ front)))
+        (pcapng_packet_reported (x ∷ sections) i block) }
 {}
 
 /// Each byte of a packet of a pcap file is of the packet of its number, place, time and length, as a

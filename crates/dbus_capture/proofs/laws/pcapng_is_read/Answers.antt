@@ -1,4 +1,4 @@
-use Rattle.dbus_capture.proofs.SectionLaws.{pcapng_whole}
+use Rattle.dbus_capture.proofs.BlockPacketLaws.{pcapng_whole}
 use Rattle.dbus_capture.proofs.laws.pcapng_is_read.Goals as goal
 
 pub returns : goal.returns

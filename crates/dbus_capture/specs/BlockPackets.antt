@@ -1,0 +1,33 @@
+-- Which D-Bus packets a pcapng file has, if some of them were cut. "PCAP Now Generic (pcapng) Capture
+-- File Format", "Block Definition".
+use Rattle.std.specs.Prelude.{◌≡◌, ◌==◌, ◌≤◌, ℕ, if◌then◌else◌, List, [], ◌∷◌, ◌++◌, length, slice_get, Option, Some, None}
+use Rattle.dbus_capture.specs.declared.interface.Interface.{Interface}
+use Rattle.dbus_capture.specs.CutPackets.{Captured}
+use Rattle.dbus_capture.specs.BlockFiles.{FileBlock, InterfaceBlock, PacketBlock, ObsoleteBlock, SimpleBlock, OtherBlock, interfaces_after, FileSection}
+
+-- no more of a D-Bus packet was captured than it had
+abbrev pub IsPart : Interface → (original : ℕ) → List ℕ → Type 0
+IsPart i original bytes = i.link_type ≡ 231 → length bytes ≤ original
+
+-- a packet, if its link type is 231, D-Bus
+abbrev pub packet_by : (original : ℕ) → List ℕ → Option Interface → List Captured
+packet_by original bytes None = []
+packet_by original bytes (Some i) = if i.link_type == 231 then record { original = original; bytes = bytes } ∷ [] else []
+
+-- the D-Bus packet of a block
+abbrev pub block_packets : List Interface → FileBlock → List Captured
+block_packets interfaces (InterfaceBlock link_type reserved snap_length options end) = []
+block_packets interfaces (PacketBlock number high low original bytes rest) = packet_by original bytes (slice_get interfaces number)
+block_packets interfaces (ObsoleteBlock number drops high low original bytes rest) = packet_by original bytes (slice_get interfaces number)
+block_packets interfaces (SimpleBlock original bytes rest) = packet_by original bytes (slice_get interfaces 0)
+block_packets interfaces (OtherBlock kind body) = []
+
+-- those of blocks
+abbrev pub blocks_packets : List Interface → List FileBlock → List Captured
+blocks_packets interfaces [] = []
+blocks_packets interfaces (block ∷ blocks) = block_packets interfaces block ++ blocks_packets (interfaces_after interfaces block) blocks
+
+-- those of sections
+abbrev pub sections_packets : List FileSection → List Captured
+sections_packets [] = []
+sections_packets (s ∷ sections) = blocks_packets [] s.blocks ++ sections_packets sections
