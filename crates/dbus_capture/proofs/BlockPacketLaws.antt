@@ -22,9 +22,9 @@ use Rattle.dbus_capture.proofs.SectionLaws.{file_read, block_ends}
 
 -- ---- packets that were captured whole
 
-record AreWhole (packets : List Captured) (out : List ℕ) : Type 0 where
-  payload : whole_payload packets ≡ out
-  count : whole_count packets ≡ length packets
+pub record AreWhole (packets : List Captured) (out : List ℕ) : Type 0 where
+  pub payload : whole_payload packets ≡ out
+  pub count : whole_count packets ≡ length packets
 
 whole_then : (xs ys : List Captured) (out more : List ℕ) → AreWhole xs out → AreWhole ys more → AreWhole (xs ++ ys) (out ++ more)
 whole_then xs ys out more a b =
@@ -73,11 +73,11 @@ blocks_whole x interfaces [] f = record { payload = refl; count = refl }
 blocks_whole x interfaces (block ∷ blocks) f =
     whole_then (block_packets interfaces block) (blocks_packets (interfaces_after interfaces block) blocks) _ _ (block_whole interfaces block f.0) (blocks_whole x (interfaces_after interfaces block) blocks f.2)
 
-sections_whole : (sections : List FileSection) → AllFitSections sections → AreWhole (sections_packets sections) (sections_payload sections)
+pub sections_whole : (sections : List FileSection) → AllFitSections sections → AreWhole (sections_packets sections) (sections_payload sections)
 sections_whole [] f = record { payload = refl; count = refl }
 sections_whole (x ∷ sections) f = whole_then (blocks_packets [] x.blocks) (sections_packets sections) _ _ (blocks_whole x [] x.blocks f.0.blocks) (sections_whole sections f.1)
 
-takes_uncut : (passes : Bool) → Takes IsUncut passes
+pub takes_uncut : (passes : Bool) → Takes IsUncut passes
 takes_uncut passes i original bytes f e = inl (f e)
 
 takes_part : Takes IsPart true

@@ -135,10 +135,11 @@ module _ (s : Scan) (a : ℕ) (order : ByteOrder) (interfaces : List Interface) 
   pub form_fails : (k : ℕ) (reason : CaptureReason) (part : List ℕ) → IsFormFault f order interfaces bytes k reason part → FailsAt s bytes (a + k) reason part → BlockFails s a order interfaces bytes
   form_fails k reason part g e = record { within = k; reason = reason; part = part; faulty = inr (inr (eight, f, is, g)); fails = e }
 
+  pub length_told : HasNoLength (least_length f) (u32_at order 4 bytes) → FailsAt s bytes (a + 4) BlockLength []
+  length_told h = fails_head s (refused s 4 BlockLength) bytes 8 (a + 4) BlockLength (opens.0 ∙ short_block s f (u32_at order 4 bytes) h) opens.1 (refused_at s a 4 (a + 4) BlockLength w.next refl)
+
   pub bad_length : HasNoLength (least_length f) (u32_at order 4 bytes) → BlockFails s a order interfaces bytes
-  bad_length h =
-      form_fails 4 BlockLength [] (refl, h, refl)
-      (fails_head s (refused s 4 BlockLength) bytes 8 (a + 4) BlockLength (opens.0 ∙ short_block s f (u32_at order 4 bytes) h) opens.1 (refused_at s a 4 (a + 4) BlockLength w.next refl))
+  bad_length h = form_fails 4 BlockLength [] (refl, h, refl) (length_told h)
 
   module _ (are : AreBytes bytes) (has : HasLength (least_length f) (u32_at order 4 bytes)) (sound : IsSound f order interfaces bytes) (twelve : 12 ≤ u32_at order 4 bytes) where
     -- the bytes end in it

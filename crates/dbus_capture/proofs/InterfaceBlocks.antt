@@ -6,6 +6,7 @@ use Rattle.std.proofs.lemmas.List.{length-take-le, length-drop}
 use Rattle.std.proofs.Math.Seq.{take-append-add}
 use Rattle.dbus_capture.specs.declared.byte_order.ByteOrder.{ByteOrder}
 use Rattle.dbus_capture.specs.declared.stage.Stage.TheVariants as stages
+use Rattle.dbus_capture.specs.declared.fault.CaptureReason.{CaptureReason}
 use Rattle.dbus_capture.specs.declared.fault.CaptureReason.TheVariants.{BlockLengths, OptionLength, TooManyInterfaces, Truncated}
 use Rattle.dbus_capture.specs.declared.interface.Interface.{Interface}
 use Rattle.dbus_capture.specs.declared.scan.Scan.{Scan}
@@ -15,14 +16,15 @@ use Rattle.dbus_capture.specs.Scans.{place}
 use Rattle.dbus_capture.specs.Blocks.{after_option}
 use Rattle.dbus_capture.specs.PcapFaults.{AreBytes}
 use Rattle.dbus_capture.specs.BlockFiles.{options_bytes, end_bytes, FitsEnd, with_options, FileBlock, InterfaceBlock, OtherBlock, block_body, block_bytes}
-use Rattle.dbus_capture.specs.BlockFaults.{HasLength, IsOptionsEnd, OfInterface, OfPacket, OfOther, Form, IsOf, least_length, IsSound}
+use Rattle.dbus_capture.specs.BlockFaults.{HasLength, HasOptions, IsOptionFault, IsOptionsEnd, OfInterface, OfPacket, OfOther, Form, IsOf, least_length, IsSound}
 use Rattle.dbus_capture.proofs.ByteLaws.{bytes_back}
 use Rattle.dbus_capture.proofs.PcapOutcomes.{eq_is, eq_not, cases_same}
 use Rattle.dbus_capture.proofs.BlockTurns.{le_true, when_true, when_false, takes_head, length_ok, opens_as}
 use Rattle.dbus_capture.proofs.WordLaws.{u32_within, u16_within, are_drop, u32_low, u16_low, word, half_first, parts}
-use Rattle.dbus_capture.proofs.EndLaws.{fails_as, place_more, ends_within, Reached, reach_more, fails_from}
+use Rattle.dbus_capture.proofs.EndLaws.{FailsAt, fails_as, place_more, ends_within, Reached, reach_more, fails_from}
 use Rattle.dbus_capture.proofs.TrailerLaws.{At, Stepped, Stands, ends_cut, last_is, fails_end, closes, wrong_end, right_end, body_of}
-use Rattle.dbus_capture.proofs.OptionLaws.{InOptions, OptionsTaken, OptionsOutcome, options_outcome}
+use Rattle.dbus_capture.proofs.OptionLaws.{InOptions, OptionsTaken, OptionFails, OptionsCut, OptionsOutcome, options_outcome}
+use Rattle.dbus_capture.proofs.OptionsOnly.{same_options, no_both}
 use Rattle.dbus_capture.proofs.FirstBlocks.{le_false, BlockStep, BlockFails, BlockOutcome, opened, form_fails, bad_length, length_cases, cut_block, unequal_block, spelled_is, spelled_size, body_fitting}
 use Rattle.dbus_capture.proofs.PacketBlocks.{packet_outcome}
 
@@ -57,15 +59,20 @@ module _ (s : Scan) (a : ℕ) (order : ByteOrder) (interfaces : List Interface) 
   none_given : take passing.give (drop 8 bytes) ≡ []
   none_given = ap (λ (v : ℕ). take v (drop 8 bytes)) w.stands.ready.give
 
+  pub other_cut : length bytes < other_total → FailsAt s bytes (a + length bytes) Truncated []
+  other_cut short = fails_as s bytes _ _ Truncated _ _ refl none_given (ends_cut s a bytes stages.Trailer order interfaces other_total 8 passing other_stands refl (λ held. refl) refl short)
+
+  pub other_unequal : other_total ≤ length bytes → u32_at order (other_total - 4) bytes ≢ other_total → FailsAt s bytes (a + (other_total - 4)) BlockLengths []
+  other_unequal enough d = fails_as s bytes _ _ BlockLengths _ _ refl none_given (wrong_end s a bytes order interfaces other_total 8 passing other_stands enough d)
+
   pub other_outcome : BlockOutcome s a order interfaces bytes
   other_outcome =
       elim (cases_lt (length bytes) other_total) [
         | inl short ↦
-            inl (cut_block s a order interfaces bytes w eight OfOther is are has tt has.enough (take passing.give (drop 8 bytes)) short
-            (ends_cut s a bytes stages.Trailer order interfaces other_total 8 passing other_stands refl (λ held. refl) refl short) none_given)
+            inl (cut_block s a order interfaces bytes w eight OfOther is are has tt has.enough [] short (other_cut short) refl)
         | inr enough ↦ elim (cases_same (u32_at order (other_total - 4) bytes) other_total) [
           | inr d ↦
-              inl (unequal_block s a order interfaces bytes w eight OfOther is are has tt has.enough (take passing.give (drop 8 bytes)) enough d (wrong_end s a bytes order interfaces other_total 8 passing other_stands enough d) none_given)
+              inl (unequal_block s a order interfaces bytes w eight OfOther is are has tt has.enough [] enough d (other_unequal enough d) refl)
           | inl same ↦
               let block = OtherBlock (u32_at order 0 bytes) (body_of bytes other_total) in
               inr (record {
@@ -123,17 +130,24 @@ module _ (s : Scan) (a : ℕ) (order : ByteOrder) (interfaces : List Interface) 
   at_m : m.next ≡ place (a + 8)
   at_m = ap (λ (v : ℕ). place (v + 8)) w.next ∙ place_more a 8
 
-  cut_head : length bytes < 16 → BlockFails s a order interfaces bytes
-  cut_head short =
-      let z = has.enough in
+  ends_as : (over : ℕ) (tail : List ℕ) → (over ≡ 0) ⊎ ((4 ≤ over) × (4 ≤ length tail) × (u16_at order 0 tail ≡ 0)) → IsOptionsEnd order over tail
+  ends_as over tail (inl z) = inl z
+  ends_as over tail (inr e) = inr (e.0, inr (inl (e.1, e.2)))
+
+  pub interface_cut : length bytes < 16 → FailsAt s bytes (a + length bytes) Truncated []
+  interface_cut short =
       let give = w.stands.ready.give in
       let skip = w.stands.ready.skip in
       let l = length-drop 8 bytes in
       let at : m.next ≡ place (a + 8 + (m.give + m.skip)) = at_m ∙ ap place (let y : a + 8 ≡ a + 8 + (m.give + m.skip) = omega (arith, give, skip) in y) in
       let e = ends_within m stages.InterfaceHead (drop 8 bytes) (a + 8) w.stands.ready.unfaulted refl refl (λ held. refl) (omega (arith, give, skip)) at (omega (arith, l, short, eight)) in
       let same : a + 8 + length (drop 8 bytes) ≡ a + length bytes = omega (arith, l, eight) in
-      cut_block s a order interfaces bytes w eight OfInterface is are has (inl short) twelve [] (omega (arith, short, z))
-      (fails_as s bytes _ _ Truncated _ _ same (ap (λ (v : ℕ). take v (drop 8 bytes)) give) (fails_from s m bytes 8 (a + 8 + length (drop 8 bytes)) Truncated [] (take m.give (drop 8 bytes)) reached_m e)) refl
+      fails_as s bytes _ _ Truncated _ _ same (ap (λ (v : ℕ). take v (drop 8 bytes)) give) (fails_from s m bytes 8 (a + 8 + length (drop 8 bytes)) Truncated [] (take m.give (drop 8 bytes)) reached_m e)
+
+  cut_head : length bytes < 16 → BlockFails s a order interfaces bytes
+  cut_head short =
+      let z = has.enough in
+      cut_block s a order interfaces bytes w eight OfInterface is are has (inl short) twelve [] (omega (arith, short, z)) (interface_cut short) refl
 
   module _ (there : 16 ≤ length bytes) where
     abbrev head : List ℕ
@@ -168,11 +182,7 @@ module _ (s : Scan) (a : ℕ) (order : ByteOrder) (interfaces : List Interface) 
     -- its options are taken
     module _ (v : OptionsTaken begins (a + 16) order interfaces total (total - 20) described (drop 16 bytes)) where
       sound : IsSound OfInterface order interfaces bytes
-      sound = inr (v.over, v.tail, v.has, ends_as v.ends)
-        where
-          ends_as : (v.over ≡ 0) ⊎ ((4 ≤ v.over) × (4 ≤ length v.tail) × (u16_at order 0 v.tail ≡ 0)) → IsOptionsEnd order v.over v.tail
-          ends_as (inl z) = inl z
-          ends_as (inr e) = inr (e.0, inr (inl (e.1, e.2)))
+      sound = inr (v.over, v.tail, v.has, ends_as v.over v.tail v.ends)
 
       stands : Stands s a bytes stages.InterfaceTrailer order interfaces total (16 + v.taken) v.final
       stands =
@@ -198,25 +208,34 @@ module _ (s : Scan) (a : ℕ) (order : ByteOrder) (interfaces : List Interface) 
       none_handed : take v.final.give (drop (16 + v.taken) bytes) ≡ []
       none_handed = ap (λ (n : ℕ). take n (drop (16 + v.taken) bytes)) v.give
 
+      cut_here : length bytes < total → FailsAt s bytes (a + length bytes) Truncated []
+      cut_here short = fails_as s bytes _ _ Truncated _ _ refl none_handed (ends_cut s a bytes stages.InterfaceTrailer order interfaces total (16 + v.taken) v.final stands refl (λ held. refl) refl short)
+
       module _ (enough : total ≤ length bytes) where
         last_told : u32_at v.final.order 0 (take 4 (drop (total - 4) bytes)) ≡ u32_at order (total - 4) bytes
         last_told = last_is s a bytes stages.InterfaceTrailer order interfaces total (16 + v.taken) v.final stands refl (λ held. refl) refl enough
 
-        unequal : u32_at order (total - 4) bytes ≢ total → BlockFails s a order interfaces bytes
-        unequal d =
-            unequal_block s a order interfaces bytes w eight OfInterface is are has sound twelve (take v.final.give (drop (16 + v.taken) bytes)) enough d
+        unequal_here : u32_at order (total - 4) bytes ≢ total → FailsAt s bytes (a + (total - 4)) BlockLengths []
+        unequal_here d =
+            fails_as s bytes _ _ BlockLengths _ _ refl none_handed
             (fails_end s a bytes stages.InterfaceTrailer order interfaces total (16 + v.taken) v.final stands refl (λ held. refl) refl enough _ BlockLengths refl
-            (when_false _ _ _ (eq_not _ _ (λ e. d (sym last_told ∙ e ∙ v.total_is))))) none_handed
+            (when_false _ _ _ (eq_not _ _ (λ e. d (sym last_told ∙ e ∙ v.total_is)))))
+
+        unequal : u32_at order (total - 4) bytes ≢ total → BlockFails s a order interfaces bytes
+        unequal d = unequal_block s a order interfaces bytes w eight OfInterface is are has sound twelve [] enough d (unequal_here d) refl
 
         module _ (same : u32_at order (total - 4) bytes ≡ total) where
+          many_here : 64 ≤ length interfaces → FailsAt s bytes (a + (total - 4)) TooManyInterfaces []
+          many_here h =
+              let full : nat_le 64 (length v.final.interfaces) ≡ true = ap (λ (l : List Interface). nat_le 64 (length l)) v.interfaces_are ∙ le_true 64 (length interfaces) h in
+              fails_as s bytes _ _ TooManyInterfaces _ _ refl none_handed
+              (fails_end s a bytes stages.InterfaceTrailer order interfaces total (16 + v.taken) v.final stands refl (λ held. refl) refl enough _ TooManyInterfaces refl
+              (when_true _ _ _ (eq_is _ _ (last_told ∙ same ∙ sym v.total_is)) ∙ when_true _ _ _ full))
+
           many : 64 ≤ length interfaces → BlockFails s a order interfaces bytes
           many h =
               let z : total - 4 + 4 ≡ total = let y = has.enough in omega (arith, y) in
-              let full : nat_le 64 (length v.final.interfaces) ≡ true = ap (λ (l : List Interface). nat_le 64 (length l)) v.interfaces_are ∙ le_true 64 (length interfaces) h in
-              form_fails s a order interfaces bytes w eight OfInterface is (total - 4) TooManyInterfaces [] (refl, has, sound, z, (let y = has.enough in omega (arith, enough, y)), same ∙ sym z, h, refl)
-              (fails_as s bytes _ _ TooManyInterfaces _ _ refl none_handed
-              (fails_end s a bytes stages.InterfaceTrailer order interfaces total (16 + v.taken) v.final stands refl (λ held. refl) refl enough _ TooManyInterfaces refl
-              (when_true _ _ _ (eq_is _ _ (last_told ∙ same ∙ sym v.total_is)) ∙ when_true _ _ _ full)))
+              form_fails s a order interfaces bytes w eight OfInterface is (total - 4) TooManyInterfaces [] (refl, has, sound, z, (let y = has.enough in omega (arith, enough, y)), same ∙ sym z, h, refl) (many_here h)
 
           are_tail : AreBytes v.tail
           are_tail = bytes_back (options_bytes order v.has.options) v.tail (subst AreBytes v.has.joined (are_drop 16 bytes are))
@@ -280,31 +299,88 @@ module _ (s : Scan) (a : ℕ) (order : ByteOrder) (interfaces : List Interface) 
       by_size =
           elim (cases_lt (length bytes) total) [
             | inl short ↦
-                inl (cut_block s a order interfaces bytes w eight OfInterface is are has sound twelve (take v.final.give (drop (16 + v.taken) bytes)) short
-                (ends_cut s a bytes stages.InterfaceTrailer order interfaces total (16 + v.taken) v.final stands refl (λ held. refl) refl short) none_handed)
+                inl (cut_block s a order interfaces bytes w eight OfInterface is are has sound twelve [] short (cut_here short) refl)
             | inr enough ↦ by_end enough
           ]
+
+    options_here : OptionsOutcome begins (a + 16) order interfaces total (total - 20) described (drop 16 bytes)
+    options_here = options_outcome (suc (total - 20)) begins (a + 16) order interfaces total (total - 20) described (drop 16 bytes) (omega arith) (let e = has.whole in let l = has.enough in omega (arith, e, l)) in_options (are_drop 16 bytes are)
+
+    option_here : (v : OptionFails begins (a + 16) order (total - 20) (drop 16 bytes)) → FailsAt s bytes (a + (16 + v.within)) OptionLength []
+    option_here v =
+        let same : a + 16 + v.within ≡ a + (16 + v.within) = omega arith in
+        fails_as s bytes _ _ OptionLength _ _ same refl (fails_from s begins bytes 16 (a + 16 + v.within) OptionLength [] [] reached_begins v.fails)
+
+    cut_options : OptionsCut begins (a + 16) order (total - 20) (drop 16 bytes) → FailsAt s bytes (a + length bytes) Truncated []
+    cut_options v =
+        let l = length-drop 16 bytes in
+        let same : a + 16 + length (drop 16 bytes) ≡ a + length bytes = omega (arith, l, there) in
+        fails_as s bytes _ _ Truncated _ _ same refl (fails_from s begins bytes 16 (a + 16 + length (drop 16 bytes)) Truncated [] [] reached_begins v.fails)
 
     by_options : OptionsOutcome begins (a + 16) order interfaces total (total - 20) described (drop 16 bytes) → BlockOutcome s a order interfaces bytes
     by_options (inl v) = by_size v
     by_options (inr (inl v)) =
         let z = v.within_is in
         let least = has.enough in
-        let same : a + 16 + v.within ≡ a + (16 + v.within) = omega arith in
-        inl (form_fails s a order interfaces bytes w eight OfInterface is (16 + v.within) OptionLength [] (has, (there, v.over, v.tail, v.has, v.faulty, omega (arith, z, least)), refl)
-        (fails_as s bytes _ _ OptionLength _ _ same refl (fails_from s begins bytes 16 (a + 16 + v.within) OptionLength [] [] reached_begins v.fails)))
+        inl (form_fails s a order interfaces bytes w eight OfInterface is (16 + v.within) OptionLength [] (has, (there, v.over, v.tail, v.has, v.faulty, omega (arith, z, least)), refl) (option_here v))
     by_options (inr (inr v)) =
         let short = v.short in
         let l = length-drop 16 bytes in
-        let same : a + 16 + length (drop 16 bytes) ≡ a + length bytes = omega (arith, l, there) in
-        inl (cut_block s a order interfaces bytes w eight OfInterface is are has (inr (v.over, v.tail, v.has, v.ends)) twelve [] (omega (arith, short, l))
-        (fails_as s bytes _ _ Truncated _ _ same refl (fails_from s begins bytes 16 (a + 16 + length (drop 16 bytes)) Truncated [] [] reached_begins v.fails)) refl)
+        inl (cut_block s a order interfaces bytes w eight OfInterface is are has (inr (v.over, v.tail, v.has, v.ends)) twelve [] (omega (arith, short, l)) (cut_options v) refl)
+
+  abbrev Told : ℕ → CaptureReason → Type 0
+  Told k reason = FailsAt s bytes (a + k) reason []
+
+  -- an option that is at fault is told
+  pub option_told : (there : 16 ≤ length bytes) (left : ℕ) (rest : List ℕ) → HasOptions order (total - 20) (drop 16 bytes) left rest → IsOptionFault order left rest → (k : ℕ) → k + left ≡ total - 2 → Told k OptionLength
+  option_told there left rest has_options bad k at =
+      elim (options_here there) [
+        | inl v ↦ absurd (no_both order (total - 20) (drop 16 bytes) left v.over rest v.tail has_options v.has bad (ends_as v.over v.tail v.ends))
+        | inr (inl v) ↦
+            let same = (same_options order (total - 20) (drop 16 bytes) left v.over rest v.tail has_options v.has (inl bad) (inl v.faulty)).0 in
+            let within = v.within_is in
+            let least = has.enough in
+            let z : 16 + v.within ≡ k = omega (arith, same, within, at, least) in
+            subst (λ (n : ℕ). Told n OptionLength) z (option_here there v)
+        | inr (inr v) ↦ absurd (no_both order (total - 20) (drop 16 bytes) left v.over rest v.tail has_options v.has bad v.ends)
+      ]
+
+  -- what comes if no option is: they are taken, or the bytes end in one
+  sound_told : (k : ℕ) (reason : CaptureReason) (there : 16 ≤ length bytes) → IsSound OfInterface order interfaces bytes → (OptionsTaken (begins there) (a + 16) order interfaces total (total - 20) described (drop 16 bytes) → Told k reason)
+      → (OptionsCut (begins there) (a + 16) order (total - 20) (drop 16 bytes) → Told k reason) → Told k reason
+  sound_told k reason there sound taken cut =
+      elim (options_here there) [
+        | inl v ↦ taken v
+        | inr (inl v) ↦ elim sound [
+          | inl short ↦ absurd (omega (arith, short, there))
+          | inr e ↦ absurd (no_both order (total - 20) (drop 16 bytes) v.over e.0 v.tail e.1 v.has e.2 v.faulty e.3)
+        ]
+        | inr (inr v) ↦ cut v
+      ]
+
+  no_cut : (k : ℕ) (reason : CaptureReason) (there : 16 ≤ length bytes) → total ≤ length bytes → OptionsCut (begins there) (a + 16) order (total - 20) (drop 16 bytes) → Told k reason
+  no_cut k reason there enough v =
+      let l = length-drop 16 bytes in
+      let short = v.short in
+      absurd (omega (arith, l, short, there, enough))
+
+  pub cut_told : IsSound OfInterface order interfaces bytes → length bytes < total → Told (length bytes) Truncated
+  cut_told sound short = elim (cases_lt (length bytes) 16) [ inl h ↦ interface_cut h | inr there ↦ sound_told (length bytes) Truncated there sound (λ v. cut_here there v short) (cut_options there) ]
+
+  there_all : total ≤ length bytes → 16 ≤ length bytes
+  there_all enough = let z = has.enough in omega (arith, z, enough)
+
+  pub unequal_told : IsSound OfInterface order interfaces bytes → total ≤ length bytes → u32_at order (total - 4) bytes ≢ total → Told (total - 4) BlockLengths
+  unequal_told sound enough d = let there = there_all enough in sound_told (total - 4) BlockLengths there sound (λ v. unequal_here there v enough d) (no_cut (total - 4) BlockLengths there enough)
+
+  pub many_told : IsSound OfInterface order interfaces bytes → total ≤ length bytes → u32_at order (total - 4) bytes ≡ total → 64 ≤ length interfaces → Told (total - 4) TooManyInterfaces
+  many_told sound enough same h = let there = there_all enough in sound_told (total - 4) TooManyInterfaces there sound (λ v. many_here there v enough same h) (no_cut (total - 4) TooManyInterfaces there enough)
 
   pub interface_outcome : BlockOutcome s a order interfaces bytes
   interface_outcome =
       elim (cases_lt (length bytes) 16) [
         | inl short ↦ inl (cut_head short)
-        | inr there ↦ by_options there (options_outcome (suc (total - 20)) (begins there) (a + 16) order interfaces total (total - 20) described (drop 16 bytes) (omega arith) (let e = has.whole in let l = has.enough in omega (arith, e, l)) (in_options there) (are_drop 16 bytes are))
+        | inr there ↦ by_options there (options_here there)
       ]
 
 -- ---- any of them

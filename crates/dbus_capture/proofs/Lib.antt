@@ -9,6 +9,7 @@ pub mod ByteLaws
 pub mod PcapFaultLaws
 pub mod PcapOutcomes
 pub mod PacketLaws
+pub mod PcapOnly
 pub mod BlockTurns
 pub mod KeptLaws
 pub mod BlockLaws
@@ -18,10 +19,12 @@ pub mod EndLaws
 pub mod WordLaws
 pub mod TrailerLaws
 pub mod OptionLaws
+pub mod OptionsOnly
 pub mod FirstBlocks
 pub mod PacketBlocks
 pub mod InterfaceBlocks
 pub mod SectionBlocks
 pub mod BlockOutcomes
+pub mod BlockOnly
 pub mod CutLaws
 pub mod BlockPacketLaws

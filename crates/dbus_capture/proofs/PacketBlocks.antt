@@ -7,7 +7,7 @@ use Rattle.dbus_capture.specs.declared.byte_order.ByteOrder.{ByteOrder}
 use Rattle.dbus_capture.specs.declared.stage.Stage.{Stage}
 use Rattle.dbus_capture.specs.declared.stage.Stage.TheVariants as stages
 use Rattle.dbus_capture.specs.declared.fault.CaptureReason.{CaptureReason}
-use Rattle.dbus_capture.specs.declared.fault.CaptureReason.TheVariants.{Lengths, PacketCut, NoInterface, Truncated}
+use Rattle.dbus_capture.specs.declared.fault.CaptureReason.TheVariants.{Lengths, PacketCut, BlockLengths, NoInterface, Truncated}
 use Rattle.dbus_capture.specs.declared.interface.Interface.{Interface}
 use Rattle.dbus_capture.specs.declared.scan.Scan.{Scan}
 use Rattle.dbus_capture.specs.Numbers.{u32_bytes, u16_bytes, u32_at, u16_at}
@@ -110,7 +110,7 @@ bytes_none : (o : Option Interface) → bytes_by [] o ≡ []
 bytes_none None = refl
 bytes_none (Some i) = cond_none (i.link_type == 231)
 
-part_none : (p : SaidPacket) (bytes : List ℕ) → length bytes ≤ p.start → packet_part p bytes ≡ []
+pub part_none : (p : SaidPacket) (bytes : List ℕ) → length bytes ≤ p.start → packet_part p bytes ≡ []
 part_none p bytes h = ap (λ (l : List ℕ). bytes_by (take p.captured l) p.interface) (drop_all p.start bytes h) ∙ ap (λ (l : List ℕ). bytes_by l p.interface) (take_none p.captured) ∙ bytes_none p.interface
 
 -- ---- the block as it is spelled
@@ -248,11 +248,14 @@ module _ (s : Scan) (a : ℕ) (order : ByteOrder) (interfaces : List Interface) 
   abbrev m : Scan
   m = record s { head = begun (packet_stage f); next = place (s.next + 8); total = total; rest = total - 20 }
 
-  sizes : p.start + 4 ≤ total
+  pub sizes : p.start + 4 ≤ total
   sizes =
       let x = (facts f order interfaces bytes).least in
       let y = has.enough in
       omega (arith, x, y)
+
+  pub is_there : total ≤ length bytes → p.start ≤ length bytes
+  is_there enough = let z = sizes in omega (arith, z, enough)
 
   twelve : 12 ≤ total
   twelve =
@@ -266,8 +269,8 @@ module _ (s : Scan) (a : ℕ) (order : ByteOrder) (interfaces : List Interface) 
   at_m : m.next ≡ place (a + 8)
   at_m = ap (λ (v : ℕ). place (v + 8)) w.next ∙ place_more a 8
 
-  cut_head : length bytes < p.start → BlockFails s a order interfaces bytes
-  cut_head short =
+  pub head_told : length bytes < p.start → FailsAt s bytes (a + length bytes) Truncated []
+  head_told short =
       let q = facts f order interfaces bytes in
       let z = sizes in
       let wanted = q.wanted in
@@ -278,9 +281,48 @@ module _ (s : Scan) (a : ℕ) (order : ByteOrder) (interfaces : List Interface) 
       let at : m.next ≡ place (a + 8 + (m.give + m.skip)) = at_m ∙ ap place (let y : a + 8 ≡ a + 8 + (m.give + m.skip) = omega (arith, give, skip) in y) in
       let e = ends_within m (packet_stage f) (drop 8 bytes) (a + 8) w.stands.ready.unfaulted refl q.filed q.no_end (omega (arith, give, skip)) at (omega (arith, l, short, wanted, start, eight)) in
       let same : a + 8 + length (drop 8 bytes) ≡ a + length bytes = omega (arith, l, eight) in
-      cut_block s a order interfaces bytes w eight (OfPacket f) is are has (inl short) twelve [] (omega (arith, short, z))
-      (fails_as s bytes _ _ Truncated _ _ same (ap (λ (v : ℕ). take v (drop 8 bytes)) give) (fails_from s m bytes 8 (a + 8 + length (drop 8 bytes)) Truncated [] (take m.give (drop 8 bytes)) reached_m e))
-      (sym (part_none p bytes (omega (arith, short))))
+      fails_as s bytes _ _ Truncated _ _ same (ap (λ (v : ℕ). take v (drop 8 bytes)) give) (fails_from s m bytes 8 (a + 8 + length (drop 8 bytes)) Truncated [] (take m.give (drop 8 bytes)) reached_m e)
+
+  cut_head : length bytes < p.start → BlockFails s a order interfaces bytes
+  cut_head short =
+      let z = sizes in
+      cut_block s a order interfaces bytes w eight (OfPacket f) is are has (inl short) twelve [] (omega (arith, short, z)) (head_told short) (sym (part_none p bytes (omega (arith, short))))
+
+  -- all that it says is taken, and what is left of the block comes
+  pub record Standing : Type 0 where
+    pub final : Scan
+    pub stands : Stands s a bytes stages.Trailer order interfaces total p.start final
+    pub packet : IsPacket p total
+    pub part : take final.give (drop p.start bytes) ≡ packet_part p bytes
+
+  pub cut_told : Standing → length bytes < total → FailsAt s bytes (a + length bytes) Truncated (packet_part p bytes)
+  cut_told t short = fails_as s bytes _ _ Truncated _ _ refl t.part (ends_cut s a bytes stages.Trailer order interfaces total p.start t.final t.stands refl (λ held. refl) refl short)
+
+  pub unequal_told : Standing → total ≤ length bytes → u32_at order (total - 4) bytes ≢ total → FailsAt s bytes (a + (total - 4)) BlockLengths (packet_part p bytes)
+  unequal_told t enough d = fails_as s bytes _ _ BlockLengths _ _ refl t.part (wrong_end s a bytes order interfaces total p.start t.final t.stands enough d)
+
+  finish : Standing → BlockOutcome s a order interfaces bytes
+  finish t =
+      elim (cases_lt (length bytes) total) [
+        | inl short ↦ inl (cut_block s a order interfaces bytes w eight (OfPacket f) is are has (inr t.packet) twelve (packet_part p bytes) short (cut_told t short) refl)
+        | inr enough ↦ elim (cases_same (u32_at order (total - 4) bytes) total) [
+          | inr d ↦ inl (unequal_block s a order interfaces bytes w eight (OfPacket f) is are has (inr t.packet) twelve (packet_part p bytes) enough d (unequal_told t enough d) refl)
+          | inl same ↦
+              let block = block_of f order interfaces bytes in
+              let kind = kind_is f order interfaces bytes is in
+              let body = body_is f order interfaces bytes are t.packet enough in
+              inr (record {
+                block = block;
+                fits = fits_is f order interfaces bytes are t.packet enough;
+                body = body_fitting s a order interfaces bytes w eight (OfPacket f) is are has (inr t.packet) twelve block kind body enough same;
+                step = subst (λ (l : List Interface). Stepped s a bytes (block_bytes order block) order l (block_payload interfaces block)) (interfaces_stay f order interfaces bytes)
+                    (subst (λ (l : List ℕ). Stepped s a bytes (block_bytes order block) order interfaces l) (t.part ∙ payload_is f order interfaces bytes)
+                    (right_end s a bytes order interfaces total p.start t.final t.stands enough (block_bytes order block)
+                    (spelled_is s a order interfaces bytes w eight (OfPacket f) is are has (inr t.packet) twelve block kind body enough same)
+                    (spelled_size s a order interfaces bytes w eight (OfPacket f) is are has (inr t.packet) twelve block kind body enough same) same));
+              })
+        ]
+      ]
 
   module _ (there : p.start ≤ length bytes) where
     abbrev head : List ℕ
@@ -298,11 +340,13 @@ module _ (s : Scan) (a : ℕ) (order : ByteOrder) (interfaces : List Interface) 
         let law = takes_head m (packet_stage f) head (record { unfaulted = w.stands.ready.unfaulted; head = refl; give = w.stands.ready.give; skip = w.stands.ready.skip }) q.filed (omega (arith, size, start)) (size ∙ sym q.wanted) in
         (law.0 ∙ (says f m order interfaces bytes w.stands.order_is w.stands.interfaces_are).is, law.1)
 
+    pub interface_told : p.interface ≡ None → FailsAt s bytes (a + 8) NoInterface []
+    interface_told e =
+        fails_from s m bytes 8 (a + 8) NoInterface [] [] reached_m (fails_head m (refused m 0 NoInterface) (drop 8 bytes) (p.start - 8) (a + 8) NoInterface
+        (head_taken.0 ∙ ap (said_by m p time) e) head_taken.1 (refused_at m (a + 8) 0 (a + 8) NoInterface at_m (let z : a + 8 + 0 ≡ a + 8 = omega arith in z)))
+
     no_interface : p.interface ≡ None → BlockFails s a order interfaces bytes
-    no_interface e =
-        form_fails s a order interfaces bytes w eight (OfPacket f) is 8 NoInterface [] (has, (there, (refl, e)), refl)
-        (fails_from s m bytes 8 (a + 8) NoInterface [] [] reached_m (fails_head m (refused m 0 NoInterface) (drop 8 bytes) (p.start - 8) (a + 8) NoInterface
-        (head_taken.0 ∙ ap (said_by m p time) e) head_taken.1 (refused_at m (a + 8) 0 (a + 8) NoInterface at_m (let z : a + 8 + 0 ≡ a + 8 = omega arith in z))))
+    no_interface e = form_fails s a order interfaces bytes w eight (OfPacket f) is 8 NoInterface [] (has, (there, (refl, e)), refl) (interface_told e)
 
     module _ (i : Interface) (found : p.interface ≡ Some i) where
       reads : run m head ≡ block_packet m (p.start - 8) (p.at - 8) (total - (p.start + 4)) i.link_type (time i) p.captured p.original
@@ -314,11 +358,13 @@ module _ (s : Scan) (a : ℕ) (order : ByteOrder) (interfaces : List Interface) 
           let z : a + 8 + (p.at - 8) ≡ a + p.at = omega (arith, q) in
           fails_from s m bytes 8 (a + p.at) reason [] [] reached_m (fails_head m (refused m (p.at - 8) reason) (drop 8 bytes) (p.start - 8) (a + p.at) reason (reads ∙ e) head_taken.1 (refused_at m (a + 8) (p.at - 8) (a + p.at) reason at_m z))
 
-      no_room : total < p.start + padded p.captured + 4 → BlockFails s a order interfaces bytes
-      no_room h =
+      pub room_told : total < p.start + padded p.captured + 4 → FailsAt s bytes (a + p.at) Lengths []
+      room_told h =
           let z = sizes in
-          form_fails s a order interfaces bytes w eight (OfPacket f) is p.at Lengths [] (has, (there, (refl, i, found, inl h)), refl)
-          (refuses Lengths (when_true _ _ _ (lt_true (total - (p.start + 4)) (padded p.captured) (omega (arith, h, z)))))
+          refuses Lengths (when_true _ _ _ (lt_true (total - (p.start + 4)) (padded p.captured) (omega (arith, h, z))))
+
+      no_room : total < p.start + padded p.captured + 4 → BlockFails s a order interfaces bytes
+      no_room h = form_fails s a order interfaces bytes w eight (OfPacket f) is p.at Lengths [] (has, (there, (refl, i, found, inl h)), refl) (room_told h)
 
       module _ (room : p.start + padded p.captured + 4 ≤ total) where
         fits_room : nat_lt (total - (p.start + 4)) (padded p.captured) ≡ false
@@ -347,74 +393,59 @@ module _ (s : Scan) (a : ℕ) (order : ByteOrder) (interfaces : List Interface) 
               refuses = r;
             }
 
-        finish : (t : Scan) → Stands s a bytes stages.Trailer order interfaces total p.start t → IsPacket p total → take t.give (drop p.start bytes) ≡ packet_part p bytes → BlockOutcome s a order interfaces bytes
-        finish t st packet part =
-            elim (cases_lt (length bytes) total) [
-              | inl short ↦
-                  inl (cut_block s a order interfaces bytes w eight (OfPacket f) is are has (inr packet) twelve (take t.give (drop p.start bytes)) short
-                  (ends_cut s a bytes stages.Trailer order interfaces total p.start t st refl (λ held. refl) refl short) part)
-              | inr enough ↦ elim (cases_same (u32_at order (total - 4) bytes) total) [
-                | inr d ↦
-                    inl (unequal_block s a order interfaces bytes w eight (OfPacket f) is are has (inr packet) twelve (take t.give (drop p.start bytes)) enough d
-                    (wrong_end s a bytes order interfaces total p.start t st enough d) part)
-                | inl same ↦
-                    let block = block_of f order interfaces bytes in
-                    let kind = kind_is f order interfaces bytes is in
-                    let body = body_is f order interfaces bytes are packet enough in
-                    inr (record {
-                      block = block;
-                      fits = fits_is f order interfaces bytes are packet enough;
-                      body = body_fitting s a order interfaces bytes w eight (OfPacket f) is are has (inr packet) twelve block kind body enough same;
-                      step = subst (λ (l : List Interface). Stepped s a bytes (block_bytes order block) order l (block_payload interfaces block)) (interfaces_stay f order interfaces bytes)
-                          (subst (λ (l : List ℕ). Stepped s a bytes (block_bytes order block) order interfaces l) (part ∙ payload_is f order interfaces bytes)
-                          (right_end s a bytes order interfaces total p.start t st enough (block_bytes order block)
-                          (spelled_is s a order interfaces bytes w eight (OfPacket f) is are has (inr packet) twelve block kind body enough same)
-                          (spelled_size s a order interfaces bytes w eight (OfPacket f) is are has (inr packet) twelve block kind body enough same) same));
-                    })
-              ]
-            ]
+        pub over_told : i.link_type ≡ 231 → p.original < p.captured → FailsAt s bytes (a + p.at) Lengths []
+        over_told dbus h = refuses Lengths (when_false _ _ _ fits_room ∙ when_true _ _ _ (eq_is i.link_type 231 dbus) ∙ when_true _ _ _ (lt_true p.original p.captured h))
 
         over_long : i.link_type ≡ 231 → p.original < p.captured → BlockFails s a order interfaces bytes
-        over_long dbus h =
-            form_fails s a order interfaces bytes w eight (OfPacket f) is p.at Lengths [] (has, (there, (refl, i, found, inr (room, dbus, h))), refl)
-            (refuses Lengths (when_false _ _ _ fits_room ∙ when_true _ _ _ (eq_is i.link_type 231 dbus) ∙ when_true _ _ _ (lt_true p.original p.captured h)))
+        over_long dbus h = form_fails s a order interfaces bytes w eight (OfPacket f) is p.at Lengths [] (has, (there, (refl, i, found, inr (room, dbus, h))), refl) (over_told dbus h)
+
+        pub short_told : i.link_type ≡ 231 → p.captured < p.original → FailsAt s bytes (a + p.at) PacketCut []
+        short_told dbus h =
+            refuses PacketCut (when_false _ _ _ fits_room ∙ when_true _ _ _ (eq_is i.link_type 231 dbus) ∙ when_false _ _ _ (lt_false p.original p.captured (omega (arith, h)))
+            ∙ when_true _ _ _ (lt_true p.captured p.original h) ∙ when_false _ _ _ w.refuses)
 
         cut_short : i.link_type ≡ 231 → p.captured < p.original → BlockFails s a order interfaces bytes
-        cut_short dbus h =
-            form_fails s a order interfaces bytes w eight (OfPacket f) is p.at PacketCut [] (has, (there, (refl, i, found, room, dbus, h)), refl)
-            (refuses PacketCut (when_false _ _ _ fits_room ∙ when_true _ _ _ (eq_is i.link_type 231 dbus) ∙ when_false _ _ _ (lt_false p.original p.captured (omega (arith, h)))
-            ∙ when_true _ _ _ (lt_true p.captured p.original h) ∙ when_false _ _ _ w.refuses))
+        cut_short dbus h = form_fails s a order interfaces bytes w eight (OfPacket f) is p.at PacketCut [] (has, (there, (refl, i, found, room, dbus, h)), refl) (short_told dbus h)
 
-        gives : i.link_type ≡ 231 → p.original ≡ p.captured → BlockOutcome s a order interfaces bytes
+        gives : i.link_type ≡ 231 → p.original ≡ p.captured → Standing
         gives dbus same =
             let t = give_packet m (p.start - 8) (total - (p.start + 4)) (time i) p.captured in
             let least = padded_least p.captured in
             let is_t = when_false _ _ _ fits_room ∙ when_true _ _ _ (eq_is i.link_type 231 dbus) ∙ when_false _ _ _ (lt_false p.original p.captured (omega (arith, same))) ∙ when_false _ _ _ (lt_false p.captured p.original (omega (arith, same))) in
-            finish t (stands_as t is_t w.stands.ready.unfaulted refl (omega (arith, least, room)) refl refl w.stands.order_is w.stands.interfaces_are w.refuses)
-            (record { interface = i; found = found; room = room; uncut = λ e. same })
-            (sym (ap (bytes_by (take p.captured (drop p.start bytes))) found ∙ when_true _ _ _ (eq_is i.link_type 231 dbus)))
+            record {
+              final = t;
+              stands = stands_as t is_t w.stands.ready.unfaulted refl (omega (arith, least, room)) refl refl w.stands.order_is w.stands.interfaces_are w.refuses;
+              packet = record { interface = i; found = found; room = room; uncut = λ e. same };
+              part = sym (ap (bytes_by (take p.captured (drop p.start bytes))) found ∙ when_true _ _ _ (eq_is i.link_type 231 dbus));
+            }
 
-        passes : i.link_type ≢ 231 → BlockOutcome s a order interfaces bytes
+        passes : i.link_type ≢ 231 → Standing
         passes other =
             let t = pass_packet m (p.start - 8) (total - (p.start + 4)) in
             let give = w.stands.ready.give in
             let is_t = when_false _ _ _ fits_room ∙ when_false _ _ _ (eq_not i.link_type 231 other) in
-            finish t (stands_as t is_t w.stands.ready.unfaulted refl (omega (arith, give)) refl refl w.stands.order_is w.stands.interfaces_are w.refuses)
-            (record { interface = i; found = found; room = room; uncut = λ e. absurd (other e) })
-            (ap (λ (v : ℕ). take v (drop p.start bytes)) give ∙ sym (ap (bytes_by (take p.captured (drop p.start bytes))) found ∙ when_false _ _ _ (eq_not i.link_type 231 other)))
+            record {
+              final = t;
+              stands = stands_as t is_t w.stands.ready.unfaulted refl (omega (arith, give)) refl refl w.stands.order_is w.stands.interfaces_are w.refuses;
+              packet = record { interface = i; found = found; room = room; uncut = λ e. absurd (other e) };
+              part = ap (λ (v : ℕ). take v (drop p.start bytes)) give ∙ sym (ap (bytes_by (take p.captured (drop p.start bytes))) found ∙ when_false _ _ _ (eq_not i.link_type 231 other));
+            }
 
         with_room : BlockOutcome s a order interfaces bytes
         with_room =
             elim (cases_same i.link_type 231) [
-              | inr other ↦ passes other
+              | inr other ↦ finish (passes other)
               | inl dbus ↦ elim (cases_lt p.original p.captured) [
                 | inl over ↦ inl (over_long dbus over)
-                | inr least ↦ elim (cases_lt p.captured p.original) [ inl cut ↦ inl (cut_short dbus cut) | inr most ↦ gives dbus (omega (arith, least, most)) ]
+                | inr least ↦ elim (cases_lt p.captured p.original) [ inl cut ↦ inl (cut_short dbus cut) | inr most ↦ finish (gives dbus (omega (arith, least, most))) ]
               ]
             ]
 
       of_interface : BlockOutcome s a order interfaces bytes
       of_interface = elim (cases_lt total (p.start + padded p.captured + 4)) [ inl short ↦ inl (no_room short) | inr room ↦ with_room room ]
+
+    pub standing : IsPacket p total → Standing
+    standing e = elim (cases_same e.interface.link_type 231) [ inl dbus ↦ gives e.interface e.found e.room dbus (e.uncut dbus) | inr other ↦ passes e.interface e.found e.room other ]
 
     by_interface : (o : Option Interface) → p.interface ≡ o → BlockOutcome s a order interfaces bytes
     by_interface None e = inl (no_interface e)

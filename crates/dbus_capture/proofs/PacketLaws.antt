@@ -16,11 +16,11 @@ use Rattle.dbus_capture.proofs.EndLaws.{place_more}
 use Rattle.dbus_capture.proofs.PcapFileLaws.{head_size, opened_file, file_taken}
 
 -- what is known of a state after so many bytes and packets
-record Stands (s : Scan) (order : ByteOrder) (nanoseconds : Bool) (bytes packets : ℕ) : Type 0 where
-  order_is : s.order ≡ order
-  fractions : s.nanoseconds ≡ nanoseconds
-  place_is : s.next ≡ place bytes
-  count_is : s.packets ≡ place packets
+pub record Stands (s : Scan) (order : ByteOrder) (nanoseconds : Bool) (bytes packets : ℕ) : Type 0 where
+  pub order_is : s.order ≡ order
+  pub fractions : s.nanoseconds ≡ nanoseconds
+  pub place_is : s.next ≡ place bytes
+  pub count_is : s.packets ≡ place packets
 
 stands_after : (s : Scan) (p : PcapPacket) (o : ByteOrder) (f : Bool) (n k : ℕ) → Stands s o f n k → Stands (after s p) o f (n + (16 + length p.bytes)) (k + 1)
 unfolding after
@@ -56,6 +56,16 @@ stands_open : (passes : Bool) (h : PcapHeader) → Stands (opened_file passes h)
 unfolding opened_file
 stands_open passes h = record { order_is = refl; fractions = refl; place_is = refl; count_is = refl }
 
+-- after the packets of a file
+pub stands_file : (passes : Bool) (h : PcapHeader) (packets : List PcapPacket) → FitsHeader h → Stands (after_all (opened_file passes h) packets) h.order h.nanoseconds (length (pcap_bytes h packets)) (length packets)
+stands_file passes h packets f =
+    let stands = stands_all (opened_file passes h) packets h.order h.nanoseconds 24 0 (stands_open passes h) in
+    let hs = head_size h f in
+    let l = length-append (header_bytes h) (packets_bytes h.order packets) in
+    let size : 24 + length (packets_bytes h.order packets) ≡ length (pcap_bytes h packets) = omega (arith, l, hs) in
+    let count : 0 + length packets ≡ length packets = omega arith in
+    record { order_is = stands.order_is; fractions = stands.fractions; place_is = stands.place_is ∙ ap place size; count_is = stands.count_is ∙ ap place count }
+
 -- a packet that begins is reported
 begins_told : (s : Scan) (p : PcapPacket) (o : ByteOrder) (f : Bool) (n k : ℕ) → Stands s o f n k
     → (begins s p).packet ≡ Some (record { number = place (k + 1); at = place n; time = Some (record_time f p.seconds p.fraction); length = length p.bytes })
@@ -85,20 +95,14 @@ pcap_reported passes h packets p front back fh fp f e =
     let t = after_all (opened_file passes h) packets in
     let o = h.order in
     let whole = file_taken passes h packets fh fp in
-    let stands = stands_all (opened_file passes h) packets o h.nanoseconds 24 0 (stands_open passes h) in
+    let stands = stands_file passes h packets fh in
     let head = packet_header_bytes o p in
     let same : packet_header_bytes t.order p ≡ head = ap (λ (v : ByteOrder). packet_header_bytes v p) stands.order_is in
     let taken = head_taken t p whole.2 f in
     let body = body_told t p front back whole.2 e in
-    let hs = head_size h fh in
-    let l = length-append (header_bytes h) (packets_bytes o packets) in
-    let size : 24 + length (packets_bytes o packets) ≡ length (pcap_bytes h packets) = omega (arith, l, hs) in
-    let count : 0 + length packets + 1 ≡ length packets + 1 = omega arith in
     ap (λ (v : Scan). v.packet) (run-append s (pcap_bytes h packets) (head ++ front) ∙ ap (λ (v : Scan). run v (head ++ front)) whole.0 ∙ run-append t head front
     ∙ ap (λ (l : List ℕ). run (run t l) front) (sym same) ∙ ap (λ (v : Scan). run v front) taken.0)
-    ∙ body.0 ∙ begins_told t p o h.nanoseconds (24 + length (packets_bytes o packets)) (0 + length packets) stands
-    ∙ ap (λ (n : ℕ). Some (record { number = place n; at = place (24 + length (packets_bytes o packets)); time = Some (record_time h.nanoseconds p.seconds p.fraction); length = length p.bytes })) count
-    ∙ ap (λ (n : ℕ). Some (record { number = place (length packets + 1); at = place n; time = Some (record_time h.nanoseconds p.seconds p.fraction); length = length p.bytes })) size
+    ∙ body.0 ∙ begins_told t p o h.nanoseconds (length (pcap_bytes h packets)) (length packets) stands
 
 -- each of its bytes is of it
 pub pcap_packet_of : (passes : Bool) (h : PcapHeader) (packets : List PcapPacket) (p : PcapPacket) (more : List ℕ) (i : ℕ) → FitsHeader h → AllFitPackets packets → FitsPacket p → i < length p.bytes
@@ -109,7 +113,7 @@ pcap_packet_of passes h packets p more i fh fp f low =
     let head = packet_header_bytes h.order p in
     let front = pcap_bytes h packets in
     let whole = file_taken passes h packets fh fp in
-    let stands = stands_all (opened_file passes h) packets h.order h.nanoseconds 24 0 (stands_open passes h) in
+    let stands = stands_file passes h packets fh in
     let same : packet_header_bytes t.order p ≡ head = ap (λ (v : ByteOrder). packet_header_bytes v p) stands.order_is in
     let taken = head_taken t p whole.2 f in
     let to : run s (front ++ head) ≡ begins t p = run-append s front head ∙ ap (λ (v : Scan). run v head) whole.0 ∙ ap (run t) (sym same) ∙ taken.0 in

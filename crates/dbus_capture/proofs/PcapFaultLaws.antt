@@ -7,7 +7,7 @@ use Rattle.dbus_capture.specs.declared.stage.Stage.{Stage}
 use Rattle.dbus_capture.specs.declared.stage.Stage.TheVariants.{Record}
 use Rattle.dbus_capture.specs.declared.fault.CaptureFault.{CaptureFault}
 use Rattle.dbus_capture.specs.declared.fault.CaptureReason.{CaptureReason}
-use Rattle.dbus_capture.specs.declared.fault.CaptureReason.TheVariants.{Lengths, PacketCut, Truncated}
+use Rattle.dbus_capture.specs.declared.fault.CaptureReason.TheVariants.{Magic, Version, LinkType, Lengths, PacketCut, BlockLength, BlockLengths, OrderMark, OptionLength, TooManyInterfaces, NoInterface, Truncated}
 use Rattle.dbus_capture.specs.declared.scan.Scan.{Scan}
 use Rattle.dbus_capture.specs.Numbers.{u32_of, u32_bytes, u32_at}
 use Rattle.dbus_capture.specs.Stages.{want, is_raw, is_filed, Heading}
@@ -160,10 +160,13 @@ pub record FaultAfter (s : Scan) (bytes : List ℕ) : Type 0 where
 abbrev pub Outcome : Scan → List ℕ → Type 0
 Outcome s bytes = AllPackets s bytes ⊎ FaultAfter s bytes
 
+-- the bytes have this fault at this place of them
+abbrev pub Tells : Scan → List ℕ → ℕ → CaptureReason → Type 0
+Tells s bytes k reason = (given s bytes ≡ part_given bytes reason) × ((ended (run s bytes)).fault ≡ Some (record { at = place (s.next + k); reason = reason }))
+
 -- a fault of the first packet
-fault_here : (s : Scan) (bytes : List ℕ) (k : ℕ) (reason : CaptureReason) → IsRestFault s.order bytes k reason
-    → given s bytes ≡ part_given bytes reason → (ended (run s bytes)).fault ≡ Some (record { at = place (s.next + k); reason = reason }) → Outcome s bytes
-fault_here s bytes k reason h g e = inr (record {
+fault_here : (s : Scan) (bytes : List ℕ) (k : ℕ) (reason : CaptureReason) → IsRestFault s.order bytes k reason → Tells s bytes k reason → Outcome s bytes
+fault_here s bytes k reason h (g, e) = inr (record {
   packets = [];
   rest = bytes;
   within = k;
@@ -232,10 +235,12 @@ nothing_given : (s : Scan) → given s [] ≡ []
 unfolding given told
 nothing_given s = refl
 
+short_tells : (s : Scan) (bytes : List ℕ) → Between s → bytes ≢ [] → length bytes < 16 → Tells s bytes (length bytes) Truncated
+short_tells s bytes b some h = (head_cut_gives s bytes b h ∙ sym (drop_all 16 bytes (omega (arith, h))), head_cut s bytes b some h)
+
 ends_short : (s : Scan) (bytes : List ℕ) → length bytes < 16 → Between s → Outcome s bytes
 ends_short s [] h b = inl (record { gives = nothing_given s; packets = []; fit = tt; joined = refl; ends = nothing_ends s b })
-ends_short s (x ∷ xs) h b = fault_here s (x ∷ xs) (length (x ∷ xs)) Truncated (refl, (λ e. cc), inl h)
-    (head_cut_gives s (x ∷ xs) b h ∙ sym (drop_all 16 (x ∷ xs) (omega (arith, h)))) (head_cut s (x ∷ xs) b (λ e. cc) h)
+ends_short s (x ∷ xs) h b = fault_here s (x ∷ xs) (length (x ∷ xs)) Truncated (refl, (λ e. cc), inl h) (short_tells s (x ∷ xs) b (λ e. cc) h)
 
 pub passes_after : (s : Scan) (p : PcapPacket) → (after s p).passes_cut ≡ s.passes_cut
 unfolding after
@@ -290,44 +295,89 @@ module _ (s : Scan) (bytes a b c d more : List ℕ) (w : FourWords bytes a b c d
   head_gives : given s (a ++ (b ++ (c ++ d))) ≡ []
   head_gives = (record_taken s (a ++ (b ++ (c ++ d))) between (sixteen_size bytes a b c d more w)).1
 
+  over_tells : u32_of s.order d < u32_of s.order c → Tells s bytes 12 Lengths
+  over_tells h =
+      let reads = reads_as true (nat_lt (u32_of s.order c) (u32_of s.order d)) (lt_true _ _ h) refl in
+      let stop = stopped_after s (refused s 12 Lengths) (a ++ (b ++ (c ++ d))) more (record { at = place (s.next + 12); reason = Lengths }) reads refl in (
+        ap (given s) whole_is ∙ stopped_gives s (refused s 12 Lengths) (a ++ (b ++ (c ++ d))) more (record { at = place (s.next + 12); reason = Lengths }) reads head_gives refl,
+        ap (λ (l : List ℕ). (ended (run s l)).fault) whole_is ∙ stop,
+      )
+
   over_long : u32_of s.order d < u32_of s.order c → Outcome s bytes
   over_long h =
-      let reads = reads_as true (nat_lt (u32_of s.order c) (u32_of s.order d)) (lt_true _ _ h) refl in
-      let stop = stopped_after s (refused s 12 Lengths) (a ++ (b ++ (c ++ d))) more (record { at = place (s.next + 12); reason = Lengths }) reads refl in
       let r8 = packet_here in
       let r12 = original_here in
-      fault_here s bytes 12 Lengths (refl, long, omega (arith, h, r8, r12))
-      (ap (given s) whole_is ∙ stopped_gives s (refused s 12 Lengths) (a ++ (b ++ (c ++ d))) more (record { at = place (s.next + 12); reason = Lengths }) reads head_gives refl)
-      (ap (λ (l : List ℕ). (ended (run s l)).fault) whole_is ∙ stop)
+      fault_here s bytes 12 Lengths (refl, long, omega (arith, h, r8, r12)) (over_tells h)
+
+  cut_tells : u32_of s.order c < u32_of s.order d → Tells s bytes 8 PacketCut
+  cut_tells h =
+      let reads = reads_as false true (lt_false _ _ (omega (arith, h))) (lt_true _ _ h) in
+      let kept = ap (λ (v : Bool). cond v (passed_over s 16 (u32_of s.order c)) (refused s 8 PacketCut)) refuses in
+      let stop = stopped_after s (refused s 8 PacketCut) (a ++ (b ++ (c ++ d))) more (record { at = place (s.next + 8); reason = PacketCut }) (reads ∙ kept) refl in (
+        ap (given s) whole_is ∙ stopped_gives s (refused s 8 PacketCut) (a ++ (b ++ (c ++ d))) more (record { at = place (s.next + 8); reason = PacketCut }) (reads ∙ kept) head_gives refl,
+        ap (λ (l : List ℕ). (ended (run s l)).fault) whole_is ∙ stop,
+      )
 
   cut_short : u32_of s.order c < u32_of s.order d → Outcome s bytes
   cut_short h =
-      let reads = reads_as false true (lt_false _ _ (omega (arith, h))) (lt_true _ _ h) in
-      let kept = ap (λ (v : Bool). cond v (passed_over s 16 (u32_of s.order c)) (refused s 8 PacketCut)) refuses in
-      let stop = stopped_after s (refused s 8 PacketCut) (a ++ (b ++ (c ++ d))) more (record { at = place (s.next + 8); reason = PacketCut }) (reads ∙ kept) refl in
       let r8 = packet_here in
       let r12 = original_here in
-      fault_here s bytes 8 PacketCut (refl, long, omega (arith, h, r8, r12))
-      (ap (given s) whole_is ∙ stopped_gives s (refused s 8 PacketCut) (a ++ (b ++ (c ++ d))) more (record { at = place (s.next + 8); reason = PacketCut }) (reads ∙ kept) head_gives refl)
-      (ap (λ (l : List ℕ). (ended (run s l)).fault) whole_is ∙ stop)
+      fault_here s bytes 8 PacketCut (refl, long, omega (arith, h, r8, r12)) (cut_tells h)
 
-  in_body : u32_of s.order c ≡ u32_of s.order d → length more < u32_of s.order c → Outcome s bytes
-  in_body same short =
+  body_tells : u32_of s.order c ≡ u32_of s.order d → length more < u32_of s.order c → Tells s bytes (length bytes) Truncated
+  body_tells same short =
       let n = u32_of s.order c in
       let fits = u32_fits s.order c (bytes_front c d (bytes_back b (c ++ d) (bytes_back a (b ++ (c ++ d)) are_front))) in
       let reads = reads_as false false (lt_false _ _ (omega (arith, same))) (lt_false _ _ (omega (arith, same))) in
       let stop = body_cut s (time_at s (a ++ (b ++ (c ++ d)))) n more between short fits in
+      let size = total in (
+        ap (given s) whole_is ∙ given-append s (a ++ (b ++ (c ++ d))) more ∙ ap (λ (l : List ℕ). l ++ given (run s (a ++ (b ++ (c ++ d)))) more) head_gives
+            ∙ ap (λ (v : Scan). given v more) reads ∙ body_gives s (time_at s (a ++ (b ++ (c ++ d)))) n more between short
+            ∙ sym (ap (drop 16) whole_is ∙ drop_at (a ++ (b ++ (c ++ d))) more 16 (sixteen_size bytes a b c d more w)),
+        ap (λ (v : List ℕ). (ended (run s v)).fault) whole_is ∙ ap (λ (v : Scan). (ended v).fault) (run-append s (a ++ (b ++ (c ++ d))) more ∙ ap (λ (v : Scan). run v more) reads) ∙ stop
+            ∙ ap (λ (k : ℕ). Some (record { at = place (s.next + k); reason = Truncated })) (sym size),
+      )
+
+  in_body : u32_of s.order c ≡ u32_of s.order d → length more < u32_of s.order c → Outcome s bytes
+  in_body same short =
       let r8 = packet_here in
       let r12 = original_here in
       let size = total in
       let l = long in
       fault_here s bytes (length bytes) Truncated
-      (refl, (λ e. let none : length bytes ≡ 0 = ap length e in absurd (omega (arith, l, none))), inr (l, omega (arith, same, r8, r12), omega (arith, size, short, r8)))
-      (ap (given s) whole_is ∙ given-append s (a ++ (b ++ (c ++ d))) more ∙ ap (λ (l : List ℕ). l ++ given (run s (a ++ (b ++ (c ++ d)))) more) head_gives
-      ∙ ap (λ (v : Scan). given v more) reads ∙ body_gives s (time_at s (a ++ (b ++ (c ++ d)))) n more between short
-      ∙ sym (ap (drop 16) whole_is ∙ drop_at (a ++ (b ++ (c ++ d))) more 16 (sixteen_size bytes a b c d more w)))
-      (ap (λ (v : List ℕ). (ended (run s v)).fault) whole_is ∙ ap (λ (v : Scan). (ended v).fault) (run-append s (a ++ (b ++ (c ++ d))) more ∙ ap (λ (v : Scan). run v more) reads) ∙ stop
-      ∙ ap (λ (k : ℕ). Some (record { at = place (s.next + k); reason = Truncated })) (sym size))
+      (refl, (λ e. let none : length bytes ≡ 0 = ap length e in absurd (omega (arith, l, none))), inr (l, omega (arith, same, r8, r12), omega (arith, size, short, r8))) (body_tells same short)
+
+  -- the fault that such bytes have is told
+  pub told_here : (k : ℕ) (reason : CaptureReason) → IsRestFault s.order bytes k reason → Tells s bytes k reason
+  told_here k Truncated f = subst (λ (n : ℕ). Tells s bytes n Truncated) (sym f.0) (elim f.2 [ inl short ↦ absurd (let l = long in omega (arith, short, l)) | inr e ↦ in_it e ])
+    where
+      in_it : (16 ≤ length bytes) × (u32_at s.order 12 bytes ≡ u32_at s.order 8 bytes) × (length bytes < 16 + u32_at s.order 8 bytes) → Tells s bytes (length bytes) Truncated
+      in_it e =
+          let r8 = packet_here in
+          let r12 = original_here in
+          let size = total in
+          let same = e.1 in
+          let short = e.2 in
+          body_tells (omega (arith, same, r8, r12)) (omega (arith, size, short, r8))
+  told_here k Lengths f =
+      let r8 = packet_here in
+      let r12 = original_here in
+      let h = f.2 in
+      subst (λ (n : ℕ). Tells s bytes n Lengths) (sym f.0) (over_tells (omega (arith, h, r8, r12)))
+  told_here k PacketCut f =
+      let r8 = packet_here in
+      let r12 = original_here in
+      let h = f.2 in
+      subst (λ (n : ℕ). Tells s bytes n PacketCut) (sym f.0) (cut_tells (omega (arith, h, r8, r12)))
+  told_here k Magic f = absurd f
+  told_here k Version f = absurd f
+  told_here k LinkType f = absurd f
+  told_here k BlockLength f = absurd f
+  told_here k BlockLengths f = absurd f
+  told_here k OrderMark f = absurd f
+  told_here k OptionLength f = absurd f
+  told_here k TooManyInterfaces f = absurd f
+  told_here k NoInterface f = absurd f
 
   begins : (n : ℕ) → length bytes < suc n → ((t : Scan) (rest : List ℕ) → length rest < n → Between t → t.passes_cut ≡ false → AreBytes rest → Outcome t rest)
       → u32_of s.order c ≡ u32_of s.order d → u32_of s.order c ≤ length more → Outcome s bytes
@@ -374,3 +424,26 @@ outcome_of (suc n) s bytes low b r are =
       | inr long ↦ begins_long s bytes (take 4 bytes) (take 4 (drop 4 bytes)) (take 4 (drop 4 (drop 4 bytes))) (take 4 (drop 4 (drop 4 (drop 4 bytes)))) (drop 4 (drop 4 (drop 4 (drop 4 bytes))))
           (four_u32s bytes long) b r are n low (outcome_of n)
     ]
+
+-- the fault that follows whole packets is told
+pub rest_told : (s : Scan) (bytes : List ℕ) (k : ℕ) (reason : CaptureReason) → Between s → s.passes_cut ≡ false → AreBytes bytes → IsRestFault s.order bytes k reason → Tells s bytes k reason
+rest_told s bytes k reason b r are f =
+    elim (cases_lt (length bytes) 16) [
+      | inl short ↦ cut_told reason f short
+      | inr long ↦ told_here s bytes (take 4 bytes) (take 4 (drop 4 bytes)) (take 4 (drop 4 (drop 4 bytes))) (take 4 (drop 4 (drop 4 (drop 4 bytes)))) (drop 4 (drop 4 (drop 4 (drop 4 bytes))))
+          (four_u32s bytes long) b r are k reason f
+    ]
+  where
+    cut_told : (reason : CaptureReason) → IsRestFault s.order bytes k reason → length bytes < 16 → Tells s bytes k reason
+    cut_told Truncated f short = subst (λ (n : ℕ). Tells s bytes n Truncated) (sym f.0) (short_tells s bytes b f.1 short)
+    cut_told Lengths f short = let l = f.1 in absurd (omega (arith, l, short))
+    cut_told PacketCut f short = let l = f.1 in absurd (omega (arith, l, short))
+    cut_told Magic f short = absurd f
+    cut_told Version f short = absurd f
+    cut_told LinkType f short = absurd f
+    cut_told BlockLength f short = absurd f
+    cut_told BlockLengths f short = absurd f
+    cut_told OrderMark f short = absurd f
+    cut_told OptionLength f short = absurd f
+    cut_told TooManyInterfaces f short = absurd f
+    cut_told NoInterface f short = absurd f

@@ -11,7 +11,7 @@ use Rattle.dbus_capture.specs.declared.stage.Stage.{Stage}
 use Rattle.dbus_capture.specs.declared.stage.Stage.TheVariants.{Start, FileHeader, Record}
 use Rattle.dbus_capture.specs.declared.fault.CaptureFault.{CaptureFault}
 use Rattle.dbus_capture.specs.declared.fault.CaptureReason.{CaptureReason}
-use Rattle.dbus_capture.specs.declared.fault.CaptureReason.TheVariants.{Magic, Version, LinkType, Truncated}
+use Rattle.dbus_capture.specs.declared.fault.CaptureReason.TheVariants.{Magic, Version, LinkType, Lengths, PacketCut, BlockLength, BlockLengths, OrderMark, OptionLength, TooManyInterfaces, NoInterface, Truncated}
 use Rattle.dbus_capture.specs.declared.scan.Scan.{Scan}
 use Rattle.dbus_capture.specs.Numbers.{u32_of, u16_of, u32_bytes, u16_bytes, u32_at, u16_at}
 use Rattle.dbus_capture.specs.Stages.{first_stage, begun}
@@ -195,7 +195,7 @@ module _ (h m v w u d : List ℕ) (p : HeadParts h m v w u d) (are : AreBytes h)
 
 -- ---- what a header comes to
 
-abbrev header_state : Scan
+abbrev pub header_state : Scan
 header_state = record (fresh false Start) { head = begun FileHeader }
 
 abbrev after_header : ByteOrder → Bool → Scan
@@ -208,25 +208,31 @@ in_by h o n a b c p q r =
     ∙ ap (λ (v : Bool). cond (a && v) (cond (u32_at o 20 h == 231) (after_header o n) (refused header_state 20 LinkType)) (refused header_state 4 Version)) q
     ∙ ap (λ (v : Bool). cond (a && b) (cond v (after_header o n) (refused header_state 20 LinkType)) (refused header_state 4 Version)) r
 
-abbrev fault_told : List ℕ → Option CaptureFault
+abbrev pub fault_told : List ℕ → Option CaptureFault
 fault_told bytes = (ended (run header_state bytes)).fault
 
 abbrev HasOutcome : List ℕ → Type 0
 HasOutcome bytes = IsPcapOutcome bytes (given header_state bytes) (fault_told bytes)
 
-outcome_at : (bytes : List ℕ) (k : ℕ) (reason : CaptureReason) → IsHeaderFault bytes k reason → given header_state bytes ≡ [] → fault_told bytes ≡ Some (record { at = place k; reason = reason }) → HasOutcome bytes
-outcome_at bytes k reason f g e = subst (IsPcapOutcome bytes (given header_state bytes)) (sym e) (inl (record { within = k; faulty = f; at = refl; gives = g }))
+-- the header has this fault at this place
+abbrev pub StopsAt : List ℕ → ℕ → CaptureReason → Type 0
+StopsAt bytes k reason = (given header_state bytes ≡ []) × (fault_told bytes ≡ Some (record { at = place k; reason = reason }))
+
+outcome_at : (bytes : List ℕ) (k : ℕ) (reason : CaptureReason) → IsHeaderFault bytes k reason → StopsAt bytes k reason → HasOutcome bytes
+outcome_at bytes k reason f (g, e) = subst (IsPcapOutcome bytes (given header_state bytes)) (sym e) (inl (record { within = k; faulty = f; at = refl; gives = g }))
 
 -- less than a header
-short_head : (bytes : List ℕ) → bytes ≢ [] → length bytes < 24 → HasOutcome bytes
-short_head [] some h = absurd (some refl)
-short_head (x ∷ xs) some h =
+short_stops : (bytes : List ℕ) → bytes ≢ [] → length bytes < 24 → StopsAt bytes (length bytes) Truncated
+short_stops [] some h = absurd (some refl)
+short_stops (x ∷ xs) some h =
     let bytes = x ∷ xs in
     let law = run_gathers header_state bytes refl refl refl refl (omega (arith, h)) in
     let t : Scan = record header_state { head = record { stage = FileHeader; bytes = bytes } } in
     let stop = ended_cut t refl in
-    outcome_at bytes (length bytes) Truncated (refl, h) law.1
-    (ap (λ (v : Scan). (ended v).fault) law.0 ∙ stop ∙ ap (λ (n : ℕ). Some (record { at = n; reason = Truncated })) (place_of 0 (length bytes) ∙ ap place (let z : 0 + length bytes ≡ length bytes = omega arith in z)))
+    (law.1, ap (λ (v : Scan). (ended v).fault) law.0 ∙ stop ∙ ap (λ (n : ℕ). Some (record { at = n; reason = Truncated })) (place_of 0 (length bytes) ∙ ap place (let z : 0 + length bytes ≡ length bytes = omega arith in z)))
+
+short_head : (bytes : List ℕ) → bytes ≢ [] → length bytes < 24 → HasOutcome bytes
+short_head bytes some h = outcome_at bytes (length bytes) Truncated (refl, h) (short_stops bytes some h)
 
 -- a header, and more
 module _ (front more : List ℕ) (size : length front ≡ 24) (are : AreBytes (front ++ more)) where
@@ -241,12 +247,15 @@ module _ (front more : List ℕ) (size : length front ≡ 24) (are : AreBytes (f
   long : 24 ≤ length (front ++ more)
   long = let l = length-append front more in omega (arith, l, size)
 
+  stops : (k : ℕ) (reason : CaptureReason) → file_header header_state front ≡ refused header_state k reason → StopsAt (front ++ more) k reason
+  stops k reason e = (
+    stopped_gives header_state (refused header_state k reason) front more (record { at = place (0 + k); reason = reason }) (head_run ∙ e) head_gives refl,
+    stopped_after header_state (refused header_state k reason) front more (record { at = place (0 + k); reason = reason }) (head_run ∙ e) refl
+        ∙ ap (λ (n : ℕ). Some (record { at = place n; reason = reason })) (let z : 0 + k ≡ k = omega arith in z),
+  )
+
   stops_at : (k : ℕ) (reason : CaptureReason) → file_header header_state front ≡ refused header_state k reason → IsHeaderFault (front ++ more) k reason → HasOutcome (front ++ more)
-  stops_at k reason e f =
-      outcome_at (front ++ more) k reason f
-      (stopped_gives header_state (refused header_state k reason) front more (record { at = place (0 + k); reason = reason }) (head_run ∙ e) head_gives refl)
-      (stopped_after header_state (refused header_state k reason) front more (record { at = place (0 + k); reason = reason }) (head_run ∙ e) refl
-      ∙ ap (λ (n : ℕ). Some (record { at = place n; reason = reason })) (let z : 0 + k ≡ k = omega arith in z))
+  stops_at k reason e f = outcome_at (front ++ more) k reason f (stops k reason e)
 
   magic_here : u32_at Little 0 (front ++ more) ≡ u32_at Little 0 front
   magic_here = u32_in_front Little front more 0 (omega (arith, size))
@@ -267,20 +276,33 @@ module _ (front more : List ℕ) (size : length front ≡ 24) (are : AreBytes (f
     link_here : u32_at o 20 (front ++ more) ≡ u32_at o 20 front
     link_here = u32_in_front o front more 20 (omega (arith, size))
 
+    major_refused : u16_at o 4 front ≢ 2 → file_header header_state front ≡ refused header_state 4 Version
+    major_refused d = ap (file_header_by header_state front) told ∙ in_by front o n false (nat_eq (u16_at o 6 front) 4) (nat_eq (u32_at o 20 front) 231) (eq_not _ _ d) refl refl
+
     no_major : u16_at o 4 front ≢ 2 → HasOutcome (front ++ more)
     no_major d =
-        stops_at 4 Version (ap (file_header_by header_state front) told ∙ in_by front o n false (nat_eq (u16_at o 6 front) 4) (nat_eq (u32_at o 20 front) 231) (eq_not _ _ d) refl refl)
+        stops_at 4 Version (major_refused d)
         (refl, long, o, n, told_here, inl (λ e. d (sym major_here ∙ e)))
+
+    minor_refused : u16_at o 4 front ≡ 2 → u16_at o 6 front ≢ 4 → file_header header_state front ≡ refused header_state 4 Version
+    minor_refused a d = ap (file_header_by header_state front) told ∙ in_by front o n true false (nat_eq (u32_at o 20 front) 231) (eq_is _ _ a) (eq_not _ _ d) refl
 
     no_minor : u16_at o 4 front ≡ 2 → u16_at o 6 front ≢ 4 → HasOutcome (front ++ more)
     no_minor a d =
-        stops_at 4 Version (ap (file_header_by header_state front) told ∙ in_by front o n true false (nat_eq (u32_at o 20 front) 231) (eq_is _ _ a) (eq_not _ _ d) refl)
+        stops_at 4 Version (minor_refused a d)
         (refl, long, o, n, told_here, inr (λ e. d (sym minor_here ∙ e)))
+
+    link_refused : u16_at o 4 front ≡ 2 → u16_at o 6 front ≡ 4 → u32_at o 20 front ≢ 231 → file_header header_state front ≡ refused header_state 20 LinkType
+    link_refused a b d = ap (file_header_by header_state front) told ∙ in_by front o n true true false (eq_is _ _ a) (eq_is _ _ b) (eq_not _ _ d)
 
     no_link : u16_at o 4 front ≡ 2 → u16_at o 6 front ≡ 4 → u32_at o 20 front ≢ 231 → HasOutcome (front ++ more)
     no_link a b d =
-        stops_at 20 LinkType (ap (file_header_by header_state front) told ∙ in_by front o n true true false (eq_is _ _ a) (eq_is _ _ b) (eq_not _ _ d))
+        stops_at 20 LinkType (link_refused a b d)
         (refl, long, o, n, told_here, major_here ∙ a, minor_here ∙ b, (λ e. d (sym link_here ∙ e)))
+
+    version_refused : (u16_at o 4 (front ++ more) ≢ 2) ⊎ (u16_at o 6 (front ++ more) ≢ 4) → file_header header_state front ≡ refused header_state 4 Version
+    version_refused (inl d) = major_refused (λ e. d (major_here ∙ e))
+    version_refused (inr d) = elim (cases_same (u16_at o 4 front) 2) [ inr c ↦ major_refused c | inl a ↦ minor_refused a (λ e. d (minor_here ∙ e)) ]
 
     module _ (u : List ℕ) (unread : length u ≡ 12) (spelled : front ≡ header_bytes (record { order = o; nanoseconds = n; unread = u })) (reads : file_header header_state front ≡ after_header o n) where
       run_on : run header_state (front ++ more) ≡ run (after_header o n) more
@@ -339,9 +361,53 @@ module _ (front more : List ℕ) (size : length front ≡ 24) (are : AreBytes (f
           ]
         ]
 
+  -- the fault that such a header has is told
+  pub header_told : (k : ℕ) (reason : CaptureReason) → IsHeaderFault (front ++ more) k reason → StopsAt (front ++ more) k reason
+  header_told k Truncated f = let l = long in let h = f.1 in absurd (omega (arith, l, h))
+  header_told k Magic f = subst (λ (n : ℕ). StopsAt (front ++ more) n Magic) (sym f.0) (stops 0 Magic (ap (file_header_by header_state front) (ap magic (sym magic_here) ∙ f.2)))
+  header_told k Version (at, there, o, n, told, bad) = subst (λ (v : ℕ). StopsAt (front ++ more) v Version) (sym at) (stops 4 Version (version_refused o n (ap magic (sym magic_here) ∙ told) bad))
+  header_told k LinkType (at, there, o, n, told, a, b, d) =
+      let here = ap magic (sym magic_here) ∙ told in
+      subst (λ (v : ℕ). StopsAt (front ++ more) v LinkType) (sym at)
+      (stops 20 LinkType (link_refused o n here (sym (major_here o n here) ∙ a) (sym (minor_here o n here) ∙ b) (λ e. d (link_here o n here ∙ e))))
+  header_told k Lengths f = absurd f
+  header_told k PacketCut f = absurd f
+  header_told k BlockLength f = absurd f
+  header_told k BlockLengths f = absurd f
+  header_told k OrderMark f = absurd f
+  header_told k OptionLength f = absurd f
+  header_told k TooManyInterfaces f = absurd f
+  header_told k NoInterface f = absurd f
+
   by_magic : (m : Option (ByteOrder × Bool)) → magic (u32_at Little 0 front) ≡ m → HasOutcome (front ++ more)
   by_magic None e = no_magic e
   by_magic (Some m) e = by_version m.0 m.1 e
+
+-- the fault of a header is told
+pub head_told : (bytes : List ℕ) (k : ℕ) (reason : CaptureReason) → bytes ≢ [] → AreBytes bytes → IsHeaderFault bytes k reason → StopsAt bytes k reason
+head_told bytes k reason some are f =
+    elim (cases_lt (length bytes) 24) [
+      | inl short ↦ cut_told reason f short
+      | inr enough ↦
+          let size = length-take-le 24 bytes enough in
+          let both = take-append-drop 24 bytes in
+          subst (λ (l : List ℕ). StopsAt l k reason) both
+          (header_told (take 24 bytes) (drop 24 bytes) size (subst AreBytes (sym both) are) k reason (subst (λ (l : List ℕ). IsHeaderFault l k reason) (sym both) f))
+    ]
+  where
+    cut_told : (reason : CaptureReason) → IsHeaderFault bytes k reason → length bytes < 24 → StopsAt bytes k reason
+    cut_told Truncated f short = subst (λ (n : ℕ). StopsAt bytes n Truncated) (sym f.0) (short_stops bytes some short)
+    cut_told Magic f short = let l = f.1 in absurd (omega (arith, l, short))
+    cut_told Version f short = let l = f.1 in absurd (omega (arith, l, short))
+    cut_told LinkType f short = let l = f.1 in absurd (omega (arith, l, short))
+    cut_told Lengths f short = absurd f
+    cut_told PacketCut f short = absurd f
+    cut_told BlockLength f short = absurd f
+    cut_told BlockLengths f short = absurd f
+    cut_told OrderMark f short = absurd f
+    cut_told OptionLength f short = absurd f
+    cut_told TooManyInterfaces f short = absurd f
+    cut_told NoInterface f short = absurd f
 
 -- bytes that begin as a file does
 pub pcap_outcome : (x : ℕ) (xs : List ℕ) → AreBytes (x ∷ xs) → first_stage x ≡ FileHeader

@@ -8,7 +8,7 @@ use Rattle.dbus_capture.specs.declared.byte_order.ByteOrder.{ByteOrder}
 use Rattle.dbus_capture.specs.declared.byte_order.ByteOrder.TheVariants.{Little, Big}
 use Rattle.dbus_capture.specs.declared.stage.Stage.TheVariants as stages
 use Rattle.dbus_capture.specs.declared.fault.CaptureReason.{CaptureReason}
-use Rattle.dbus_capture.specs.declared.fault.CaptureReason.TheVariants.{Magic, Version, BlockLength, BlockLengths, OrderMark, Truncated}
+use Rattle.dbus_capture.specs.declared.fault.CaptureReason.TheVariants.{Magic, Version, LinkType, Lengths, PacketCut, BlockLength, BlockLengths, OrderMark, OptionLength, TooManyInterfaces, NoInterface, Truncated}
 use Rattle.dbus_capture.specs.declared.interface.Interface.{Interface}
 use Rattle.dbus_capture.specs.declared.scan.Scan.{Scan}
 use Rattle.dbus_capture.specs.Numbers.{u32_of, u32_bytes, u16_bytes, u32_at, u16_at}
@@ -86,20 +86,22 @@ module _ (s m : Scan) (a : ℕ) (bytes : List ℕ) (are : AreBytes bytes) (there
   abbrev head : List ℕ
   head = take 24 bytes
 
+  stops_here : (k : ℕ) (reason : CaptureReason) → section_head m head ≡ refused m k reason → FailsAt s bytes (a + k) reason []
+  stops_here k reason e =
+      fails_from s (refused m k reason) bytes 24 (a + k) reason [] [] (record { ran = reached.ran ∙ e; gave = reached.gave })
+      (fails_now (refused m k reason) (drop 24 bytes) (a + k) reason (refused_at m a k (a + k) reason next refl))
+
   stops : (k : ℕ) (reason : CaptureReason) → section_head m head ≡ refused m k reason → IsSectionFault bytes k reason → SectionFails s a bytes
-  stops k reason e f = record {
-    within = k;
-    reason = reason;
-    faulty = f;
-    fails = fails_from s (refused m k reason) bytes 24 (a + k) reason [] [] (record { ran = reached.ran ∙ e; gave = reached.gave })
-        (fails_now (refused m k reason) (drop 24 bytes) (a + k) reason (refused_at m a k (a + k) reason next refl));
-  }
+  stops k reason e f = record { within = k; reason = reason; faulty = f; fails = stops_here k reason e }
 
   kind_here : u32_at Little 0 head ≡ u32_at Little 0 bytes
   kind_here = u32_within Little bytes 0 24 0 (omega arith)
 
+  magic_refused : u32_at Little 0 bytes ≢ 0x0a0d0d0a → section_head m head ≡ refused m 0 Magic
+  magic_refused d = when_false _ _ _ (eq_not _ _ (λ e. d (sym kind_here ∙ e)))
+
   no_magic : u32_at Little 0 bytes ≢ 0x0a0d0d0a → SectionFails s a bytes
-  no_magic d = stops 0 Magic (when_false _ _ _ (eq_not _ _ (λ e. d (sym kind_here ∙ e)))) (refl, there, d)
+  no_magic d = stops 0 Magic (magic_refused d) (refl, there, d)
 
   module _ (kind : u32_at Little 0 bytes ≡ 0x0a0d0d0a) where
     to_mark : (o : Option ByteOrder) → order_mark (u32_at Little 8 bytes) ≡ o → section_head m head ≡ section_by m head o
@@ -128,20 +130,22 @@ module _ (s m : Scan) (a : ℕ) (bytes : List ℕ) (are : AreBytes bytes) (there
           ∙ ap (λ (v : ℕ). by_tests (u16_at o 12 bytes == 1) ((v == 0) || (v == 2)) (u32_at o 4 head)) (u16_within o bytes 0 24 14 (omega arith))
           ∙ ap (λ (v : ℕ). by_tests (u16_at o 12 bytes == 1) ((u16_at o 14 bytes == 0) || (u16_at o 14 bytes == 2)) v) (u32_within o bytes 0 24 4 (omega arith))
 
-      no_major : u16_at o 12 bytes ≢ 1 → SectionFails s a bytes
-      no_major d =
-          stops 12 Version (tests ∙ ap (λ (b : Bool). by_tests b ((u16_at o 14 bytes == 0) || (u16_at o 14 bytes == 2)) total) (eq_not (u16_at o 12 bytes) 1 d)) (refl, o, ordered, inl d)
+      version_refused : (u16_at o 12 bytes ≢ 1) ⊎ ((u16_at o 14 bytes ≢ 0) × (u16_at o 14 bytes ≢ 2)) → section_head m head ≡ refused m 12 Version
+      version_refused (inl d) = tests ∙ ap (λ (b : Bool). by_tests b ((u16_at o 14 bytes == 0) || (u16_at o 14 bytes == 2)) total) (eq_not (u16_at o 12 bytes) 1 d)
+      version_refused (inr (c, d)) = tests ∙ when_false _ _ _ (and_false (u16_at o 12 bytes == 1) _ (minor_bad (u16_at o 14 bytes) c d))
 
-      no_minor : u16_at o 14 bytes ≢ 0 → u16_at o 14 bytes ≢ 2 → SectionFails s a bytes
-      no_minor c d =
-          stops 12 Version (tests ∙ when_false _ _ _ (and_false (u16_at o 12 bytes == 1) _ (minor_bad (u16_at o 14 bytes) c d))) (refl, o, ordered, inr (c, d))
+      no_version : (u16_at o 12 bytes ≢ 1) ⊎ ((u16_at o 14 bytes ≢ 0) × (u16_at o 14 bytes ≢ 2)) → SectionFails s a bytes
+      no_version d = stops 12 Version (version_refused d) (refl, o, ordered, d)
 
       module _ (version : IsVersion o bytes) where
         passes_tests : section_head m head ≡ cond (is_length 28 total) (standing total) (refused m 4 BlockLength)
         passes_tests = tests ∙ when_true _ _ _ (both_true _ _ (eq_is (u16_at o 12 bytes) 1 version.0) (minor_ok (u16_at o 14 bytes) version.1))
 
+        length_refused : HasNoLength 28 total → section_head m head ≡ refused m 4 BlockLength
+        length_refused h = passes_tests ∙ when_false _ _ _ (length_bad 28 total h)
+
         no_length : HasNoLength 28 total → SectionFails s a bytes
-        no_length h = stops 4 BlockLength (passes_tests ∙ when_false _ _ _ (length_bad 28 total h)) (refl, o, ordered, version, h)
+        no_length h = stops 4 BlockLength (length_refused h) (refl, o, ordered, version, h)
 
         module _ (has : HasLength 28 total) where
           is_head : IsSectionHead o bytes
@@ -167,15 +171,16 @@ module _ (s m : Scan) (a : ℕ) (bytes : List ℕ) (are : AreBytes bytes) (there
           none_given : take m.give (drop 24 bytes) ≡ []
           none_given = ap (λ (v : ℕ). take v (drop 24 bytes)) give
 
+          cut_here : length bytes < total → FailsAt s bytes (a + length bytes) Truncated []
+          cut_here short = fails_as s bytes _ _ Truncated _ _ refl none_given (ends_cut s a bytes stages.Trailer o [] total 24 (standing total) stands refl (λ held. refl) refl short)
+
           cut_section : length bytes < total → SectionFails s a bytes
-          cut_section short = record {
-            within = length bytes;
-            reason = Truncated;
-            faulty = (refl, inr (o, is_head, short));
-            fails = fails_as s bytes _ _ Truncated _ _ refl none_given (ends_cut s a bytes stages.Trailer o [] total 24 (standing total) stands refl (λ held. refl) refl short);
-          }
+          cut_section short = record { within = length bytes; reason = Truncated; faulty = (refl, inr (o, is_head, short)); fails = cut_here short }
 
           module _ (enough : total ≤ length bytes) where
+            unequal_here : u32_at o (total - 4) bytes ≢ total → FailsAt s bytes (a + (total - 4)) BlockLengths []
+            unequal_here d = fails_as s bytes _ _ BlockLengths _ _ refl none_given (wrong_end s a bytes o [] total 24 (standing total) stands enough d)
+
             unequal : u32_at o (total - 4) bytes ≢ total → SectionFails s a bytes
             unequal d =
                 let least = has.enough in
@@ -184,7 +189,7 @@ module _ (s m : Scan) (a : ℕ) (bytes : List ℕ) (are : AreBytes bytes) (there
                   within = total - 4;
                   reason = BlockLengths;
                   faulty = (o, is_head, z, omega (arith, enough, least), (λ e. d (e ∙ z)));
-                  fails = fails_as s bytes _ _ BlockLengths _ _ refl none_given (wrong_end s a bytes o [] total 24 (standing total) stands enough d);
+                  fails = unequal_here d;
                 }
 
             module _ (same : u32_at o (total - 4) bytes ≡ total) where
@@ -241,10 +246,10 @@ module _ (s m : Scan) (a : ℕ) (bytes : List ℕ) (are : AreBytes bytes) (there
       by_version : SectionOutcome s a bytes
       by_version =
           elim (cases_same (u16_at o 12 bytes) 1) [
-            | inr d ↦ inl (no_major d)
+            | inr d ↦ inl (no_version (inl d))
             | inl one ↦ elim (cases_same (u16_at o 14 bytes) 0) [
               | inl zero ↦ by_length (one, inl zero)
-              | inr c ↦ elim (cases_same (u16_at o 14 bytes) 2) [ inl two ↦ by_length (one, inr two) | inr d ↦ inl (no_minor c d) ]
+              | inr c ↦ elim (cases_same (u16_at o 14 bytes) 2) [ inl two ↦ by_length (one, inr two) | inr d ↦ inl (no_version (inr (c, d))) ]
             ]
           ]
 
@@ -252,53 +257,116 @@ module _ (s m : Scan) (a : ℕ) (bytes : List ℕ) (are : AreBytes bytes) (there
     by_mark None e = inl (no_mark e)
     by_mark (Some o) e = by_version o e
 
+  -- the fault that such a section has is told
+  section_told : (k : ℕ) (reason : CaptureReason) → IsSectionFault bytes k reason → FailsAt s bytes (a + k) reason []
+  section_told k Truncated f = subst (λ (n : ℕ). FailsAt s bytes (a + n) Truncated []) (sym f.0) (elim f.1 [ inl short ↦ absurd (omega (arith, short, there)) | inr e ↦ cut_here e.1.ordered.kind e.0 e.1.ordered.mark e.1.version e.1.total e.2 ])
+  section_told k Magic f = subst (λ (n : ℕ). FailsAt s bytes (a + n) Magic []) (sym f.0) (stops_here 0 Magic (magic_refused f.2))
+  section_told k OrderMark (at, enough, kind, e) = subst (λ (n : ℕ). FailsAt s bytes (a + n) OrderMark []) (sym at) (stops_here 8 OrderMark (to_mark kind None e))
+  section_told k Version (at, o, h, d) = subst (λ (n : ℕ). FailsAt s bytes (a + n) Version []) (sym at) (stops_here 12 Version (version_refused h.kind o h.mark d))
+  section_told k BlockLength (at, o, h, version, d) = subst (λ (n : ℕ). FailsAt s bytes (a + n) BlockLength []) (sym at) (stops_here 4 BlockLength (length_refused h.kind o h.mark version d))
+  section_told k BlockLengths (o, h, last, enough, d) =
+      let total = u32_at o 4 bytes in
+      let at : total - 4 ≡ k = omega (arith, last) in
+      subst (λ (n : ℕ). FailsAt s bytes (a + n) BlockLengths []) at
+      (unequal_here h.ordered.kind o h.ordered.mark h.version h.total (omega (arith, last, enough)) (λ e. d (ap (λ (n : ℕ). u32_at o n bytes) (sym at) ∙ e ∙ sym last)))
+  section_told k LinkType f = absurd f
+  section_told k Lengths f = absurd f
+  section_told k PacketCut f = absurd f
+  section_told k OptionLength f = absurd f
+  section_told k TooManyInterfaces f = absurd f
+  section_told k NoInterface f = absurd f
+
   section_outcome : SectionOutcome s a bytes
   section_outcome = elim (cases_same (u32_at Little 0 bytes) 0x0a0d0d0a) [ inr d ↦ inl (no_magic d) | inl kind ↦ by_mark kind (order_mark (u32_at Little 8 bytes)) refl ]
 
 -- ---- at the beginning of a file, and after another section
 
-pub first_outcome : (s : Scan) (bytes : List ℕ) → s.fault ≡ None → s.head ≡ begun stages.Section → s.give ≡ 0 → s.skip ≡ 0 → s.next ≡ 0 → s.passes_cut ≡ false → AreBytes bytes → SectionOutcome s 0 bytes
-first_outcome s bytes u e g k n r are =
-    elim (cases_lt (length bytes) 24) [
-      | inl short ↦
-          let same : 0 + (0 + length bytes) ≡ 0 + length bytes = omega arith in
-          inl (record {
-            within = length bytes;
-            reason = Truncated;
-            faulty = (refl, inl short);
-            fails = fails_as s bytes _ _ Truncated _ _ same refl (within_held s stages.Section [] bytes 0 u e refl g k n (omega (arith, short)) refl);
-          })
-      | inr there ↦
-          let size = length-take-le 24 bytes there in
-          let law = takes_head s stages.Section (take 24 bytes) (record { unfaulted = u; head = e; give = g; skip = k }) refl (omega (arith, size)) size in
-          section_outcome s s 0 bytes are there (record { ran = law.0; gave = law.1 }) u g n r
-    ]
+-- bytes that end within the head have no other fault
+short_section : (bytes : List ℕ) (k : ℕ) (reason : CaptureReason) → IsSectionFault bytes k reason → length bytes < 24 → (k ≡ length bytes) × (reason ≡ Truncated)
+short_section bytes k Truncated f short = (f.0, refl)
+short_section bytes k Magic f short = let l = f.1 in absurd (omega (arith, l, short))
+short_section bytes k OrderMark f short = let l = f.1 in absurd (omega (arith, l, short))
+short_section bytes k Version f short = let l = f.2.there in absurd (omega (arith, l, short))
+short_section bytes k BlockLength f short = let l = f.2.there in absurd (omega (arith, l, short))
+short_section bytes k BlockLengths f short = let l = f.1.ordered.there in absurd (omega (arith, l, short))
+short_section bytes k LinkType f short = absurd f
+short_section bytes k Lengths f short = absurd f
+short_section bytes k PacketCut f short = absurd f
+short_section bytes k OptionLength f short = absurd f
+short_section bytes k TooManyInterfaces f short = absurd f
+short_section bytes k NoInterface f short = absurd f
 
-pub next_outcome : (s : Scan) (a : ℕ) (order : ByteOrder) (interfaces : List Interface) (bytes : List ℕ) → At s a order interfaces → 8 ≤ length bytes → AreBytes bytes → u32_at order 0 bytes ≡ 0x0a0d0d0a → SectionOutcome s a bytes
-next_outcome s a order interfaces bytes w eight are kind =
-    let h = take 8 bytes in
-    let eight_is = length-take-le 8 bytes eight in
-    let first = takes_head s stages.Block h w.stands.ready refl (omega (arith, eight_is)) eight_is in
-    let told : u32_at s.order 0 h ≡ 0x0a0d0d0a = ap (λ (v : ByteOrder). u32_at v 0 h) w.stands.order_is ∙ u32_within order bytes 0 8 0 (omega arith) ∙ kind in
-    let t : Scan = record s { head = record { stage = stages.Section; bytes = h } } in
-    let to_t : run s h ≡ t = first.0 ∙ when_true _ _ _ (eq_is _ _ told) in
-    let r : Reached s bytes 8 [] t = record { ran = to_t; gave = first.1 } in
-    let l = length-drop 8 bytes in
-    elim (cases_lt (length bytes) 24) [
-      | inl short ↦
-          let same : a + (length h + length (drop 8 bytes)) ≡ a + length bytes = omega (arith, l, eight_is, eight) in
-          inl (record {
-            within = length bytes;
-            reason = Truncated;
-            faulty = (refl, inl short);
-            fails = fails_as s bytes _ _ Truncated _ _ same refl (fails_from s t bytes 8 (a + (length h + length (drop 8 bytes))) Truncated [] [] r
-                (within_held t stages.Section h (drop 8 bytes) a w.stands.ready.unfaulted refl refl w.stands.ready.give w.stands.ready.skip w.next (omega (arith, short, l, eight_is, eight)) refl));
-          })
-      | inr there ↦
-          let h16 = take 16 (drop 8 bytes) in
-          let size = length-take-le 16 (drop 8 bytes) (omega (arith, l, there)) in
-          let m : Scan = record s { head = begun stages.Section } in
-          let second = run_head t h16 w.stands.ready.unfaulted refl w.stands.ready.give w.stands.ready.skip (λ e. let no_bytes : length h16 ≡ 0 = ap length e in absurd (omega (arith, size, no_bytes))) (omega (arith, size, eight_is)) in
-          let to : run t h16 ≡ section_head m (take 24 bytes) = second.0 ∙ decodes_section m (h ++ h16) refl ∙ ap (section_head m) (sym (take-add 8 16 bytes)) in
-          section_outcome s m a bytes are there (reach_more s t (section_head m (take 24 bytes)) bytes 8 16 [] [] r to second.1) w.stands.ready.unfaulted w.stands.ready.give w.next w.refuses
-    ]
+-- where the head of the first section stands
+module _ (s : Scan) (bytes : List ℕ) (u : s.fault ≡ None) (e : s.head ≡ begun stages.Section) (g : s.give ≡ 0) (k : s.skip ≡ 0) (n : s.next ≡ 0) (r : s.passes_cut ≡ false) (are : AreBytes bytes) where
+  first_short : length bytes < 24 → FailsAt s bytes (0 + length bytes) Truncated []
+  first_short short =
+      let same : 0 + (0 + length bytes) ≡ 0 + length bytes = omega arith in
+      fails_as s bytes _ _ Truncated _ _ same refl (within_held s stages.Section [] bytes 0 u e refl g k n (omega (arith, short)) refl)
+
+  first_reached : 24 ≤ length bytes → Reached s bytes 24 [] (section_head s (take 24 bytes))
+  first_reached there =
+      let size = length-take-le 24 bytes there in
+      let law = takes_head s stages.Section (take 24 bytes) (record { unfaulted = u; head = e; give = g; skip = k }) refl (omega (arith, size)) size in
+      record { ran = law.0; gave = law.1 }
+
+  pub first_outcome : SectionOutcome s 0 bytes
+  first_outcome =
+      elim (cases_lt (length bytes) 24) [
+        | inl short ↦ inl (record { within = length bytes; reason = Truncated; faulty = (refl, inl short); fails = first_short short })
+        | inr there ↦ section_outcome s s 0 bytes are there (first_reached there) u g n r
+      ]
+
+  pub first_told : (k : ℕ) (reason : CaptureReason) → IsSectionFault bytes k reason → FailsAt s bytes (0 + k) reason []
+  first_told k reason f =
+      elim (cases_lt (length bytes) 24) [
+        | inl short ↦ let t = short_section bytes k reason f short in subst (λ (v : CaptureReason). FailsAt s bytes (0 + k) v []) (sym t.1) (subst (λ (v : ℕ). FailsAt s bytes (0 + v) Truncated []) (sym t.0) (first_short short))
+        | inr there ↦ section_told s s 0 bytes are there (first_reached there) u g n r k reason f
+      ]
+
+-- and that of another
+module _ (s : Scan) (a : ℕ) (order : ByteOrder) (interfaces : List Interface) (bytes : List ℕ) (w : At s a order interfaces) (eight : 8 ≤ length bytes) (are : AreBytes bytes) (kind : u32_at order 0 bytes ≡ 0x0a0d0d0a) where
+  abbrev held : Scan
+  held = record s { head = record { stage = stages.Section; bytes = take 8 bytes } }
+
+  held_reached : Reached s bytes 8 [] held
+  held_reached =
+      let h = take 8 bytes in
+      let eight_is = length-take-le 8 bytes eight in
+      let first = takes_head s stages.Block h w.stands.ready refl (omega (arith, eight_is)) eight_is in
+      let told : u32_at s.order 0 h ≡ 0x0a0d0d0a = ap (λ (v : ByteOrder). u32_at v 0 h) w.stands.order_is ∙ u32_within order bytes 0 8 0 (omega arith) ∙ kind in
+      record { ran = first.0 ∙ when_true _ _ _ (eq_is _ _ told); gave = first.1 }
+
+  next_short : length bytes < 24 → FailsAt s bytes (a + length bytes) Truncated []
+  next_short short =
+      let h = take 8 bytes in
+      let eight_is = length-take-le 8 bytes eight in
+      let l = length-drop 8 bytes in
+      let same : a + (length h + length (drop 8 bytes)) ≡ a + length bytes = omega (arith, l, eight_is, eight) in
+      fails_as s bytes _ _ Truncated _ _ same refl (fails_from s held bytes 8 (a + (length h + length (drop 8 bytes))) Truncated [] [] held_reached
+      (within_held held stages.Section h (drop 8 bytes) a w.stands.ready.unfaulted refl refl w.stands.ready.give w.stands.ready.skip w.next (omega (arith, short, l, eight_is, eight)) refl))
+
+  next_reached : 24 ≤ length bytes → Reached s bytes 24 [] (section_head (record s { head = begun stages.Section }) (take 24 bytes))
+  next_reached there =
+      let h = take 8 bytes in
+      let eight_is = length-take-le 8 bytes eight in
+      let l = length-drop 8 bytes in
+      let h16 = take 16 (drop 8 bytes) in
+      let size = length-take-le 16 (drop 8 bytes) (omega (arith, l, there)) in
+      let m : Scan = record s { head = begun stages.Section } in
+      let second = run_head held h16 w.stands.ready.unfaulted refl w.stands.ready.give w.stands.ready.skip (λ e. let no_bytes : length h16 ≡ 0 = ap length e in absurd (omega (arith, size, no_bytes))) (omega (arith, size, eight_is)) in
+      let to : run held h16 ≡ section_head m (take 24 bytes) = second.0 ∙ decodes_section m (h ++ h16) refl ∙ ap (section_head m) (sym (take-add 8 16 bytes)) in
+      reach_more s held (section_head m (take 24 bytes)) bytes 8 16 [] [] held_reached to second.1
+
+  pub next_outcome : SectionOutcome s a bytes
+  next_outcome =
+      elim (cases_lt (length bytes) 24) [
+        | inl short ↦ inl (record { within = length bytes; reason = Truncated; faulty = (refl, inl short); fails = next_short short })
+        | inr there ↦ section_outcome s (record s { head = begun stages.Section }) a bytes are there (next_reached there) w.stands.ready.unfaulted w.stands.ready.give w.next w.refuses
+      ]
+
+  pub next_told : (k : ℕ) (reason : CaptureReason) → IsSectionFault bytes k reason → FailsAt s bytes (a + k) reason []
+  next_told k reason f =
+      elim (cases_lt (length bytes) 24) [
+        | inl short ↦ let t = short_section bytes k reason f short in subst (λ (v : CaptureReason). FailsAt s bytes (a + k) v []) (sym t.1) (subst (λ (v : ℕ). FailsAt s bytes (a + v) Truncated []) (sym t.0) (next_short short))
+        | inr there ↦ section_told s (record s { head = begun stages.Section }) a bytes are there (next_reached there) w.stands.ready.unfaulted w.stands.ready.give w.next w.refuses k reason f
+      ]

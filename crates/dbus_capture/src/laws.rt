@@ -4,7 +4,7 @@
 //! clause `part`.
 //!
 //! [`Source::read`]: dbus_device::Source::read
-ghost use Rattle.std.specs.Prelude.{◌≡◌, ◌<◌, ◌+◌, ℕ, ◌++◌, List, [], ◌∷◌, length, Bool, false, Some, None, slice_get};
+ghost use Rattle.std.specs.Prelude.{◌≡◌, ◌<◌, ◌+◌, ℕ, ◌++◌, List, [], ◌∷◌, length, Bool, false, Option, Some, None, slice_get};
 ghost use Rattle.dbus_capture.specs.Stages.{first_stage, IsFirstOfStream};
 ghost use Rattle.dbus_capture.specs.Scans.{fresh};
 ghost use Rattle.dbus_capture.specs.Steps.{run, given, packet_given, ended};
@@ -16,6 +16,7 @@ ghost use Rattle.dbus_capture.specs.CutPackets.{CutPacket, AllFitCutPackets, cut
 ghost use Rattle.dbus_capture.specs.BlockPackets.{IsPart, sections_packets};
 ghost use Rattle.dbus_capture.specs.BlockFaults.{interfaces_all, last_section, IsPcapngOutcome};
 ghost use Rattle.dbus_capture.specs.Packets.{Reports, IsTimed, interface_of, packet_bytes, pcap_packet_reported, block_front, pcapng_packet_reported};
+ghost use Rattle.dbus_capture.specs.declared.fault.CaptureFault.{CaptureFault};
 ghost use Rattle.dbus_capture.specs.declared.interface.Interface.{Interface};
 ghost use Rattle.dbus_capture.specs.declared.stage.Stage.TheVariants as stages;
 
@@ -34,6 +35,13 @@ pub fn pcap_outcome()
     ensures { (x : ℕ) (xs : List ℕ) → AreBytes (x ∷ xs) → first_stage x ≡ stages.FileHeader →
         IsPcapOutcome (x ∷ xs) (given (fresh false stages.Start) (x ∷ xs))
         (ended (run (fresh false stages.Start) (x ∷ xs))).fault }
+{}
+
+/// It comes to this only: it has no second fault, and is no file if it has one.
+pub fn one_pcap_outcome()
+    ensures { (x : ℕ) (xs out more : List ℕ) (fault other : Option CaptureFault) →
+        AreBytes (x ∷ xs) → first_stage x ≡ stages.FileHeader → IsPcapOutcome (x ∷ xs) out fault →
+        IsPcapOutcome (x ∷ xs) more other → (out ≡ more) × (fault ≡ other) }
 {}
 
 /// A pcap file of packets some of which were cut is read past these, if they are to be passed over:
@@ -68,6 +76,13 @@ pub fn pcapng_outcome()
     ensures { (x : ℕ) (xs : List ℕ) → AreBytes (x ∷ xs) → first_stage x ≡ stages.Section →
         IsPcapngOutcome (x ∷ xs) (given (fresh false stages.Start) (x ∷ xs))
         (ended (run (fresh false stages.Start) (x ∷ xs))).fault }
+{}
+
+/// It comes to this only: it has no second fault, and is no file if it has one.
+pub fn one_pcapng_outcome()
+    ensures { (x : ℕ) (xs out more : List ℕ) (fault other : Option CaptureFault) →
+        AreBytes (x ∷ xs) → first_stage x ≡ stages.Section → IsPcapngOutcome (x ∷ xs) out fault →
+        IsPcapngOutcome (x ∷ xs) more other → (out ≡ more) × (fault ≡ other) }
 {}
 
 /// While a capture gives the bytes of a packet of a pcap file, it reports its number, place, time
