@@ -27,7 +27,7 @@ takes_none name rows first is f l (inr named) = l (sym is ∙ ap (λ t. slice_in
 module _ (sub : Text × List Row) (other : sub.0 ≡ codes "handshake" → ⊥) where
   unset : ((settings : Settings) → HasSettings sub.1 settings → ⊥) → (asked : Asked) → Names (Some sub) asked → ⊥
   unset none (Messages command settings) named = none settings named.1
-  unset none (Count settings form) named = none settings named.1
+  unset none (Count settings) named = none settings named.1
   unset none (Listing settings wanted) named = none settings named.1
   unset none (Calls settings wanted) named = none settings named.1
   unset none (Handshake side) named = other named.0
@@ -40,7 +40,7 @@ module _ (sub : Text × List Row) (other : sub.0 ≡ codes "handshake" → ⊥) 
   module _ (uncounted : sub.0 ≡ codes "count" → ⊥) (unlisted : sub.0 ≡ codes "calls" → ⊥) (unlined : sub.0 ≡ codes "list" → ⊥) where
     unnamed : IsNoCommand sub.0 sub.1 → (asked : Asked) → Names (Some sub) asked → ⊥
     unnamed none (Messages command settings) named = none.no_command command named.0
-    unnamed none (Count settings form) named = uncounted named.0
+    unnamed none (Count settings) named = uncounted named.0
     unnamed none (Listing settings wanted) named = unlined named.0
     unnamed none (Calls settings wanted) named = unlisted named.0
     unnamed none (Handshake side) named = other named.0
@@ -60,7 +60,7 @@ module _ (rows : List Row) (no_side : (side : Side) → first_of (codes "side") 
 
   unsided : (asked : Asked) → Names (Some (codes "handshake", rows)) asked → ⊥
   unsided (Messages command settings) named = no_messages command named.0
-  unsided (Count settings form) named = let bad : ◌≡◌ {A = ℕ} 104 99 = ap (λ t. slice_index t 0) named.0 in absurd (omega arith)
+  unsided (Count settings) named = let bad : ◌≡◌ {A = ℕ} 104 99 = ap (λ t. slice_index t 0) named.0 in absurd (omega arith)
   unsided (Listing settings wanted) named = let bad : ◌≡◌ {A = ℕ} 104 108 = ap (λ t. slice_index t 0) named.0 in absurd (omega arith)
   unsided (Calls settings wanted) named = let bad : ◌≡◌ {A = ℕ} 104 99 = ap (λ t. slice_index t 0) named.0 in absurd (omega arith)
   unsided (Handshake side) named = no_side side named.1
@@ -82,7 +82,7 @@ module _ (rows : List Row) (no_wanted : (wanted : WantedCalls) → HasWanted row
 
   unlisted : (asked : Asked) → Names (Some (codes "calls", rows)) asked → ⊥
   unlisted (Messages command settings) named = no_calls command named.0
-  unlisted (Count settings form) named = let bad : ◌≡◌ {A = ℕ} 97 111 = ap (λ t. slice_index t 1) named.0 in absurd (omega arith)
+  unlisted (Count settings) named = let bad : ◌≡◌ {A = ℕ} 97 111 = ap (λ t. slice_index t 1) named.0 in absurd (omega arith)
   unlisted (Listing settings wanted) named = let bad : ◌≡◌ {A = ℕ} 99 108 = ap (λ t. slice_index t 0) named.0 in absurd (omega arith)
   unlisted (Calls settings wanted) named = no_wanted wanted named.2
   unlisted (Handshake side) named = let bad : ◌≡◌ {A = ℕ} 99 104 = ap (λ t. slice_index t 0) named.0 in absurd (omega arith)
@@ -119,7 +119,7 @@ module _ (rows : List Row) (no_lines : (wanted : WantedLines) → HasLines rows 
 
   unlined : (asked : Asked) → Names (Some (codes "list", rows)) asked → ⊥
   unlined (Messages command settings) named = no_list command named.0
-  unlined (Count settings form) named = let bad : ◌≡◌ {A = ℕ} 108 99 = ap (λ t. slice_index t 0) named.0 in absurd (omega arith)
+  unlined (Count settings) named = let bad : ◌≡◌ {A = ℕ} 108 99 = ap (λ t. slice_index t 0) named.0 in absurd (omega arith)
   unlined (Listing settings wanted) named = no_lines wanted named.2
   unlined (Calls settings wanted) named = let bad : ◌≡◌ {A = ℕ} 108 99 = ap (λ t. slice_index t 0) named.0 in absurd (omega arith)
   unlined (Handshake side) named = let bad : ◌≡◌ {A = ℕ} 108 104 = ap (λ t. slice_index t 0) named.0 in absurd (omega arith)

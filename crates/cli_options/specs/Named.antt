@@ -12,8 +12,6 @@ use Rattle.dbus_rule.specs.Rules.{Pair, SpellsRule}
 use Rattle.dbus_rule.specs.RuleViews.{rule_pairs}
 use Rattle.cli_options.specs.declared.file_form.FileForm.{FileForm}
 use Rattle.cli_options.specs.declared.file_form.FileForm.TheVariants as files
-use Rattle.cli_options.specs.declared.form.CountForm.{CountForm}
-use Rattle.cli_options.specs.declared.form.CountForm.TheVariants as written
 use Rattle.dbus_handshake_input.specs.declared.side.Side.{Side}
 use Rattle.dbus_handshake_input.specs.declared.side.Side.TheVariants.{Client, Server}
 use Rattle.cli_options.specs.CommandLine.{wire_app}
@@ -97,13 +95,8 @@ pub record HasSettings (rows : List Row) (settings : Settings) : Type 0 where
   pub handshake : HasSide rows settings.handshake
   pub window : HasWindow rows settings.window
 
--- the form of tables is JSON if its flag is given
-abbrev pub HasForm : List Row → CountForm → Type 0
-HasForm rows form = (form ≡ written.Json) ↔ IsGiven (codes "json") rows
-
 -- what `calls` is to list has each flag that is given, and the number of milliseconds
 pub record HasWanted (rows : List Row) (wanted : WantedCalls) : Type 0 where
-  pub as_json : (wanted.as_json ≡ true) ↔ IsGiven (codes "json") rows
   pub by_member : (wanted.by_member ≡ true) ↔ IsGiven (codes "members") rows
   pub unanswered : (wanted.unanswered ≡ true) ↔ IsGiven (codes "unanswered") rows
   pub errors : (wanted.errors ≡ true) ↔ IsGiven (codes "errors") rows
@@ -118,13 +111,12 @@ pub record HasLines (rows : List Row) (wanted : WantedLines) : Type 0 where
   pub selection : IsSelectionGiven rows wanted.selection
   pub width : HasWidth rows wanted.width
 
--- the subcommand and the words after it name a command and its settings, the settings and the form
--- of `count`, those of `list` and of `calls` and what they list, or the side whose handshake is
--- listed
+-- the subcommand and the words after it name a command and its settings, those of `count`, those of
+-- `list` and of `calls` and what they list, or the side whose handshake is listed
 abbrev pub Names : Option (Text × List Row) → Asked → Type 0
 Names None asked = ⊥
 Names (Some sub) (Messages command settings) = NamesCommand sub.0 sub.1 command × HasSettings sub.1 settings
-Names (Some sub) (Count settings form) = (sub.0 ≡ codes "count") × HasSettings sub.1 settings × HasForm sub.1 form
+Names (Some sub) (Count settings) = (sub.0 ≡ codes "count") × HasSettings sub.1 settings
 Names (Some sub) (Listing settings wanted) = (sub.0 ≡ codes "list") × HasSettings sub.1 settings × HasLines sub.1 wanted
 Names (Some sub) (Calls settings wanted) = (sub.0 ≡ codes "calls") × HasSettings sub.1 settings × HasWanted sub.1 wanted
 Names (Some sub) (Handshake side) = (sub.0 ≡ codes "handshake") × (first_of (codes "side") sub.1 ≡ Some (side_word side))

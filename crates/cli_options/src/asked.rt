@@ -1,6 +1,5 @@
 //! What words ask for.
 use crate::command::Command;
-use crate::form::CountForm;
 use crate::settings::Settings;
 use crate::wanted_calls::WantedCalls;
 use crate::wanted_lines::WantedLines;
@@ -11,8 +10,8 @@ use dbus_handshake_input::Side;
 pub enum Asked {
     /// A command over messages, by its settings.
     Messages(Command, Settings),
-    /// Tables of the number of messages with each name, by these settings and in this form.
-    Count(Settings, CountForm),
+    /// Tables of the number of messages with each name, by these settings.
+    Count(Settings),
     /// A list of messages, a line for each, by these settings.
     List(Settings, WantedLines),
     /// A list of calls and what came of them, by these settings.

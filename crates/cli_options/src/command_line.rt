@@ -1,14 +1,13 @@
 //! The command that the words of a command line name.
 ghost use Rattle.std.specs.Prelude.{◌≡◌, ◌↔◌, true, List, Some, IfOk, MatchOption, map, string_bytes, codes};
 ghost use Rattle.clap.specs.Words.{found_of, kind_of, rows_of, subcommand_rows_of};
-ghost use Rattle.cli_options.specs.Named.{GivesWanted, HasFileForm, HasForm, HasSettings, HasSide, IsNamedBy, IsOrderOf, IsSideOf, rules_given, words_of};
+ghost use Rattle.cli_options.specs.Named.{GivesWanted, HasFileForm, HasSettings, HasSide, IsNamedBy, IsOrderOf, IsSideOf, rules_given, words_of};
 ghost use Rattle.cli_options.specs.Limiting.{IsGiven, TellsNamed};
 ghost use Rattle.cli_options.specs.Told.{TellsKind, Tells, TellsCommand, TellsFault, TellsOwners, TellsRules, TellsSelection};
 
 use crate::asked::Asked;
 use crate::command::Command;
 use crate::file_form::FileForm;
-use crate::form::CountForm;
 use crate::limits_named::{given_named, limits_named, width_named, window_named};
 use crate::owners::owners_given;
 use crate::rules::rules_spelled;
@@ -73,7 +72,7 @@ fn command_named(alloc: Global, matches: &ArgMatches) -> Result<Asked, UsageFaul
     }
     let settings = settings_named(alloc, inner)?;
     if name == "count" {
-        return Ok(Asked::Count(settings, form_named(inner)));
+        return Ok(Asked::Count(settings));
     }
     if name == "calls" {
         return calls_named(alloc, settings, inner);
@@ -98,17 +97,6 @@ fn handshake_named(alloc: Global, inner: &ArgMatches) -> Result<Asked, UsageFaul
     }
 }
 
-// The form of the tables of `count`.
-fn form_named(inner: &ArgMatches) -> CountForm
-    ensures { HasForm (rows_of (found_of inner.now)) result }
-{
-    if is_given(inner, "json") {
-        CountForm::Json
-    } else {
-        CountForm::Text
-    }
-}
-
 // What `calls` is given, with these settings.
 fn calls_named(alloc: Global, settings: Settings, inner: &ArgMatches) -> Result<Asked, UsageFault>
     requires { HasSettings (rows_of (found_of inner.now)) settings }
@@ -126,7 +114,6 @@ fn wanted_named(inner: &ArgMatches) -> Option<WantedCalls>
 {
     let slower = given_named(inner, "slower")?;
     Some(WantedCalls {
-        as_json: is_given(inner, "json"),
         by_member: is_given(inner, "members"),
         unanswered: is_given(inner, "unanswered"),
         errors: is_given(inner, "errors"),

@@ -11,7 +11,8 @@ use dbus_value_model::Limits;
 pub struct Settings {
     /// The limits that the messages are read under.
     pub limits: Limits,
-    /// Whether what is told of refused messages, and the last line, is JSON, RFC 8259.
+    /// Whether what is told of refused messages, the last line, and what `count` and `calls` write
+    /// is JSON, RFC 8259.
     pub as_json: bool,
     /// Whether a refused message, or a refused rule, is explained.
     pub explains: bool,

@@ -1,11 +1,9 @@
 //! What `calls` is to list.
 
-/// What `calls` is to list, and in which form. If none of these is asked for, it is all calls; else
+/// What `calls` is to list. If none of these is asked for, it is all calls; else
 /// those of any that is.
 #[derive(Clone, Copy, Debug, PartialEq, Eq)]
 pub struct WantedCalls {
-    /// Whether each line is an object of JSON, RFC 8259, in place of words.
-    pub as_json: bool,
     /// Whether a line is that of a member, with the sums of its calls, in place of a call's.
     pub by_member: bool,
     /// Whether the calls to which no reply came are to be listed, of those that want one.

@@ -32,8 +32,6 @@ use Rattle.cli_options.specs.declared.command.Command.{Command}
 use Rattle.cli_options.specs.declared.file_form.FileForm.{FileForm}
 use Rattle.cli_options.specs.declared.file_form.FileForm.TheVariants as files
 use Rattle.cli_options.specs.declared.command.Command.TheVariants.{Show, Json, Check, Swap, Filter}
-use Rattle.cli_options.specs.declared.form.CountForm.{CountForm}
-use Rattle.cli_options.specs.declared.form.CountForm.TheVariants as written
 use Rattle.cli_options.specs.declared.selection.Selection.{Selection}
 use Rattle.cli_options.specs.declared.settings.Settings.{Settings}
 use Rattle.cli_options.specs.declared.wanted_calls.WantedCalls.{WantedCalls}
@@ -55,7 +53,7 @@ use Rattle.dbus_tool.specs.Handshaking.{GathersLines, IsListed, PutsLines, Write
 -- the same is asked for
 abbrev pub AreSameAsked : Asked → Asked → Type 0
 AreSameAsked (Messages c s) (Messages d t) = AreSameCommand c d × (s ≡ t)
-AreSameAsked (Count s f) (Count t g) = (s ≡ t) × (f ≡ g)
+AreSameAsked (Count s) (Count t) = s ≡ t
 AreSameAsked (Listing s a) (Listing t b) = (s ≡ t) × AreSameSelection a.selection b.selection × (a.width ≡ b.width)
 AreSameAsked (Calls s f) (Calls t g) = (s ≡ t) × (f ≡ g)
 AreSameAsked (Handshake a) (Handshake b) = a ≡ b
@@ -258,20 +256,13 @@ same_command name rows a b p q = absurd (let e = sym (marked name rows a p) ∙ 
 
 -- ---- what is asked for
 
-same_form : (a b : CountForm) {P : Type 0} → (a ≡ written.Json) ↔ P → (b ≡ written.Json) ↔ P → a ≡ b
-same_form written.Json written.Json p q = refl
-same_form written.Text written.Text p q = refl
-same_form written.Json written.Text p q = sym (q.1 (p.0 refl))
-same_form written.Text written.Json p q = p.1 (q.0 refl)
-
 same_wanted : (rows : List Row) (a b : WantedCalls) → HasWanted rows a → HasWanted rows b → a ≡ b
 same_wanted rows a b p q =
-    let as_json = same_flag a.as_json b.as_json p.as_json q.as_json in
     let by_member = same_flag a.by_member b.by_member p.by_member q.by_member in
     let unanswered = same_flag a.unanswered b.unanswered p.unanswered q.unanswered in
     let errors = same_flag a.errors b.errors p.errors q.errors in
     let slower = same_given _ a.slower b.slower p.slower q.slower in
-    λ i. record { as_json = as_json i; by_member = by_member i; unanswered = unanswered i; errors = errors i; slower = slower i }
+    λ i. record { by_member = by_member i; unanswered = unanswered i; errors = errors i; slower = slower i }
 
 no_count : (name : Text) (rows : List Row) (command : Command) → NamesCommand name rows command → name ≡ codes "count" → ⊥
 no_count name rows (Show times escapes) p e = omega (arith, ap mark p.0, ap mark e)
@@ -304,31 +295,31 @@ no_handshake name rows (Filter selection form) p e = omega (arith, ap mark p.0, 
 same_named : (sub : Option (Text × List Row)) (a b : Asked) → Names sub a → Names sub b → AreSameAsked a b
 same_named None a b p q = absurd p
 same_named (Some sub) (Messages c s) (Messages d t) p q = (same_command sub.0 sub.1 c d p.0 q.0, same_settings sub.1 s t p.1 q.1)
-same_named (Some sub) (Count s f) (Count t g) p q = (same_settings sub.1 s t p.1 q.1, same_form f g p.2 q.2)
+same_named (Some sub) (Count s) (Count t) p q = same_settings sub.1 s t p.1 q.1
 same_named (Some sub) (Calls s f) (Calls t g) p q = (same_settings sub.1 s t p.1 q.1, same_wanted sub.1 f g p.2 q.2)
 same_named (Some sub) (Handshake x) (Handshake y) p q = same_side_word x y (some_is (side_word x) (side_word y) (sym p.1 ∙ q.1))
 same_named (Some sub) (Listing s a) (Listing t b) p q =
     (same_settings sub.1 s t p.1 q.1, same_selection sub.1 a.selection b.selection p.2.selection q.2.selection, same_number _ 80 a.width b.width p.2.width.0 q.2.width.0)
 same_named (Some sub) (Messages c s) (Listing t b) p q = no_list sub.0 sub.1 c p.0 q.0
 same_named (Some sub) (Listing s a) (Messages d t) p q = no_list sub.0 sub.1 d q.0 p.0
-same_named (Some sub) (Count s f) (Listing t b) p q = absurd (let e = sym (ap mark p.0) ∙ ap mark q.0 in omega (arith, e))
-same_named (Some sub) (Listing s a) (Count t g) p q = absurd (let e = sym (ap mark p.0) ∙ ap mark q.0 in omega (arith, e))
+same_named (Some sub) (Count s) (Listing t b) p q = absurd (let e = sym (ap mark p.0) ∙ ap mark q.0 in omega (arith, e))
+same_named (Some sub) (Listing s a) (Count t) p q = absurd (let e = sym (ap mark p.0) ∙ ap mark q.0 in omega (arith, e))
 same_named (Some sub) (Calls s f) (Listing t b) p q = absurd (let e = sym (ap mark p.0) ∙ ap mark q.0 in omega (arith, e))
 same_named (Some sub) (Listing s a) (Calls t g) p q = absurd (let e = sym (ap mark p.0) ∙ ap mark q.0 in omega (arith, e))
 same_named (Some sub) (Handshake x) (Listing t b) p q = absurd (let e = sym (ap mark p.0) ∙ ap mark q.0 in omega (arith, e))
 same_named (Some sub) (Listing s a) (Handshake y) p q = absurd (let e = sym (ap mark p.0) ∙ ap mark q.0 in omega (arith, e))
-same_named (Some sub) (Messages c s) (Count t g) p q = no_count sub.0 sub.1 c p.0 q.0
+same_named (Some sub) (Messages c s) (Count t) p q = no_count sub.0 sub.1 c p.0 q.0
 same_named (Some sub) (Messages c s) (Handshake y) p q = no_handshake sub.0 sub.1 c p.0 q.0
-same_named (Some sub) (Count s f) (Messages d t) p q = no_count sub.0 sub.1 d q.0 p.0
+same_named (Some sub) (Count s) (Messages d t) p q = no_count sub.0 sub.1 d q.0 p.0
 same_named (Some sub) (Handshake x) (Messages d t) p q = no_handshake sub.0 sub.1 d q.0 p.0
 same_named (Some sub) (Messages c s) (Calls t g) p q = no_calls sub.0 sub.1 c p.0 q.0
 same_named (Some sub) (Calls s f) (Messages d t) p q = no_calls sub.0 sub.1 d q.0 p.0
-same_named (Some sub) (Count s f) (Calls t g) p q = absurd (let e = sym (ap mark p.0) ∙ ap mark q.0 in omega (arith, e))
-same_named (Some sub) (Calls s f) (Count t g) p q = absurd (let e = sym (ap mark p.0) ∙ ap mark q.0 in omega (arith, e))
+same_named (Some sub) (Count s) (Calls t g) p q = absurd (let e = sym (ap mark p.0) ∙ ap mark q.0 in omega (arith, e))
+same_named (Some sub) (Calls s f) (Count t) p q = absurd (let e = sym (ap mark p.0) ∙ ap mark q.0 in omega (arith, e))
 same_named (Some sub) (Calls s f) (Handshake y) p q = absurd (let e = sym (ap mark p.0) ∙ ap mark q.0 in omega (arith, e))
 same_named (Some sub) (Handshake x) (Calls t g) p q = absurd (let e = sym (ap mark p.0) ∙ ap mark q.0 in omega (arith, e))
-same_named (Some sub) (Count s f) (Handshake y) p q = absurd (let e = sym (ap mark p.0) ∙ ap mark q.0 in omega (arith, e))
-same_named (Some sub) (Handshake x) (Count t g) p q = absurd (let e = sym (ap mark p.0) ∙ ap mark q.0 in omega (arith, e))
+same_named (Some sub) (Count s) (Handshake y) p q = absurd (let e = sym (ap mark p.0) ∙ ap mark q.0 in omega (arith, e))
+same_named (Some sub) (Handshake x) (Count t) p q = absurd (let e = sym (ap mark p.0) ∙ ap mark q.0 in omega (arith, e))
 
 pub same_asked : (words : List Text) (a b : Asked) → IsNamedBy words a → IsNamedBy words b → AreSameAsked a b
 same_asked words a b p q = same_named (subcommand_of wire_app words) a b p q

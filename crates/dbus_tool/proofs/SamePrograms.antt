@@ -31,7 +31,6 @@ use Rattle.cli_options.specs.declared.asked.Asked.{Asked}
 use Rattle.cli_options.specs.declared.file_form.FileForm.{FileForm}
 use Rattle.cli_options.specs.declared.file_form.FileForm.TheVariants.{AsRead, Raw}
 use Rattle.cli_options.specs.declared.asked.Asked.TheVariants.{Messages, Count, List as Listing, Calls, Handshake}
-use Rattle.cli_options.specs.declared.form.CountForm.{CountForm}
 use Rattle.dbus_handshake_input.specs.declared.side.Side.{Side}
 use Rattle.cli_options.specs.declared.command.Command.{Command}
 use Rattle.cli_options.specs.declared.command.Command.TheVariants.{Filter}
@@ -83,7 +82,7 @@ no_fault : (sub : Option (Text × List Row)) (asked : Asked) (refused : RefusedR
 no_fault None asked refused p h = p
 no_fault (Some sub) (Messages (Filter selection form) settings) refused p h = none_refused sub.1 selection refused p.0.1 h.0.refuses
 no_fault (Some sub) (Messages command settings) refused p h = takes_none sub.0 sub.1 (mark_of command) (marked sub.0 sub.1 command p.0) (λ e. omega (arith, e)) (λ e. omega (arith, e)) h.0.named
-no_fault (Some sub) (Count settings form) refused p h = takes_none sub.0 sub.1 (mark (codes "count")) (ap mark p.0) (λ e. omega (arith, e)) (λ e. omega (arith, e)) h.0.named
+no_fault (Some sub) (Count settings) refused p h = takes_none sub.0 sub.1 (mark (codes "count")) (ap mark p.0) (λ e. omega (arith, e)) (λ e. omega (arith, e)) h.0.named
 no_fault (Some sub) (Listing settings wanted) refused p h = none_refused sub.1 wanted.selection refused p.2.selection h.0.refuses
 no_fault (Some sub) (Calls settings wanted) refused p h = takes_none sub.0 sub.1 (mark (codes "calls")) (ap mark p.0) (λ e. omega (arith, e)) (λ e. omega (arith, e)) h.0.named
 no_fault (Some sub) (Handshake side) refused p h = takes_none sub.0 sub.1 (mark (codes "handshake")) (ap mark p.0) (λ e. omega (arith, e)) (λ e. omega (arith, e)) h.0.named
@@ -108,26 +107,26 @@ shows_none settings end one = elim one.1 [ inl in_words ↦ inl (in_words, one.0
 
 one_way_too : (end : ExitStatus) (a b : Asked) → AreSameAsked a b → IsOneWay end a → IsOneWay end b
 one_way_too end (Messages c s) (Messages d t) h one = ((acts_as c d h.0).exact one.0, subst (λ (x : Settings). TellsOneWay x end) h.1 one.1)
-one_way_too end (Count s f) (Count t g) h one = subst (λ (x : Settings). TellsOneWay x end) h.0 one
+one_way_too end (Count s) (Count t) h one = subst (λ (x : Settings). TellsOneWay x end) h one
 one_way_too end (Calls s f) (Calls t g) h one = subst (λ (x : Settings). TellsOneWay x end) h.0 one
 one_way_too end (Handshake a) (Handshake b) h one = tt
 one_way_too end (Listing s a) b h one = absurd one
 one_way_too end (Messages c s) (Listing t b) h one = absurd h
-one_way_too end (Count s f) (Listing t b) h one = absurd h
+one_way_too end (Count s) (Listing t b) h one = absurd h
 one_way_too end (Calls s f) (Listing t b) h one = absurd h
 one_way_too end (Handshake a) (Listing t b) h one = absurd h
 one_way_too end (Handshake a) (Calls t g) h one = absurd h
 one_way_too end (Messages c s) (Calls t g) h one = absurd h
-one_way_too end (Count s f) (Calls t g) h one = absurd h
+one_way_too end (Count s) (Calls t g) h one = absurd h
 one_way_too end (Calls s f) (Messages d t) h one = absurd h
-one_way_too end (Calls s f) (Count t g) h one = absurd h
+one_way_too end (Calls s f) (Count t) h one = absurd h
 one_way_too end (Calls s f) (Handshake b) h one = absurd h
 one_way_too end (Handshake a) (Messages d t) h one = absurd h
-one_way_too end (Handshake a) (Count t g) h one = absurd h
-one_way_too end (Messages c s) (Count t g) h one = absurd h
+one_way_too end (Handshake a) (Count t) h one = absurd h
+one_way_too end (Messages c s) (Count t) h one = absurd h
 one_way_too end (Messages c s) (Handshake b) h one = absurd h
-one_way_too end (Count s f) (Messages d t) h one = absurd h
-one_way_too end (Count s f) (Handshake b) h one = absurd h
+one_way_too end (Count s) (Messages d t) h one = absurd h
+one_way_too end (Count s) (Handshake b) h one = absurd h
 
 -- without a note
 module _ {R W E : Type 0} (left : R → Option (List ℕ)) (calls failures : R → ℕ) (packets : R → Option Packets) (packet : R → Option Packet) (old new : ReadAhead R) (w : Writing W) (e : Writing E) (settings : Settings) where
@@ -296,10 +295,10 @@ module _ {R S W V E F : Type 0} (one_table : OneTable) (left : R → Option (Lis
       (one_run (ReadAhead R) (ReadAhead S) W V E F (ahead left calls failures packets packet r r1) (ahead other_left other_calls other_failures other_packets other_packet s s1) w v e f settings _ _ c d end other same
       (record { input = here; told = told_from settings r s taken also (told_of (form_of c) settings run); explains = shows_none settings end off; done = done; other_done = other_done }) does doing).1 exact (placed_alike (form_of c) settings run r s taken also))
 
-  counts_alike : (settings : Settings) (form : CountForm) → SameFrom settings → TellsOneWay settings end → DoesTask left calls failures packets packet r0 r1 w e settings (CountAll form) end
-      → DoesTask other_left other_calls other_failures other_packets other_packet s0 s1 v f settings (CountAll form) other → EndAlike w v e f end other
-  counts_alike settings form same off = tasks_alike settings (CountAll form) (CountAll form) (λ r s taken also here does doing.
-      (one_count (ReadAhead R) (ReadAhead S) W V E F one_table (ahead left calls failures packets packet r r1) (ahead other_left other_calls other_failures other_packets other_packet s s1) w v e f settings (table_form form) _ _ end other
+  counts_alike : (settings : Settings) → SameFrom settings → TellsOneWay settings end → DoesTask left calls failures packets packet r0 r1 w e settings CountAll end
+      → DoesTask other_left other_calls other_failures other_packets other_packet s0 s1 v f settings CountAll other → EndAlike w v e f end other
+  counts_alike settings same off = tasks_alike settings CountAll CountAll (λ r s taken also here does doing.
+      (one_count (ReadAhead R) (ReadAhead S) W V E F one_table (ahead left calls failures packets packet r r1) (ahead other_left other_calls other_failures other_packets other_packet s s1) w v e f settings (table_form settings.as_json) _ _ end other
       (record { input = here; told = inl (same r s taken also); explains = shows_none settings end off; done = done; other_done = other_done }) does doing).1 (same r s taken also))
 
   either_alike : (r : Reading (ReadAhead R)) (s : Reading (ReadAhead S)) (settings : Settings) (by_member : Bool) (wanted : Wanted) → AreOfOneInput r s settings end other → AreOfSamePackets r s → DoesCalls r w e settings by_member wanted end
@@ -310,7 +309,7 @@ module _ {R S W V E F : Type 0} (one_table : OneTable) (left : R → Option (Lis
   called_alike : (settings : Settings) (wanted : WantedCalls) → SameFrom settings → TellsOneWay settings end → DoesTask left calls failures packets packet r0 r1 w e settings (ListAll wanted) end
       → DoesTask other_left other_calls other_failures other_packets other_packet s0 s1 v f settings (ListAll wanted) other → EndAlike w v e f end other
   called_alike settings wanted same off = tasks_alike settings (ListAll wanted) (ListAll wanted) (λ r s taken also here does doing.
-      either_alike (ahead left calls failures packets packet r r1) (ahead other_left other_calls other_failures other_packets other_packet s s1) settings wanted.by_member (calls_wanted wanted)
+      either_alike (ahead left calls failures packets packet r r1) (ahead other_left other_calls other_failures other_packets other_packet s s1) settings wanted.by_member (calls_wanted settings.as_json wanted)
       (record { input = here; told = inl (same r s taken also); explains = shows_none settings end off; done = done; other_done = other_done }) (same r s taken also) does doing)
 
   alike : (a b : Asked) → AreSameAsked a b → IsOneWay end a → AskAlike left calls failures packets packet other_left other_calls other_failures other_packets other_packet r0 r1 s0 s1 end a → Does left calls failures packets packet r0 r1 w e (Ok a) end → Does other_left other_calls other_failures other_packets other_packet s0 s1 v f (Ok b) other → EndAlike w v e f end other
@@ -318,9 +317,8 @@ module _ {R S W V E F : Type 0} (one_table : OneTable) (left : R → Option (Lis
       let there = subst (λ (x : Settings). Does other_left other_calls other_failures other_packets other_packet s0 s1 v f (Ok (Messages d x)) other) (sym same.1) doing in
       runs_alike c d settings told same.0 one.0 one.1 (unnoted left calls failures packets packet r0 r1 w e settings c end done one.1.0 does)
       (unnoted other_left other_calls other_failures other_packets other_packet s0 s1 v f settings d other other_done one.1.0 there)
-  alike (Count settings form) (Count t g) same one told does doing =
-      let there = subst (λ (x : Settings). Does other_left other_calls other_failures other_packets other_packet s0 s1 v f (Ok (Count x g)) other) (sym same.0) doing in
-      counts_alike settings form told one does (subst (λ (x : CountForm). Does other_left other_calls other_failures other_packets other_packet s0 s1 v f (Ok (Count settings x)) other) (sym same.1) there)
+  alike (Count settings) (Count t) same one told does doing =
+      counts_alike settings told one does (subst (λ (x : Settings). Does other_left other_calls other_failures other_packets other_packet s0 s1 v f (Ok (Count x)) other) (sym same) doing)
   alike (Calls settings wanted) (Calls t g) same one told does doing =
       let there = subst (λ (x : Settings). Does other_left other_calls other_failures other_packets other_packet s0 s1 v f (Ok (Calls x g)) other) (sym same.0) doing in
       called_alike settings wanted told one does (subst (λ (x : WantedCalls). Does other_left other_calls other_failures other_packets other_packet s0 s1 v f (Ok (Calls settings x)) other) (sym same.1) there)
@@ -328,20 +326,20 @@ module _ {R S W V E F : Type 0} (one_table : OneTable) (left : R → Option (Lis
       listed_alike side does (subst (λ (x : Side). Does other_left other_calls other_failures other_packets other_packet s0 s1 v f (Ok (Handshake x)) other) (sym same) doing)
   alike (Listing t a) b same one told does doing = absurd one
   alike (Messages c t) (Listing u b) same one told does doing = absurd same
-  alike (Count t g) (Listing u b) same one told does doing = absurd same
+  alike (Count t) (Listing u b) same one told does doing = absurd same
   alike (Calls t g) (Listing u b) same one told does doing = absurd same
   alike (Handshake side) (Listing u b) same one told does doing = absurd same
   alike (Handshake side) (Messages d u) same one told does doing = absurd same
-  alike (Handshake side) (Count u g) same one told does doing = absurd same
-  alike (Messages c t) (Count u g) same one told does doing = absurd same
+  alike (Handshake side) (Count u) same one told does doing = absurd same
+  alike (Messages c t) (Count u) same one told does doing = absurd same
   alike (Messages c t) (Handshake b) same one told does doing = absurd same
-  alike (Count t g) (Messages d u) same one told does doing = absurd same
-  alike (Count t g) (Handshake b) same one told does doing = absurd same
-  alike (Count t g) (Calls u k) same one told does doing = absurd same
+  alike (Count t) (Messages d u) same one told does doing = absurd same
+  alike (Count t) (Handshake b) same one told does doing = absurd same
+  alike (Count t) (Calls u k) same one told does doing = absurd same
   alike (Messages c t) (Calls u k) same one told does doing = absurd same
   alike (Handshake side) (Calls u k) same one told does doing = absurd same
   alike (Calls t g) (Messages d u) same one told does doing = absurd same
-  alike (Calls t g) (Count u k) same one told does doing = absurd same
+  alike (Calls t g) (Count u) same one told does doing = absurd same
   alike (Calls t g) (Handshake b) same one told does doing = absurd same
 
 pub one_program : (R S W V E F : Type 0) → OneTable → OneProgram R S W V E F

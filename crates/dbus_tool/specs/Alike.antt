@@ -29,7 +29,7 @@ TellsOneWay settings end = (settings.explains ≡ false) × ((settings.as_json �
 -- so is what is told
 abbrev pub IsOneWay : (end : ExitStatus) → Asked → Type 0
 IsOneWay end (Messages command settings) = IsExact command × TellsOneWay settings end
-IsOneWay end (Count settings form) = TellsOneWay settings end
+IsOneWay end (Count settings) = TellsOneWay settings end
 IsOneWay end (Listing settings wanted) = ⊥
 IsOneWay end (Calls settings wanted) = TellsOneWay settings end
 IsOneWay end (Handshake side) = Unit {0}
@@ -63,7 +63,7 @@ module _ {R S : Type 0} (left : R → Option (List ℕ)) (calls failures : R →
   -- what is asked for has one output: `count`, `list` and `calls` write times of packets too
   abbrev pub AskAlike : Asked → Type 0
   AskAlike (Messages command settings) = RunAlike (form_of command) settings
-  AskAlike (Count settings form) = AreOfSamePacketsFrom settings
+  AskAlike (Count settings) = AreOfSamePacketsFrom settings
   AskAlike (Listing settings wanted) = AreOfSamePacketsFrom settings
   AskAlike (Calls settings wanted) = AreOfSamePacketsFrom settings
   AskAlike (Handshake side) = Unit {0}

@@ -23,8 +23,6 @@ use Rattle.dbus_handshake_input.specs.declared.fault.HandshakeFault.{HandshakeFa
 use Rattle.dbus_handshake_input.specs.declared.read_ahead.ReadAhead.{ReadAhead}
 use Rattle.cli_options.specs.declared.asked.Asked.{Asked}
 use Rattle.cli_options.specs.declared.asked.Asked.TheVariants.{Messages, Count, List as Listing, Calls, Handshake}
-use Rattle.cli_options.specs.declared.form.CountForm.{CountForm}
-use Rattle.cli_options.specs.declared.form.CountForm.TheVariants as asked
 use Rattle.dbus_count.specs.declared.form.Form as tables
 use Rattle.dbus_count.specs.declared.form.Form.TheVariants as written
 use Rattle.dbus_call_lines.specs.declared.form.Form.TheVariants.{Text as InWords, Json as InJson}
@@ -65,13 +63,13 @@ ShowsText w e text end = ((end ≡ status.Done) × Wrote w.held w.failures w.old
     ⊎ ((end ≡ status.Failed) × Told e.held e.failures e.old e.new cause.WriteFailed × (n : ℕ) × Stopped w.held w.failures w.old text n w.new)
 
 -- the form in which the tables are written
-abbrev pub table_form : CountForm → tables.Form
-table_form asked.Text = written.Text
-table_form asked.Json = written.Json
+abbrev pub table_form : (as_json : Bool) → tables.Form
+table_form true = written.Json
+table_form false = written.Text
 
 -- the list that `calls` asks for
-abbrev pub calls_wanted : WantedCalls → Wanted
-calls_wanted wanted = record { form = if wanted.as_json then InJson else InWords; unanswered = wanted.unanswered; errors = wanted.errors; slower = wanted.slower }
+abbrev pub calls_wanted : (as_json : Bool) → WantedCalls → Wanted
+calls_wanted as_json wanted = record { form = if as_json then InJson else InWords; unanswered = wanted.unanswered; errors = wanted.errors; slower = wanted.slower }
 
 -- calls are summed up by their members, or listed
 abbrev pub DoesCalls : {R W E : Type 0} → Reading R → Writing W → Writing E → Settings → (by_member : Bool) → Wanted → ExitStatus → Type 0
@@ -82,8 +80,8 @@ DoesCalls r w e settings false wanted end = ListsCalls r w e settings wanted (2 
 -- calls are listed or summed up, or they are listed
 abbrev pub DoesBy : {R W E : Type 0} → Reading R → Writing W → Writing E → Settings → Task → ExitStatus → Type 0
 DoesBy r w e settings (Run command) end = RunsWith r w e settings (2 ^ 32) command end
-DoesBy r w e settings (CountAll form) end = CountsByName r w e settings (table_form form) (2 ^ 32) end
-DoesBy r w e settings (ListAll wanted) end = DoesCalls r w e settings wanted.by_member (calls_wanted wanted) end
+DoesBy r w e settings CountAll end = CountsByName r w e settings (table_form settings.as_json) (2 ^ 32) end
+DoesBy r w e settings (ListAll wanted) end = DoesCalls r w e settings wanted.by_member (calls_wanted settings.as_json wanted) end
 DoesBy r w e settings (ListLines wanted) end = ListsLines r w e settings wanted (2 ^ 32) end
 
 -- what is said of a rule whose sender has no owner
@@ -117,7 +115,7 @@ module _ {R W E : Type 0} (left : R → Option (List ℕ)) (calls failures : R �
   abbrev pub Does : Result Asked UsageFault → ExitStatus → Type 0
   Does (Ok (Messages command settings)) end = RunsNoted settings (lacks_owner command) (Run command) end
   Does (Ok (Listing settings wanted)) end = RunsNoted settings (selection_lacks_owner wanted.selection) (ListLines wanted) end
-  Does (Ok (Count settings form)) end = DoesTask left calls failures packets packet old new w e settings (CountAll form) end
+  Does (Ok (Count settings)) end = DoesTask left calls failures packets packet old new w e settings CountAll end
   Does (Ok (Calls settings wanted)) end = DoesTask left calls failures packets packet old new w e settings (ListAll wanted) end
   Does (Ok (Handshake side)) end = Lists left calls failures old new w e side end
   Does (Err Memory) end = (new ≡ old) × (w.new ≡ w.old) × StopsBy e.held e.failures e.old e.new cause.Memory end

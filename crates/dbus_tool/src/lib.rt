@@ -11,8 +11,8 @@ mod rule_lines;
 mod words;
 
 pub use cli_options::{
-    Asked, Command, CountForm, RefusedRule, Selection, Settings, Side, UsageFault, WantedCalls,
-    WantedLines, Window, command_of,
+    Asked, Command, RefusedRule, Selection, Settings, Side, UsageFault, WantedCalls, WantedLines,
+    Window, command_of,
 };
 pub use cli_report::ExitStatus;
 pub use cli_run::{run, run_reads, run_with, run_within};

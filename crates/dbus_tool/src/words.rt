@@ -8,8 +8,7 @@ use crate::lines::handshake_line;
 use crate::listing::write_lines;
 use crate::rule_lines::rule_text;
 use cli_options::{
-    Asked, Command, CountForm, RefusedRule, Settings, UsageFault, WantedCalls, WantedLines,
-    command_of,
+    Asked, Command, RefusedRule, Settings, UsageFault, WantedCalls, WantedLines, command_of,
 };
 use cli_report::{Cause, ExitStatus, Unwritten, give_up};
 use cli_run::{count_by_name, list_calls, list_lines, run_with, sum_calls};
@@ -93,8 +92,8 @@ pub fn run_words<R: Source, W: Sink, E: Sink>(
                 Err(WrittenOnly(_)) => ExitStatus::Failed,
             }
         }
-        Ok(Asked::Count(settings, form)) => {
-            do_task(alloc, Task::CountAll(form), settings, reader, first, second)
+        Ok(Asked::Count(settings)) => {
+            do_task(alloc, Task::CountAll, settings, reader, first, second)
         }
         Ok(Asked::Calls(settings, wanted)) => {
             do_task(
@@ -137,8 +136,8 @@ fn note_owners<E: Sink>(
 enum Task {
     // A command is run.
     Run(Command),
-    // The messages are counted by their names, for tables in this form.
-    CountAll(CountForm),
+    // The messages are counted by their names.
+    CountAll,
     // Their calls are listed, or summed up by their members.
     ListAll(WantedCalls),
     // They are listed, a line for each.
@@ -164,8 +163,15 @@ fn do_task<R: Source, W: Sink, E: Sink>(
             Task::Run(command) => {
                 run_with(alloc, command, settings, MOST_READS, reader, first, second)
             }
-            Task::CountAll(form) => {
-                count_by_name(alloc, settings, table_form(form), reader, first, second)
+            Task::CountAll => {
+                count_by_name(
+                    alloc,
+                    settings,
+                    table_form(settings.as_json),
+                    reader,
+                    first,
+                    second,
+                )
             }
             Task::ListAll(wanted) => { do_calls(alloc, settings, wanted, reader, first, second) }
             Task::ListLines(wanted) => {
@@ -188,9 +194,9 @@ fn do_calls<R: Source, W: Sink, E: Sink>(
     ensures { DoesCalls (ahead R.left R.calls R.failures R.packets R.packet reader.old reader.new)
         (writing W.held W.failures first.old first.new)
         (writing E.held E.failures second.old second.new)
-        settings wanted.by_member (calls_wanted wanted) result }
+        settings wanted.by_member (calls_wanted settings.as_json wanted) result }
 {
-    let list = calls_wanted(wanted);
+    let list = calls_wanted(settings.as_json, wanted);
     if wanted.by_member {
         sum_calls(alloc, settings, list, reader, first, second)
     } else {
@@ -212,26 +218,23 @@ fn take_handshake<R: Source>(
     }
 }
 
-// The form of tables, as they are written.
-fn table_form(form: CountForm) -> dbus_count::Form
-    ensures { result ≡ table_form form }
+// The form of tables.
+fn table_form(as_json: bool) -> dbus_count::Form
+    ensures { result ≡ table_form as_json }
 {
-    match form {
-        CountForm::Text => dbus_count::Form::Text,
-        CountForm::Json => dbus_count::Form::Json,
+    if as_json {
+        dbus_count::Form::Json
+    } else {
+        dbus_count::Form::Text
     }
 }
 
 // The list that `calls` asks for.
-fn calls_wanted(wanted: WantedCalls) -> Wanted
-    ensures { result ≡ calls_wanted wanted }
+fn calls_wanted(as_json: bool, wanted: WantedCalls) -> Wanted
+    ensures { result ≡ calls_wanted as_json wanted }
 {
     Wanted {
-        form: if wanted.as_json {
-            Form::Json
-        } else {
-            Form::Text
-        },
+        form: if as_json { Form::Json } else { Form::Text },
         unanswered: wanted.unanswered,
         errors: wanted.errors,
         slower: wanted.slower,
