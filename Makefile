@@ -42,7 +42,7 @@
 # make test-root   installs the release in a fresh Debian, which debootstrap makes, and builds and runs the examples for C, Rust and
 #                  Python there; as root, over the network
 # make wrong-bodies prints the wrong bodies that the prover refuses, and what refuses each; bench/wrong_bodies.py tries those that are due, or all
-# make instructions prints the instructions per byte of each command, by valgrind, and of libdbus if its headers are there
+# make instructions prints the instructions per byte of each command, by valgrind, of libdbus if its headers are there, and of calls of the library for C
 # make bench       MB/s of each command on several streams, by user and system time, and of decoding and encoding
 # make bench-c     nanoseconds of calls of the library for C, and of a set of 100,000 match rules; MB/s of a checker of pieces
 
@@ -221,8 +221,9 @@ peers:
 export-cases:
 	cases/export.py
 
-instructions: build
+instructions: build library
 	bench/instructions.sh $(PROGRAM)
+	bench/apart.sh $(ARCHIVE)
 
 bench: build
 	bench/commands.sh $(PROGRAM)

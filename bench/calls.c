@@ -48,26 +48,33 @@ static int check(void) {
 
 static int parts(void) {
     struct dbus_wire_parts out;
-    return dbus_wire_parts_of(bytes, length, NULL, &out) == DBUS_WIRE_WHOLE;
+    return dbus_wire_parts_of(bytes, length, NULL, &out, NULL) == DBUS_WIRE_WHOLE;
 }
 
 static int flatten(void) {
     static struct dbus_wire_flat_item items[ROOM];
     uint64_t count;
-    return dbus_wire_flatten(bytes, length, NULL, 0, items, ROOM, &count) == DBUS_WIRE_WHOLE;
+    return dbus_wire_flatten(bytes, length, NULL, 0, items, ROOM, &count, NULL) == DBUS_WIRE_WHOLE;
+}
+
+static int read_both(void) {
+    static struct dbus_wire_parts out;
+    static struct dbus_wire_flat_item items[ROOM];
+    uint64_t count;
+    return dbus_wire_read(bytes, length, NULL, &out, items, ROOM, &count, NULL) == DBUS_WIRE_WHOLE;
 }
 
 static int build(void) {
     static struct dbus_wire_parts message;
     struct dbus_wire_checked told;
-    if (message.length == 0 && dbus_wire_parts_of(bytes, length, NULL, &message) != DBUS_WIRE_WHOLE) return 0;
+    if (message.length == 0 && dbus_wire_parts_of(bytes, length, NULL, &message, NULL) != DBUS_WIRE_WHOLE) return 0;
     return dbus_wire_build(&message, bytes, length, NULL, built, sizeof built, &told) == DBUS_WIRE_OK;
 }
 
 static int matching(void) {
     static struct dbus_wire_rule_id found[ROOM];
     uint64_t count;
-    return dbus_wire_rules_matching(&rules, bytes, length, NULL, found, ROOM, &count) == DBUS_WIRE_WHOLE;
+    return dbus_wire_rules_matching(&rules, bytes, length, NULL, found, ROOM, &count, NULL) == DBUS_WIRE_WHOLE;
 }
 
 static void measure(const char *name, int (*call)(void)) {
@@ -102,6 +109,7 @@ int main(int count_of_words, char **words) {
     measure("check", check);
     measure("parts_of", parts);
     measure("flatten", flatten);
+    measure("read", read_both);
     measure("build", build);
     measure("signal", signal_built);
     start = now();

@@ -37,7 +37,8 @@ static double matching(void) {
     double took = now();
     int i;
     for (i = 0; i < CALLS; i++)
-        if (dbus_wire_rules_matching(&rules, bytes, length, NULL, found, ROOM, &count) != DBUS_WIRE_WHOLE || count != MATCHES) {
+        if (dbus_wire_rules_matching(&rules, bytes, length, NULL, found, ROOM, &count, NULL) != DBUS_WIRE_WHOLE ||
+            count != MATCHES) {
             fprintf(stderr, "%lu rules match\n", (unsigned long)count);
             exit(1);
         }

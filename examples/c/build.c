@@ -63,7 +63,7 @@ int main(int count_of_words, char **words) {
     size_t count = fread(all, 1, sizeof all, stdin), at = 0;
     const char *what = count_of_words > 1 ? words[1] : "again", *word = count_of_words > 2 ? words[2] : "";
 
-    while (at < count && dbus_wire_parts_of(all + at, count - at, NULL, &parts) == DBUS_WIRE_WHOLE) {
+    while (at < count && dbus_wire_parts_of(all + at, count - at, NULL, &parts, NULL) == DBUS_WIRE_WHOLE) {
         memcpy(bytes, all + at, parts.length);
         if (strlen(word) > 1000 || !build(parts, what, word)) return 1;
         at += parts.length;

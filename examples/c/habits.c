@@ -35,12 +35,12 @@ static void nulls(void) {
     uint64_t count;
 
     expect(dbus_wire_check(NULL, 0, NULL, &told) == DBUS_WIRE_PARTIAL, "no bytes are partial");
-    expect(dbus_wire_parts_of(NULL, 0, NULL, &parts) == DBUS_WIRE_PARTIAL, "no bytes are partial, by parts");
-    expect(dbus_wire_flatten(NULL, 0, NULL, 0, NULL, 0, &count) == DBUS_WIRE_PARTIAL, "and by flatten");
+    expect(dbus_wire_parts_of(NULL, 0, NULL, &parts, NULL) == DBUS_WIRE_PARTIAL, "no bytes are partial, by parts");
+    expect(dbus_wire_flatten(NULL, 0, NULL, 0, NULL, 0, &count, NULL) == DBUS_WIRE_PARTIAL, "and by flatten");
     expect(dbus_wire_wanted(NULL, 0, NULL) == 0, "no bytes state no length");
     expect(dbus_wire_swap(NULL, 0, NULL, 'l', NULL, 0, &told) == DBUS_WIRE_PARTIAL, "no bytes are partial, by swap");
     expect(dbus_wire_swap(SIGNAL, SIGNAL_LENGTH, NULL, 'B', NULL, 0, &told) == DBUS_WIRE_NO_ROOM, "no room");
-    expect(dbus_wire_flatten(SIGNAL, SIGNAL_LENGTH, NULL, 0, NULL, 0, &count) == DBUS_WIRE_NO_ROOM, "nor for an item");
+    expect(dbus_wire_flatten(SIGNAL, SIGNAL_LENGTH, NULL, 0, NULL, 0, &count, NULL) == DBUS_WIRE_NO_ROOM, "nor for an item");
     expect(count == 1, "of which there is one");
     expect(dbus_wire_text_check(DBUS_WIRE_TEXT_STRING, NULL, 0, &text) == DBUS_WIRE_OK, "the empty text is a STRING");
     expect(dbus_wire_reason_name(DBUS_WIRE_REASON_KIND, NULL, 0) == 4, "a name's length without room");
@@ -66,6 +66,7 @@ static int is_fresh(const void *thing, size_t size) {
 
 static void answers(void) {
     uint8_t bad[SIGNAL_LENGTH];
+    struct dbus_wire_checked told, same;
     struct dbus_wire_parts parts;
     struct dbus_wire_flat_item item;
     uint64_t count;
@@ -73,21 +74,26 @@ static void answers(void) {
 
     FRESH(parts), FRESH(item), FRESH(count);
     for (length = 0; length < SIGNAL_LENGTH; length++) {
-        expect(dbus_wire_parts_of(SIGNAL, length, NULL, &parts) == DBUS_WIRE_PARTIAL, "a front is partial, by parts");
-        expect(dbus_wire_flatten(SIGNAL, length, NULL, 0, &item, 1, &count) == DBUS_WIRE_PARTIAL, "and by flatten");
+        expect(dbus_wire_parts_of(SIGNAL, length, NULL, &parts, NULL) == DBUS_WIRE_PARTIAL, "a front is partial, by parts");
+        expect(dbus_wire_flatten(SIGNAL, length, NULL, 0, &item, 1, &count, NULL) == DBUS_WIRE_PARTIAL, "and by flatten");
     }
     memcpy(bad, SIGNAL, SIGNAL_LENGTH);
     bad[SIGNAL_LENGTH - 1] = 1;
-    expect(dbus_wire_parts_of(bad, SIGNAL_LENGTH, NULL, &parts) == DBUS_WIRE_REFUSED, "a bad signal is refused, by parts");
-    expect(dbus_wire_flatten(bad, SIGNAL_LENGTH, NULL, 0, &item, 1, &count) == DBUS_WIRE_REFUSED, "and by flatten");
-    expect(is_fresh(&parts, sizeof parts) && is_fresh(&count, sizeof count), "then nothing is written");
-    expect(dbus_wire_flatten(SIGNAL, SIGNAL_LENGTH, NULL, 1, &item, 1, &count) == DBUS_WIRE_WHOLE, "there is no second value");
+    expect(dbus_wire_parts_of(bad, SIGNAL_LENGTH, NULL, &parts, &told) == DBUS_WIRE_REFUSED &&
+               told.offset == SIGNAL_LENGTH - 1 && told.reason == DBUS_WIRE_REASON_NUL,
+           "a bad signal is refused, by parts");
+    expect(dbus_wire_flatten(bad, SIGNAL_LENGTH, NULL, 0, &item, 1, &count, &same) == DBUS_WIRE_REFUSED &&
+               memcmp(&told, &same, sizeof told) == 0,
+           "and by flatten");
+    expect(is_fresh(&parts, sizeof parts) && is_fresh(&count, sizeof count), "then nothing else is written");
+    expect(dbus_wire_flatten(SIGNAL, SIGNAL_LENGTH, NULL, 1, &item, 1, &count, NULL) == DBUS_WIRE_WHOLE,
+           "there is no second value");
     expect(count == 1 && is_fresh(&item, sizeof item), "and none is written");
 
-    expect(dbus_wire_parts_of(SIGNAL, SIGNAL_LENGTH, NULL, &parts) == DBUS_WIRE_WHOLE, "a signal has parts");
+    expect(dbus_wire_parts_of(SIGNAL, SIGNAL_LENGTH, NULL, &parts, NULL) == DBUS_WIRE_WHOLE, "a signal has parts");
     expect(parts.length == SIGNAL_LENGTH && parts.kind == DBUS_WIRE_TYPE_SIGNAL && parts.flags == 0, "it is a signal");
     expect(parts.member.is_there && SIGNAL[parts.member.offset] == 'c', "its member is c");
-    expect(dbus_wire_flatten(SIGNAL, SIGNAL_LENGTH, NULL, 0, &item, 1, &count) == DBUS_WIRE_WHOLE, "it has a first value");
+    expect(dbus_wire_flatten(SIGNAL, SIGNAL_LENGTH, NULL, 0, &item, 1, &count, NULL) == DBUS_WIRE_WHOLE, "it has a first value");
     expect(item.code == 's' && item.length == 2 && memcmp(SIGNAL + item.offset, "hi", 2) == 0, "which is hi");
 }
 
@@ -117,7 +123,7 @@ static void rules(void) {
 
     expect(dbus_wire_rules_remove(&rules, &signals) == DBUS_WIRE_NO_RULE, "there is no rule");
     expect(dbus_wire_rules_text(&rules, &signals, NULL, 0, &length) == DBUS_WIRE_NO_RULE && length == 7, "and no text is written");
-    expect(dbus_wire_rules_matching(&rules, SIGNAL, SIGNAL_LENGTH, NULL, NULL, 0, &count) == DBUS_WIRE_WHOLE && count == 0,
+    expect(dbus_wire_rules_matching(&rules, SIGNAL, SIGNAL_LENGTH, NULL, NULL, 0, &count, NULL) == DBUS_WIRE_WHOLE && count == 0,
            "without rules none matches");
     expect(dbus_wire_rules_owner(&rules, NULL, 0, owner, sizeof owner - 1) == DBUS_WIRE_REFUSED &&
                dbus_wire_rules_owner(&rules, name, sizeof name - 1, not_utf8, sizeof not_utf8 - 1) == DBUS_WIRE_REFUSED,
@@ -125,22 +131,23 @@ static void rules(void) {
     expect(dbus_wire_rules_add(&rules, not_utf8, sizeof not_utf8 - 1, &signals, &told) == DBUS_WIRE_REFUSED, "a rule is UTF-8");
     expect(told.reason == DBUS_WIRE_RULE_REASON_NOT_UTF8 && told.offset == 5 && rules.inner == NULL, "the last byte is not");
     expect(dbus_wire_rules_add(&rules, text, sizeof text - 1, &signals, &told) == DBUS_WIRE_OK, "this is a rule");
-    expect(dbus_wire_rules_matching(&rules, SIGNAL, SIGNAL_LENGTH - 1, NULL, found, 2, &length) == DBUS_WIRE_PARTIAL &&
+    expect(dbus_wire_rules_matching(&rules, SIGNAL, SIGNAL_LENGTH - 1, NULL, found, 2, &length, NULL) == DBUS_WIRE_PARTIAL &&
                length == 7,
            "a front is partial, by rules");
-    expect(dbus_wire_rules_matching(&rules, SIGNAL, SIGNAL_LENGTH, NULL, found, 2, &count) == DBUS_WIRE_WHOLE && count == 1 &&
+    expect(dbus_wire_rules_matching(&rules, SIGNAL, SIGNAL_LENGTH, NULL, found, 2, &count, NULL) == DBUS_WIRE_WHOLE && count == 1 &&
                found[0].number == signals.number,
            "it matches the signal");
     expect(dbus_wire_rules_add(&rules, NULL, 0, &all, &told) == DBUS_WIRE_OK, "no text is the rule without keys");
     expect(dbus_wire_rules_text(&rules, &all, NULL, 0, &length) == DBUS_WIRE_NO_ROOM && length == 0, "whose text is empty");
-    expect(dbus_wire_rules_matching(&rules, SIGNAL, SIGNAL_LENGTH, NULL, found, 1, &count) == DBUS_WIRE_NO_ROOM && count == 2,
+    expect(dbus_wire_rules_matching(&rules, SIGNAL, SIGNAL_LENGTH, NULL, found, 1, &count, NULL) == DBUS_WIRE_NO_ROOM &&
+               count == 2,
            "both match the signal, and one has room");
     expect(dbus_wire_rules_owner(&rules, name, sizeof name - 1, owner, sizeof owner - 1) == DBUS_WIRE_OK &&
                dbus_wire_rules_owner(&rules, name, sizeof name - 1, NULL, 0) == DBUS_WIRE_OK,
            "an owner comes and goes");
     expect(dbus_wire_rules_remove(&rules, &signals) == DBUS_WIRE_OK && dbus_wire_rules_remove(&rules, &signals) == DBUS_WIRE_NO_RULE,
            "a rule is removed once");
-    expect(dbus_wire_rules_matching(&rules, SIGNAL, SIGNAL_LENGTH, NULL, found, 1, &count) == DBUS_WIRE_WHOLE && count == 1 &&
+    expect(dbus_wire_rules_matching(&rules, SIGNAL, SIGNAL_LENGTH, NULL, found, 1, &count, NULL) == DBUS_WIRE_WHOLE && count == 1 &&
                found[0].number == all.number,
            "the other is left");
     dbus_wire_rules_free(&rules);

@@ -114,7 +114,7 @@ static void shake(struct dbus_wire_handshake *end, int socket, struct pipe *in) 
 static void print_message(int socket, struct pipe *in) {
     struct dbus_wire_parts parts;
     uint32_t answer;
-    while ((answer = dbus_wire_parts_of(in->bytes, in->length, NULL, &parts)) == DBUS_WIRE_PARTIAL) {
+    while ((answer = dbus_wire_parts_of(in->bytes, in->length, NULL, &parts, NULL)) == DBUS_WIRE_PARTIAL) {
         ssize_t count = read(socket, in->bytes + in->length, sizeof in->bytes - in->length);
         if (count <= 0) fail("the peer closed");
         in->length += (size_t)count;

@@ -120,17 +120,16 @@ static void print_value(const uint8_t *bytes, const struct dbus_wire_flat_item *
     }
 }
 
-/* The items of a part of a message. */
-static struct dbus_wire_flat_item items[1 << 16];
-enum { ROOM = sizeof items / sizeof *items };
+/* The items of a message's header fields, and of its body. */
+enum { ROOM = 1 << 16 };
+static struct dbus_wire_flat_item fields[ROOM], values[ROOM];
 
-static void print_body(const uint8_t *bytes, size_t count, const struct dbus_wire_parts *parts) {
+static void print_body(const uint8_t *bytes, const struct dbus_wire_parts *parts, uint64_t all) {
     const char *types = (const char *)bytes + parts->signature.offset;
-    uint64_t at, all;
-    if (dbus_wire_flatten(bytes, count, NULL, 0, items, ROOM, &all) != DBUS_WIRE_WHOLE) exit(1);
-    for (at = 0; at < all; at += 1 + within(&items[at])) {
+    uint64_t at;
+    for (at = 0; at < all; at += 1 + within(&values[at])) {
         printf("  ");
-        print_value(bytes, &items[at], types);
+        print_value(bytes, &values[at], types);
         printf("\n");
         types = after_type(types);
     }
@@ -153,15 +152,14 @@ static void print_field(const uint8_t *bytes, const struct dbus_wire_flat_item *
     }
 }
 
-static void print_message(unsigned long number, const uint8_t *bytes, size_t count, const struct dbus_wire_parts *parts) {
+static void print_header(unsigned long number, const uint8_t *bytes, const struct dbus_wire_parts *parts) {
     uint64_t at, all;
     printf("#%lu %c ", number, (char)parts->order);
     print_type(parts->kind);
     printf(" serial=%u flags=%02x", (unsigned)parts->serial, (unsigned)parts->flags);
-    if (dbus_wire_flatten_fields(bytes, count, NULL, 0, items, ROOM, &all) != DBUS_WIRE_WHOLE) exit(1);
-    for (at = 1; at < all; at += 1 + items[at].number) print_field(bytes, &items[at]);
+    if (dbus_wire_flatten_fields(bytes, parts->length, NULL, 0, fields, ROOM, &all, NULL) != DBUS_WIRE_WHOLE) exit(1);
+    for (at = 1; at < all; at += 1 + fields[at].number) print_field(bytes, &fields[at]);
     printf("\n");
-    print_body(bytes, count, parts);
 }
 
 int main(void) {
@@ -169,9 +167,11 @@ int main(void) {
     struct dbus_wire_parts parts;
     size_t count = fread(bytes, 1, sizeof bytes, stdin), at = 0;
     unsigned long number = 0;
+    uint64_t all;
 
-    while (dbus_wire_parts_of(bytes + at, count - at, NULL, &parts) == DBUS_WIRE_WHOLE) {
-        print_message(++number, bytes + at, count - at, &parts);
+    while (dbus_wire_read(bytes + at, count - at, NULL, &parts, values, ROOM, &all, NULL) == DBUS_WIRE_WHOLE) {
+        print_header(++number, bytes + at, &parts);
+        print_body(bytes + at, &parts, all);
         at += parts.length;
     }
     return at < count;

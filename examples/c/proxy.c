@@ -93,32 +93,28 @@ static void deny(const struct peer *client, const struct dbus_wire_parts *call) 
 
 static int is_denied(const struct peer *client, const struct dbus_wire_parts *parts) {
     uint64_t count;
-    uint32_t answer = dbus_wire_rules_matching(&rules, client->bytes, (size_t)parts->length, &limits, NULL, 0, &count);
+    uint32_t answer = dbus_wire_rules_matching(&rules, client->bytes, (size_t)parts->length, &limits, NULL, 0, &count, NULL);
     if (answer != DBUS_WIRE_WHOLE && answer != DBUS_WIRE_NO_ROOM) fail("out of memory");
     return count > 0;
-}
-
-static void explain(const struct peer *from) {
-    struct dbus_wire_checked told;
-    if (dbus_wire_check(from->bytes, from->length, &limits, &told) == DBUS_WIRE_REFUSED)
-        fprintf(stderr, "no message, at %llu: %s\n", (unsigned long long)told.offset, dbus_wire_reason_text(told.reason));
-    exit(1);
 }
 
 /* Passes the messages on that are whole: of a client those that no rule matches. */
 static void pass(struct peer *from, const struct peer *to, int is_client) {
     struct dbus_wire_parts parts;
+    struct dbus_wire_checked told;
     uint32_t answer = DBUS_WIRE_PARTIAL;
     /* A message is looked at once it is whole, and not after each read. */
     while (from->length >= dbus_wire_wanted(from->bytes, from->length, &limits) &&
-           (answer = dbus_wire_parts_of(from->bytes, from->length, &limits, &parts)) == DBUS_WIRE_WHOLE) {
+           (answer = dbus_wire_parts_of(from->bytes, from->length, &limits, &parts, &told)) == DBUS_WIRE_WHOLE) {
         if (!is_client || !is_denied(from, &parts))
             write_all(to, from->bytes, (size_t)parts.length);
         else if (parts.kind == DBUS_WIRE_TYPE_METHOD_CALL && (parts.flags & DBUS_WIRE_FLAG_NO_REPLY_EXPECTED) == 0)
             deny(from, &parts);
         drop(from, (size_t)parts.length);
     }
-    if (answer == DBUS_WIRE_REFUSED) explain(from);
+    if (answer != DBUS_WIRE_REFUSED) return;
+    fprintf(stderr, "no message, at %llu: %s\n", (unsigned long long)told.offset, dbus_wire_reason_text(told.reason));
+    exit(1);
 }
 
 static struct sockaddr_un address_of(const char *path) {

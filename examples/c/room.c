@@ -41,7 +41,7 @@ static int is_piece(const uint8_t *bytes, size_t length, uint64_t count, uint64_
     size_t at;
     if (room >= MOST) return 0;
     memset(piece, BEFORE, (room + 1) * sizeof *piece);
-    if (dbus_wire_flatten(bytes, length, NULL, first, piece, room, &told) != answer || told != count) return 0;
+    if (dbus_wire_flatten(bytes, length, NULL, first, piece, room, &told, NULL) != answer || told != count) return 0;
     for (at = written * sizeof *piece; at < (room + 1) * sizeof *piece; at++)
         if (((const uint8_t *)piece)[at] != BEFORE) return 0;
     return written == 0 || memcmp(piece, row + first, written * sizeof *piece) == 0;
@@ -50,7 +50,7 @@ static int is_piece(const uint8_t *bytes, size_t length, uint64_t count, uint64_
 /* Whether the message is flattened as it should be. */
 static int is_flat(const uint8_t *bytes, size_t length) {
     uint64_t first, room, count;
-    if (dbus_wire_flatten(bytes, length, NULL, 0, row, MOST, &count) != DBUS_WIRE_WHOLE || count >= MOST) return 0;
+    if (dbus_wire_flatten(bytes, length, NULL, 0, row, MOST, &count, NULL) != DBUS_WIRE_WHOLE || count >= MOST) return 0;
     for (first = 0; first <= count + 1; first++)
         for (room = 0; room <= 4; room++)
             if (!is_piece(bytes, length, count, first, room)) return 0;

@@ -57,8 +57,10 @@ int main(int count_of_words, char **words) {
         default: return 3;
         }
     count = fread(bytes, 1, sizeof bytes, stdin);
-    while (at < count && dbus_wire_check(bytes + at, count - at, NULL, &told) == DBUS_WIRE_WHOLE) {
-        if (dbus_wire_rules_matching(&rules, bytes + at, count - at, NULL, &found, 1, &matches) != DBUS_WIRE_WHOLE) return 3;
+    while (at < count) {
+        uint32_t answer = dbus_wire_rules_matching(&rules, bytes + at, count - at, NULL, &found, 1, &matches, &told);
+        if (answer == DBUS_WIRE_PARTIAL || answer == DBUS_WIRE_REFUSED) break;
+        if (answer != DBUS_WIRE_WHOLE) return 3;
         if (matches > 0) {
             if (found.number != id.number) return 4;
             fwrite(bytes + at, 1, (size_t)told.length, stdout);
@@ -66,7 +68,8 @@ int main(int count_of_words, char **words) {
         at += (size_t)told.length;
     }
     dbus_wire_rules_free(&rules);
-    if (dbus_wire_rules_matching(&rules, bytes, at, NULL, &found, 1, &matches) != (at > 0 ? DBUS_WIRE_WHOLE : DBUS_WIRE_PARTIAL) ||
+    if (dbus_wire_rules_matching(&rules, bytes, at, NULL, &found, 1, &matches, NULL) !=
+            (at > 0 ? DBUS_WIRE_WHOLE : DBUS_WIRE_PARTIAL) ||
         (at > 0 && matches > 0))
         return 4;
     return at < count;

@@ -35,7 +35,7 @@ static void ask(struct asker *asker) {
     size_t at = 0, next;
     asker->matches = 0;
     while ((next = (size_t)dbus_wire_wanted(bytes + at, length - at, NULL)) > 0 && next <= length - at) {
-        asker->answer = dbus_wire_rules_matching(&asker->rules, bytes + at, next, NULL, found, RULES, &count);
+        asker->answer = dbus_wire_rules_matching(&asker->rules, bytes + at, next, NULL, found, RULES, &count, NULL);
         if (asker->answer != DBUS_WIRE_WHOLE) return;
         asker->matches += (size_t)count;
         at += next;

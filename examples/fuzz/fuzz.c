@@ -76,7 +76,7 @@ static void add_value(struct seen *seen, uint32_t code, uint64_t number, const u
 }
 
 typedef uint32_t flatten_call(const uint8_t *, size_t, const struct dbus_wire_limits *, size_t, struct dbus_wire_flat_item *, size_t,
-                              uint64_t *);
+                              uint64_t *, struct dbus_wire_checked *);
 
 /* Goes over all items of a part of a message. Each has a place among the bytes, and what is within
  * it comes after it. */
@@ -85,7 +85,7 @@ static void walk(flatten_call *flatten, const uint8_t *bytes, size_t length, str
     uint64_t first, at, all;
     uint32_t answer = DBUS_WIRE_NO_ROOM;
     for (first = 0; answer == DBUS_WIRE_NO_ROOM; first += ROOM) {
-        answer = flatten(bytes, length, NULL, first, items, ROOM, &all);
+        answer = flatten(bytes, length, NULL, first, items, ROOM, &all, NULL);
         expect(answer == (all > first + ROOM ? DBUS_WIRE_NO_ROOM : DBUS_WIRE_WHOLE), "a message has items");
         for (at = first; at < all && at < first + ROOM; at++) {
             const struct dbus_wire_flat_item *item = &items[at - first];
@@ -132,7 +132,7 @@ static void try_message(const uint8_t *bytes, size_t length, const struct dbus_w
     struct seen here = walk_message(bytes, length), there;
     uint32_t other = message->order == 'l' ? 'B' : 'l';
 
-    expect(dbus_wire_parts_of(bytes, length, NULL, &parts) == DBUS_WIRE_WHOLE, "a message has parts");
+    expect(dbus_wire_parts_of(bytes, length, NULL, &parts, NULL) == DBUS_WIRE_WHOLE, "a message has parts");
     expect(parts.length == message->length && parts.body <= parts.length && parts.order == message->order, "its parts are its own");
     expect(dbus_wire_wanted(bytes, length, NULL) == message->length, "the first 16 bytes state the length");
     expect(dbus_wire_swap(bytes, length, NULL, other, swapped, MOST, &told) == DBUS_WIRE_WHOLE, "a message is swapped");
@@ -140,6 +140,22 @@ static void try_message(const uint8_t *bytes, size_t length, const struct dbus_w
     expect(here.count == there.count && here.sum == there.sum, "a swapped message has the same values");
     expect(dbus_wire_swap(swapped, message->length, NULL, message->order, again, MOST, &told) == DBUS_WIRE_WHOLE, "and back");
     expect(memcmp(again, bytes, message->length) == 0, "which gives the same bytes");
+}
+
+/* Each call that takes a message apart says of any bytes what dbus_wire_check does. */
+static void try_told(const uint8_t *bytes, size_t length, uint32_t answer, const struct dbus_wire_checked *told) {
+    static struct dbus_wire_flat_item items[ROOM], same[ROOM];
+    struct dbus_wire_parts parts = {0}, all_parts = {0};
+    struct dbus_wire_checked by_parts, by_items, by_all;
+    uint64_t count = 0, all_count = 0;
+    uint32_t flat = dbus_wire_flatten(bytes, length, NULL, 0, items, ROOM, &count, &by_items);
+    expect(dbus_wire_parts_of(bytes, length, NULL, &parts, &by_parts) == answer, "the calls answer alike");
+    expect(dbus_wire_read(bytes, length, NULL, &all_parts, same, ROOM, &all_count, &by_all) == flat, "and that of both");
+    expect(flat == (count > ROOM ? DBUS_WIRE_NO_ROOM : answer) && count == all_count, "and that of items");
+    expect(memcmp(&by_parts, told, sizeof *told) == 0 && memcmp(&by_items, told, sizeof *told) == 0 &&
+               memcmp(&by_all, told, sizeof *told) == 0,
+           "and tell the same");
+    expect(memcmp(&parts, &all_parts, sizeof parts) == 0 && memcmp(items, same, sizeof items) == 0, "as they write the same");
 }
 
 int LLVMFuzzerTestOneInput(const uint8_t *given, size_t length) {
@@ -153,6 +169,7 @@ int LLVMFuzzerTestOneInput(const uint8_t *given, size_t length) {
     answer = dbus_wire_check(bytes, length, NULL, &told);
     count(128 + told.reason, (uint32_t)told.offset);
     if (their_check != NULL) compare(bytes, length, answer, &told);
+    try_told(bytes, length, answer, &told);
     try_pieces(bytes, length, answer, &told);
     if (answer == DBUS_WIRE_WHOLE) try_message(bytes, length, &told);
     return 0;

@@ -120,14 +120,15 @@ class Watch(ctypes.Structure):
 # Of each call its result, and then its arguments. Python's bytes do not change and are never null,
 # so they are passed as they are.
 _MESSAGE = (c_char_p, c_size_t, POINTER(Limits))
+_ITEMS = (POINTER(FlatItem), c_size_t, POINTER(c_uint64), POINTER(Checked))
 _BODY = (c_char_p, c_size_t, POINTER(Writer))
 _CALLS = {
     "version": (c_uint32,),
     "specification_limits": (None, POINTER(Limits)),
     "check": (c_uint32, *_MESSAGE, POINTER(Checked)),
-    "parts_of": (c_uint32, *_MESSAGE, POINTER(Parts)),
-    "flatten": (c_uint32, *_MESSAGE, c_size_t, POINTER(FlatItem), c_size_t, POINTER(c_uint64)),
-    "flatten_fields": (c_uint32, *_MESSAGE, c_size_t, POINTER(FlatItem), c_size_t, POINTER(c_uint64)),
+    "parts_of": (c_uint32, *_MESSAGE, POINTER(Parts), POINTER(Checked)),
+    "flatten": (c_uint32, *_MESSAGE, c_size_t, *_ITEMS),
+    "flatten_fields": (c_uint32, *_MESSAGE, c_size_t, *_ITEMS),
     "wanted": (c_uint64, *_MESSAGE),
     "swap": (c_uint32, *_MESSAGE, c_uint32, c_char_p, c_size_t, POINTER(Checked)),
     "build": (c_uint32, POINTER(Parts), *_MESSAGE, c_char_p, c_size_t, POINTER(Checked)),
@@ -147,7 +148,7 @@ _CALLS = {
     "rules_remove": (c_uint32, POINTER(Rules), POINTER(RuleId)),
     "rules_owner": (c_uint32, POINTER(Rules), c_char_p, c_size_t, c_char_p, c_size_t),
     "rules_share": (c_uint32, POINTER(Rules), POINTER(Rules)),
-    "rules_matching": (c_uint32, POINTER(Rules), *_MESSAGE, POINTER(RuleId), c_size_t, POINTER(c_uint64)),
+    "rules_matching": (c_uint32, POINTER(Rules), *_MESSAGE, POINTER(RuleId), c_size_t, POINTER(c_uint64), POINTER(Checked)),
     "rules_text": (c_uint32, POINTER(Rules), POINTER(RuleId), c_char_p, c_size_t, POINTER(c_uint64)),
     "rules_free": (None, POINTER(Rules)),
     "rule_reason_name": (c_size_t, c_uint32, c_char_p, c_size_t),

@@ -8,11 +8,11 @@ import io
 from ctypes import byref
 from dataclasses import dataclass, field
 from functools import cached_property
-from typing import Any, BinaryIO, Iterator, NoReturn
+from typing import Any, BinaryIO, Iterator
 
 from . import _library
 from ._errors import refused, truncated
-from ._library import FIXED_HEADER_LENGTH, NO_ROOM, PARTIAL, REASON_TRAILING, REFUSED, WHOLE, Bytes, as_bytes, library
+from ._library import FIXED_HEADER_LENGTH, NO_ROOM, PARTIAL, REASON_TRAILING, REFUSED, Bytes, as_bytes, library
 from ._limits import Limits, limits_struct
 from ._values import ObjectPath, Order, Signature, text_at, values_of
 
@@ -79,10 +79,8 @@ class Message:
     @classmethod
     def _of(cls, data: bytes, limits: _library.Limits, at: int) -> Message:
         """The one message that the bytes are, which are at this place of the input."""
-        parts = _library.Parts()
-        answer = library.dbus_wire_parts_of(data, len(data), byref(limits), byref(parts))
-        if answer != WHOLE or parts.length != len(data):
-            _raise_fault(data, limits, at)
+        parts, told = _library.Parts(), _library.Checked()
+        _check_all(library.dbus_wire_parts_of(data, len(data), byref(limits), byref(parts), byref(told)), told, data, at)
 
         def text(place: _library.Text) -> str | None:
             return text_at(data, place.offset, place.length) if place.is_there else None
@@ -131,17 +129,17 @@ class Message:
 
     def _values(self, flatten: Any) -> list[Any]:
         """The values of the part that the call flattens."""
-        data, limits, count = self.data, byref(limits_struct(None)), ctypes.c_uint64()
+        data, limits, count, told = self.data, byref(limits_struct(None)), ctypes.c_uint64(), _library.Checked()
         items = (_library.FlatItem * 64)()
-        while flatten(data, len(data), limits, 0, items, len(items), byref(count)) == NO_ROOM:
+        while flatten(data, len(data), limits, 0, items, len(items), byref(count), byref(told)) == NO_ROOM:
             items = (_library.FlatItem * count.value)()
         return values_of(data, self.order, memoryview(items).cast("B")[: count.value * ctypes.sizeof(_library.FlatItem)])
 
     @property
     def body_bytes(self) -> bytes:
         """The bytes of the body, as `build` takes them."""
-        parts = _library.Parts()
-        library.dbus_wire_parts_of(self.data, len(self.data), byref(limits_struct(None)), byref(parts))
+        parts, told = _library.Parts(), _library.Checked()
+        library.dbus_wire_parts_of(self.data, len(self.data), byref(limits_struct(None)), byref(parts), byref(told))
         return self.data[parts.body :]
 
     @property
@@ -194,9 +192,7 @@ def byteswap(data: Bytes, order: Order | str, limits: Limits | None = None) -> b
     Raises Refused or Truncated."""
     message, given, asked = as_bytes(data), limits_struct(limits), ord(Order(order).value)
     out, told = ctypes.create_string_buffer(len(message)), _library.Checked()
-    answer = library.dbus_wire_swap(message, len(message), byref(given), asked, out, len(out), byref(told))
-    if answer != WHOLE or told.length != len(message):
-        _raise_fault(message, given, 0)
+    _check_all(library.dbus_wire_swap(message, len(message), byref(given), asked, out, len(out), byref(told)), told, message, 0)
     return out.raw
 
 
@@ -211,12 +207,12 @@ def _read(stream: BinaryIO, count: int) -> bytes:
     return b"".join(pieces)
 
 
-def _raise_fault(data: bytes, limits: _library.Limits, at: int) -> NoReturn:
-    """Raises why the bytes, which are at this place of the input, are not one message."""
-    told = _library.Checked()
-    answer = library.dbus_wire_check(data, len(data), byref(limits), byref(told))
+def _check_all(answer: int, told: _library.Checked, data: bytes, at: int) -> None:
+    """Raises why the bytes, which are at this place of the input, are not one message, by what a
+    call answered and told of them."""
     if answer == PARTIAL:
         raise truncated(at + len(data))
     if answer == REFUSED:
         raise refused(at + told.offset, told.reason, told.field)
-    raise refused(at + told.length, REASON_TRAILING)
+    if told.length != len(data):
+        raise refused(at + told.length, REASON_TRAILING)

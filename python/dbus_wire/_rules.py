@@ -102,7 +102,7 @@ class RuleSet:
         with self._open():
             found = (_library.RuleId * len(self._ids))()
             answer = library.dbus_wire_rules_matching(
-                byref(self._handle), data, len(data), byref(limits_struct(None)), found, len(found), byref(count)
+                byref(self._handle), data, len(data), byref(limits_struct(None)), found, len(found), byref(count), byref(_library.Checked())
             )
         _raise_if_failed(answer)
         return [rule.number for rule in found[: count.value]]

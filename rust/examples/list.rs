@@ -3,7 +3,7 @@
 use std::error::Error;
 use std::io::{self, Read, Write};
 
-use dbus_wire::{Kind, Message, Order, Value, Values};
+use dbus_wire::{Kind, Limits, Message, Order, Value, Values};
 
 fn kind_name(kind: Kind) -> String {
     match kind {
@@ -69,13 +69,13 @@ fn shown(value: Value<'_>) -> String {
     }
 }
 
-fn list(out: &mut impl Write, number: usize, message: &Message<'_>) -> io::Result<()> {
+fn list(out: &mut impl Write, number: usize, message: &Message<'_>, mut body: Values<'_>) -> io::Result<()> {
     let order = if message.order() == Order::Big { 'B' } else { 'l' };
     let (kind, serial, flags) = (kind_name(message.kind()), message.serial(), message.flags().bits());
     write!(out, "#{number} {order} {kind} serial={serial} flags={flags:02x}")?;
     message.fields().try_for_each(|of| write!(out, "{}", field(of)))?;
     writeln!(out)?;
-    message.body().try_for_each(|value| writeln!(out, "  {}", shown(value)))
+    body.try_for_each(|value| writeln!(out, "  {}", shown(value)))
 }
 
 fn main() -> Result<(), Box<dyn Error>> {
@@ -84,9 +84,9 @@ fn main() -> Result<(), Box<dyn Error>> {
     let mut out = io::BufWriter::new(io::stdout().lock());
     let (mut rest, mut number) = (&bytes[..], 0);
     while !rest.is_empty() {
-        let message = Message::parse(rest)?;
+        let (message, body) = Message::parse_with_body(rest, &Limits::default())?;
         number += 1;
-        list(&mut out, number, &message)?;
+        list(&mut out, number, &message, body)?;
         rest = &rest[message.bytes().len()..];
     }
     Ok(out.flush()?)

@@ -45,6 +45,17 @@ pub enum Answer {
     Refused(Fault),
 }
 
+impl Answer {
+    // What a call returned of bytes, and what it wrote beside that.
+    pub(crate) fn new(answer: u32, told: &sys::dbus_wire_checked) -> Self {
+        match answer {
+            sys::DBUS_WIRE_WHOLE => Answer::Whole { length: told.length as usize, order: Order::of(told.order) },
+            sys::DBUS_WIRE_PARTIAL => Answer::Partial,
+            _ => Answer::Refused(Fault::new(told.offset, told.reason, told.field)),
+        }
+    }
+}
+
 /// Whether the bytes begin with a message within the limits. Bytes after it are not looked at.
 ///
 /// ```
@@ -57,11 +68,7 @@ pub enum Answer {
 pub fn check(bytes: &[u8], limits: &Limits) -> Answer {
     let mut told = sys::dbus_wire_checked::default();
     // SAFETY: a slice and references, as `sys` says.
-    match unsafe { sys::dbus_wire_check(bytes.as_ptr(), bytes.len(), &limits.raw(), &mut told) } {
-        sys::DBUS_WIRE_WHOLE => Answer::Whole { length: told.length as usize, order: Order::of(told.order) },
-        sys::DBUS_WIRE_PARTIAL => Answer::Partial,
-        _ => Answer::Refused(Fault::new(told.offset, told.reason, told.field)),
-    }
+    Answer::new(unsafe { sys::dbus_wire_check(bytes.as_ptr(), bytes.len(), &limits.raw(), &mut told) }, &told)
 }
 
 /// The number of bytes of the message that the bytes begin with, as soon as 16 of them are there

@@ -3,8 +3,8 @@
 use std::fmt;
 use std::num::NonZeroU32;
 
-use crate::value::{body_items, text_at};
-use crate::{byteswap, check, sys, Answer, Fields, FlatItem, Limits, Order, ParseError, Parts, Values};
+use crate::value::{body_items, items_written, text_at};
+use crate::{byteswap, sys, Answer, Fields, FlatItem, Limits, Order, ParseError, Parts, Values};
 
 /// The type of a message.
 #[derive(Clone, Copy, Debug, PartialEq, Eq, Hash)]
@@ -91,17 +91,40 @@ impl<'a> Message<'a> {
 
     /// The message within the limits that the bytes begin with. Bytes after it are not looked at.
     pub fn parse_within(bytes: &'a [u8], limits: &Limits) -> Result<Self, ParseError> {
-        let mut parts = sys::dbus_wire_parts::default();
+        let (mut parts, mut told) = Default::default();
         // SAFETY: a slice and references, as `sys` says.
-        let answer = unsafe { sys::dbus_wire_parts_of(bytes.as_ptr(), bytes.len(), &limits.raw(), &mut parts) };
+        let answer = unsafe { sys::dbus_wire_parts_of(bytes.as_ptr(), bytes.len(), &limits.raw(), &mut parts, &mut told) };
+        Self::of(bytes, parts, Answer::new(answer, &told))
+    }
+
+    /// The message within the limits that the bytes begin with, and the values of its body, by one
+    /// look over it.
+    ///
+    /// ```
+    /// use dbus_wire::{Limits, Message};
+    ///
+    /// # let signal = b"l\x04\0\x01\x07\0\0\0\x01\0\0\0\x37\0\0\0\x01\x01o\0\x01\0\0\0/\0\0\0\0\0\0\0\x02\x01s\0\x03\0\0\0a.b\0\0\0\0\0\x03\x01s\0\x01\0\0\0c\0\0\0\0\0\0\0\x08\x01g\0\x01s\0\0\x02\0\0\0hi\0";
+    /// let (message, body) = Message::parse_with_body(signal, &Limits::default())?;
+    /// println!("{:?}: {:?}", message.member(), body.collect::<Vec<_>>());
+    /// # Ok::<(), dbus_wire::ParseError>(())
+    /// ```
+    pub fn parse_with_body(bytes: &'a [u8], limits: &Limits) -> Result<(Self, Values<'a>), ParseError> {
+        let (mut parts, mut told, limits) = (Default::default(), Default::default(), limits.raw());
+        let (answer, items) = items_written(|to, count| {
+            let (items, room) = (to.as_mut_ptr(), to.len());
+            // SAFETY: slices and references, as `sys` says.
+            unsafe { sys::dbus_wire_read(bytes.as_ptr(), bytes.len(), &limits, &mut parts, items, room, count, &mut told) }
+        });
+        let message = Self::of(bytes, parts, Answer::new(answer, &told))?;
+        Ok((message, Values::of_items(message.bytes, items, message.signature().unwrap_or_default())))
+    }
+
+    // The message of these parts that the bytes begin with, if they do.
+    fn of(bytes: &'a [u8], parts: sys::dbus_wire_parts, answer: Answer) -> Result<Self, ParseError> {
         match answer {
-            sys::DBUS_WIRE_WHOLE => Ok(Self { bytes: &bytes[..parts.length as usize], parts }),
-            sys::DBUS_WIRE_PARTIAL => Err(ParseError::Partial),
-            _ => match check(bytes, limits) {
-                Answer::Refused(fault) => Err(ParseError::Refused(fault)),
-                // The two calls answer alike.
-                answer => unreachable!("a message is refused and then {answer:?}"),
-            },
+            Answer::Whole { length, .. } => Ok(Self { bytes: &bytes[..length], parts }),
+            Answer::Partial => Err(ParseError::Partial),
+            Answer::Refused(fault) => Err(ParseError::Refused(fault)),
         }
     }
 
@@ -183,7 +206,7 @@ impl<'a> Message<'a> {
     /// The values of the body. The call looks over the message once more, and takes memory for what
     /// they hold.
     pub fn body(&self) -> Values<'a> {
-        Values::of_message(self.bytes, self.signature().unwrap_or_default())
+        Values::of_items(self.bytes, self.flatten(), self.signature().unwrap_or_default())
     }
 
     /// The header fields, each as its code and its value, in their order in the message: also those

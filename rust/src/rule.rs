@@ -150,7 +150,7 @@ impl RuleSet {
     /// matches a message whose SENDER is that name itself, or that of its owner, which
     /// [`RuleSet::set_owner`] noted.
     pub fn matching(&mut self, message: &Message<'_>) -> Result<Vec<RuleId>, OutOfMemory> {
-        let (bytes, mut count) = (message.bytes(), 0);
+        let (bytes, mut count, mut told) = (message.bytes(), 0, Default::default());
         let mut ids = vec![sys::dbus_wire_rule_id::default(); self.count];
         // SAFETY: slices and references, as `sys` says; only calls write `raw`.
         let answer = unsafe {
@@ -162,6 +162,7 @@ impl RuleSet {
                 ids.as_mut_ptr(),
                 ids.len(),
                 &mut count,
+                &mut told,
             )
         };
         match answer {

@@ -302,8 +302,13 @@ extern "C" {
     pub fn dbus_wire_version() -> u32;
     pub fn dbus_wire_specification_limits(out: *mut dbus_wire_limits);
     pub fn dbus_wire_check(bytes: *const u8, length: usize, limits: *const dbus_wire_limits, out: *mut dbus_wire_checked) -> u32;
-    pub fn dbus_wire_parts_of(bytes: *const u8, length: usize, limits: *const dbus_wire_limits, out: *mut dbus_wire_parts)
-        -> u32;
+    pub fn dbus_wire_parts_of(
+        bytes: *const u8,
+        length: usize,
+        limits: *const dbus_wire_limits,
+        out: *mut dbus_wire_parts,
+        told: *mut dbus_wire_checked,
+    ) -> u32;
     pub fn dbus_wire_flatten(
         bytes: *const u8,
         length: usize,
@@ -312,6 +317,7 @@ extern "C" {
         items: *mut dbus_wire_flat_item,
         room: usize,
         count: *mut u64,
+        told: *mut dbus_wire_checked,
     ) -> u32;
     pub fn dbus_wire_flatten_fields(
         bytes: *const u8,
@@ -321,6 +327,17 @@ extern "C" {
         items: *mut dbus_wire_flat_item,
         room: usize,
         count: *mut u64,
+        told: *mut dbus_wire_checked,
+    ) -> u32;
+    pub fn dbus_wire_read(
+        bytes: *const u8,
+        length: usize,
+        limits: *const dbus_wire_limits,
+        parts: *mut dbus_wire_parts,
+        items: *mut dbus_wire_flat_item,
+        room: usize,
+        count: *mut u64,
+        told: *mut dbus_wire_checked,
     ) -> u32;
     pub fn dbus_wire_wanted(bytes: *const u8, length: usize, limits: *const dbus_wire_limits) -> u64;
     pub fn dbus_wire_swap(
@@ -407,6 +424,7 @@ extern "C" {
         ids: *mut dbus_wire_rule_id,
         room: usize,
         count: *mut u64,
+        told: *mut dbus_wire_checked,
     ) -> u32;
     pub fn dbus_wire_rules_text(
         rules: *mut dbus_wire_rules,

@@ -24,24 +24,40 @@ fn bytes_at(bytes: &[u8], offset: u64, length: u64) -> &[u8] {
 }
 
 // A call that writes the items of a part of a message.
-type Flatten = unsafe extern "C" fn(*const u8, usize, *const sys::dbus_wire_limits, usize, *mut FlatItem, usize, *mut u64) -> u32;
+type Flatten = unsafe extern "C" fn(
+    *const u8,
+    usize,
+    *const sys::dbus_wire_limits,
+    usize,
+    *mut FlatItem,
+    usize,
+    *mut u64,
+    *mut sys::dbus_wire_checked,
+) -> u32;
+
+/// What a call returns, and the items that it writes: it is handed room for most parts of a
+/// message, and once more with room for all items if these have too little.
+pub(crate) fn items_written(mut call: impl FnMut(&mut [FlatItem], &mut u64) -> u32) -> (u32, Vec<FlatItem>) {
+    let (mut items, mut count) = (vec![FlatItem::default(); 64], 0);
+    loop {
+        let answer = call(&mut items, &mut count);
+        items.resize(count as usize, FlatItem::default());
+        if answer != sys::DBUS_WIRE_NO_ROOM {
+            return (answer, items);
+        }
+    }
+}
 
 // The items that such a call writes for these bytes, which are a message.
 fn flat_items(flatten: Flatten, bytes: &[u8]) -> Vec<FlatItem> {
-    // Most parts have no more items, and then one call is enough.
-    let (mut items, mut count) = (vec![FlatItem::default(); 64], 0);
-    loop {
-        let (bytes, length) = (bytes.as_ptr(), bytes.len());
-        let (to, room, limits) = (items.as_mut_ptr(), items.len(), Limits::default().raw());
-        // SAFETY: a slice, a vector's items and references, as `sys` says.
-        let answer = unsafe { flatten(bytes, length, &limits, 0, to, room, &mut count) };
-        if answer != sys::DBUS_WIRE_NO_ROOM {
-            assert_eq!(answer, sys::DBUS_WIRE_WHOLE, "it is a message of the specification's too");
-            items.truncate(count as usize);
-            return items;
-        }
-        items.resize(count as usize, FlatItem::default());
-    }
+    let (limits, mut told) = (Limits::default().raw(), Default::default());
+    let (answer, items) = items_written(|to, count| {
+        let (items, room) = (to.as_mut_ptr(), to.len());
+        // SAFETY: slices and references, as `sys` says.
+        unsafe { flatten(bytes.as_ptr(), bytes.len(), &limits, 0, items, room, count, &mut told) }
+    });
+    assert_eq!(answer, sys::DBUS_WIRE_WHOLE, "it is a message of the specification's too");
+    items
 }
 
 /// The items of the body of these bytes, which are a message.
@@ -244,9 +260,9 @@ pub struct Values<'a> {
 }
 
 impl<'a> Values<'a> {
-    /// The values of the body of these bytes, which are a message that has these types.
-    pub(crate) fn of_message(bytes: &'a [u8], types: &'a str) -> Self {
-        let row = Row { bytes, items: body_items(bytes).into() };
+    /// The values of the body of these bytes, which are a message, by its items and its types.
+    pub(crate) fn of_items(bytes: &'a [u8], items: Vec<FlatItem>, types: &'a str) -> Self {
+        let row = Row { bytes, items: items.into() };
         let left = Left::Items(0..row.items.len());
         Self { row, left, types }
     }

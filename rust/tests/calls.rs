@@ -283,6 +283,19 @@ fn a_swap_without_room_writes_nothing() {
 }
 
 #[test]
+fn a_body_comes_with_its_message() {
+    // More values than a first call has room for.
+    let long = signal(&"y".repeat(200), &[7; 200]);
+    for message in CAPTURES.into_iter().chain([&long[..]]).flat_map(messages) {
+        let (same, body) = Message::parse_with_body(message.bytes(), &Limits::default()).unwrap();
+        assert_eq!((same.parts(), format!("{body:?}")), (message.parts(), format!("{:?}", message.body())));
+    }
+    let refused = |bytes: &[u8]| Message::parse_with_body(bytes, &Limits::default()).map(drop).unwrap_err();
+    assert_eq!(refused(&long[..20]), ParseError::Partial);
+    assert_eq!(refused(b"l\0"), ParseError::Refused(Fault { at: 1, reason: Reason::Kind }));
+}
+
+#[test]
 fn what_is_built_of_parts_has_them() {
     for capture in CAPTURES {
         for message in messages(capture) {

@@ -215,7 +215,7 @@ module _ (limits : Limits) (b : List ℕ) (w : WireParts) (has : HasParts limits
         let one = one_whole limits b order has.order n m k w.length whole has.whole in
         let P : Order → MessageTree → Type 0 = λ o u. Builds limits b (FieldsOf o u) w answer told old new in
         builds_same (subst (λ (u : MessageTree). P has.order u) one.1 (subst (λ (o : Order). P o n) one.0 builds))
-    comes_back (no_message none tells same) = absurd (none (has.order, m, w.length, has.whole))
+    comes_back (no_message none tells same) = absurd (none has.order m w.length has.whole)
 
 -- what is built of the message that is validated
 pub changed : (limits given : Limits) (b : List ℕ) (w : WireParts) (j : Validated) (first : IsValidated given b j) (answer : ℕ) (told : Checked) (old new : List ℕ) → given ≡ limits

@@ -7,6 +7,7 @@ use Rattle.dbus_value_model.specs.declared.limits.Limits.{Limits}
 use Rattle.dbus_value_model.specs.declared.order.Order.{Order}
 use Rattle.dbus_message_model.specs.Messages.{FieldTree, MessageTree, IsMessage, message_bytes, order_byte}
 use Rattle.dbus_header.specs.MessageOutcomes.{IsWhole}
+use Rattle.dbus_header.specs.NoMessage.{BeginsWithNone}
 use Rattle.dbus_c_build.specs.Placed.{HasParts, IsKept}
 use Rattle.dbus_c_build.specs.Building.{IsRefusal}
 use Rattle.dbus_c_build.specs.declared.given.Given.{Given}
@@ -15,7 +16,6 @@ use Rattle.dbus_c_build.specs.declared.placed.PlacedParts.{PlacedParts}
 use Rattle.dbus_c_build.specs.declared.placed_fault.PlacedFault.{PlacedFault}
 use Rattle.dbus_c_build.specs.declared.placed_fault.PlacedFault.TheVariants as refusals
 use Rattle.dbus_c.specs.Checking.{Tells, whole_told, nothing_told, fault_told}
-use Rattle.dbus_c.specs.Outcomes.{BeginsWithMessage}
 use Rattle.dbus_c.specs.Reasons.{reason_number}
 use Rattle.dbus_c.specs.declared.answers.TheConstants.{WHOLE, REFUSED, NO_MEMORY, NO_ROOM}
 use Rattle.dbus_c.specs.declared.checking.Checked.{Checked}
@@ -101,7 +101,7 @@ pub data Builds (limits : Limits) (b : List ℕ) (k : Kept) (w : WireParts) (ans
 -- none, that is told of them.
 pub data Rebuilds (limits : Limits) (b : List ℕ) (w : WireParts) (answer : ℕ) (told : Checked) (old new : List ℕ) : Type 0 where
   rebuilt : (order : Order) (m : MessageTree) (n : ℕ) → IsWhole limits b order m n → Builds limits b (FieldsOf order m) w answer told old new → Rebuilds limits b w answer told old new
-  no_message : (BeginsWithMessage limits b → ⊥) → Tells limits b answer told → new ≡ old → Rebuilds limits b w answer told old new
+  no_message : BeginsWithNone limits b → Tells limits b answer told → new ≡ old → Rebuilds limits b w answer told old new
 
 -- of parts that are those of the message that the bytes begin with it comes back, byte for byte;
 -- they are not refused

@@ -1,6 +1,6 @@
 -- The parts of the message that bytes begin with, in numbers.
 -- D-Bus Specification, "Message Format" and "Header Fields".
-use Rattle.std.specs.Prelude.{◌≡◌, ℕ, ◌+◌, ◌≤◌, List, length, take, drop, Option, Some, None, ◌⊎◌}
+use Rattle.std.specs.Prelude.{◌≡◌, ℕ, ◌+◌, ◌≤◌, List, length, take, drop, Option, Some, None}
 use Rattle.dbus_value_model.specs.declared.limits.Limits.{Limits}
 use Rattle.dbus_value_model.specs.declared.order.Order.{Order}
 use Rattle.dbus_value_model.specs.Values.{ValueTree, ValueTrees, NoValues, MoreValues}
@@ -12,7 +12,6 @@ use Rattle.dbus_flatten.specs.Flattening.{AreFlat}
 use Rattle.dbus_flatten.specs.declared.flat_item.FlatItem.{FlatItem}
 use Rattle.dbus_c.specs.declared.parts.WireParts.{WireParts}
 use Rattle.dbus_c.specs.declared.parts.TextPlace.{TextPlace}
-use Rattle.dbus_c.specs.declared.answers.TheConstants.{WHOLE, NO_ROOM}
 use Rattle.dbus_c.specs.declared.flattening.Part.{Part}
 use Rattle.dbus_c.specs.declared.flattening.Part.TheVariants.{Body, Fields}
 
@@ -81,7 +80,3 @@ pub record IsPartFlat (part : Part) (limits : Limits) (b : List ℕ) (first : �
   pub length : ℕ
   pub whole : IsWhole limits b order message length
   pub flat : AreFlat order (start_of part order message) (values_of part message) first before items count
-
--- the answer says that there is a message, for whose items there was room or not
-abbrev pub IsTold : ℕ → Type 0
-IsTold answer = (answer ≡ WHOLE) ⊎ (answer ≡ NO_ROOM)

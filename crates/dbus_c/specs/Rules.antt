@@ -21,7 +21,7 @@ use Rattle.dbus_rule_set.specs.declared.handle.RuleHandle.{RuleHandle}
 use Rattle.dbus_c_handle.specs.Rules.{Adds, KeepsAll, SetsOwner, SharesNone, SharesRules}
 use Rattle.dbus_c_handle.specs.declared.kept.Kept.{Kept}
 use Rattle.dbus_c_handle.specs.declared.share_fault.ShareFault.TheVariants.{Memory, TooMany}
-use Rattle.dbus_c.specs.Outcomes.{BeginsWithMessage, TellsApart}
+use Rattle.dbus_c.specs.Outcomes.{IsTold}
 use Rattle.dbus_c.specs.declared.answers.TheConstants.{WHOLE, REFUSED, NO_MEMORY, NO_ROOM, NO_RULE, SHARED}
 use Rattle.dbus_c.specs.declared.rule_reasons.TheConstants.{NOT_UTF8}
 use Rattle.dbus_c.specs.declared.rules.RuleRefused.{RuleRefused}
@@ -97,16 +97,12 @@ abbrev pub TellsFound : List (RuleHandle × Rule Global) → MessageTree → Own
 TellsFound rules m os answer old new count =
     (found : List RuleHandle) × Collects (EntryMatches m os) rules [] found × TellsAll found answer old new × (count ≡ length found)
 
-abbrev pub HasFound : ℕ → Type 0
-HasFound answer = (answer ≡ WHOLE) ⊎ (answer ≡ NO_ROOM)
-
--- what is told of rules, with the owners of names, and of the message that bytes begin with
+-- what is told of rules, with the owners of names, that are asked of the message that bytes begin
+-- with
 pub record TellsMatching (rules : List (RuleHandle × Rule Global)) (os : OwnerSet) (limits : Limits) (b : List ℕ) (answer : ℕ) (old new : List RuleHandle)
     (count_old count_new : ℕ) : Type 0 where
-  pub apart : TellsApart limits b answer
-  pub message : BeginsWithMessage limits b → HasFound answer ⊎ (answer ≡ NO_MEMORY)
-  pub found : HasFound answer → (order : Order) (m : MessageTree) (n : ℕ) → IsWhole limits b order m n → TellsFound rules m os answer old new count_new
-  pub unchanged : (HasFound answer → ⊥) → (new ≡ old) × (count_new ≡ count_old)
+  pub found : IsTold answer → (order : Order) (m : MessageTree) (n : ℕ) → IsWhole limits b order m n → TellsFound rules m os answer old new count_new
+  pub unchanged : (IsTold answer → ⊥) → (new ≡ old) × (count_new ≡ count_old)
 
 -- a text and a 0 after it are written, or there is no room for both, and its length is told; or
 -- memory ran out

@@ -6,7 +6,7 @@ use Rattle.dbus_auth_lines.specs.Lines.{client_meaning, server_meaning}
 use Rattle.dbus_auth_lines.specs.WrittenLines.{IsExactClientLine, IsExactServerLine}
 use Rattle.dbus_auth.specs.declared.states.ServerState.{ServerState}
 use Rattle.dbus_auth.specs.declared.states.ServerState.TheVariants as at
-use Rattle.dbus_watch.specs.Watches.{WatchState, Passed, passed_to_client, passed_to_server, refused}
+use Rattle.dbus_watch.specs.Watches.{WatchState, passed_to_client, passed_to_server, refused}
 use Rattle.dbus_watch.specs.WatchViews.{DidPass}
 use Rattle.dbus_watch.specs.declared.watch.Passage.{Passage}
 use Rattle.dbus_watch.specs.declared.watch.Passage.TheVariants as passage

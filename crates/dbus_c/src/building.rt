@@ -11,14 +11,13 @@ ghost use Rattle.dbus_c.specs.GivenLimits.{limits_of};
 ghost use Rattle.dbus_c.specs.Parting.{HasParts};
 
 use crate::answers::{NO_MEMORY, NO_ROOM, REFUSED, WHOLE};
-use crate::checking::{Checked, check_all, fault_told, nothing_told};
+use crate::checking::{Checked, fault_told, first_validated, nothing_told};
 use crate::given_limits::{WireLimits, given_limits};
 use crate::parts::{TextPlace, WireParts, order_byte};
 use crate::reasons::reason_number;
 use dbus_c_build::{ByteRange, Given, PlacedFault, PlacedParts, build};
 use dbus_message_model::field_code::SIGNATURE;
 use dbus_message_model::order_named;
-use dbus_validate::validate;
 use dbus_value_model::{Order, Reason};
 use std::alloc::Global;
 
@@ -80,17 +79,16 @@ pub extern "C" fn dbus_wire_rebuild(
     ensures same { HasParts (limits_of limits.now) bytes.now parts.now →
         ComesBack bytes.now parts.now result out.old out.new }
 {
-    let within = given_limits(limits);
-    match validate(bytes, within) {
-        Some(validated) => {
+    match first_validated(bytes, limits, told) {
+        Ok(validated) => {
             let given = Given {
                 bytes,
-                limits: within,
+                limits: given_limits(limits),
                 kept: Some(validated),
             };
             build_given(alloc, parts, &given, out, told)
         }
-        None => check_all(bytes, within, told),
+        Err(answer) => answer,
     }
 }
 

@@ -1,16 +1,15 @@
 //! Whether bytes begin with a message, in numbers.
 #![tactic(auto)]
 
-ghost use Rattle.std.specs.Prelude.{◌≡◌, ◌↔◌, ◌<◌, ◌≤◌, length, None, IfOk, IfErr, IfSome};
+ghost use Rattle.std.specs.Prelude.{◌≡◌, ◌<◌, ◌≤◌, length, IfOk, IfErr};
 ghost use Rattle.dbus_header.specs.MessageOutcomes.{IsWhole};
 ghost use Rattle.dbus_message_model.specs.Messages.{MessageTree};
 ghost use Rattle.dbus_value_model.specs.declared.limits.Limits.{Limits};
 ghost use Rattle.dbus_value_model.specs.declared.order.Order.{Order};
 ghost use Rattle.dbus_c.specs.Checking.{IsExact, Tells, fault_told, nothing_told, whole_told};
 ghost use Rattle.dbus_c.specs.GivenLimits.{limits_of};
-ghost use Rattle.dbus_c.specs.Outcomes.{BeginsWithMessage, IsFirstView, TellsApart, answer_of};
+ghost use Rattle.dbus_c.specs.Outcomes.{IsFirstView, answer_of};
 ghost use Rattle.dbus_validate.specs.Validating.{IsValidated};
-ghost use Rattle.dbus_header.specs.NoMessage.{BeginsWithNone};
 
 use crate::answers::{PARTIAL, REFUSED, WHOLE};
 use crate::given_limits::{WireLimits, given_limits};
@@ -39,7 +38,7 @@ pub struct Checked {
 }
 
 // The result for bytes that begin with a message of this length.
-pub(crate) fn whole_told(bytes: &[u8], count: usize) -> Checked
+fn whole_told(bytes: &[u8], count: usize) -> Checked
     requires { 0 < length bytes.now }
     ensures { (limits : Limits) (order : Order) (m : MessageTree) →
         IsWhole limits bytes.now order m count → result ≡ whole_told order count }
@@ -93,19 +92,38 @@ pub extern "C" fn dbus_wire_check(bytes: &[u8], limits: &WireLimits, out: &mut C
     ensures tells { Tells (limits_of limits.now) bytes.now result out.new }
     ensures exact { IsExact (limits_of limits.now) bytes.now result out.new }
 {
+    match first_validated(bytes, limits, out) {
+        Ok(_) => WHOLE,
+        Err(answer) => answer,
+    }
+}
+
+// The message within the limits that the bytes begin with, validated; or the answer to bytes that
+// begin with none. What a check of the bytes reports is written.
+pub(crate) fn first_validated(
+    bytes: &[u8],
+    limits: &WireLimits,
+    told: &mut Checked,
+) -> Result<Validated, u32>
+    ensures tells { Tells (limits_of limits.now) bytes.now (answer_of result) told.new }
+    ensures exact { IsExact (limits_of limits.now) bytes.now (answer_of result) told.new }
+    ensures validated { IfOk result (λ v. IsValidated (limits_of limits.now) bytes.now v) }
+    ensures none { IfErr result (λ answer. WHOLE < answer) }
+    ensures most { IfErr result (λ answer. answer ≤ REFUSED) }
+{
     let within = given_limits(limits);
     match validate(bytes, within) {
         Some(validated) => {
-            *out = whole_told(bytes, validated.length);
-            WHOLE
+            *told = whole_told(bytes, validated.length);
+            Ok(validated)
         }
-        None => check_all(bytes, within, out),
+        None => Err(check_all(bytes, within, told)),
     }
 }
 
 // What a checker returns for the bytes.
 #[inline(never)]
-pub(crate) fn check_all(bytes: &[u8], limits: Limits, out: &mut Checked) -> u32
+fn check_all(bytes: &[u8], limits: Limits, out: &mut Checked) -> u32
     ensures tells { Tells limits bytes.now result out.new }
     ensures exact { IsExact limits bytes.now result out.new }
 {
@@ -126,39 +144,15 @@ pub(crate) fn check_all(bytes: &[u8], limits: Limits, out: &mut Checked) -> u32
     }
 }
 
-// The answer to bytes that begin with no message.
-pub(crate) fn answer_to_none(bytes: &[u8], limits: Limits) -> u32
-    requires { BeginsWithNone limits bytes.now }
-    ensures apart { TellsApart limits bytes.now result }
-    ensures above { WHOLE < result }
-    ensures below { result ≤ REFUSED }
+// A view of the message that the bytes begin with, taken by itself.
+pub(crate) fn first_view<'a>(
+    bytes: &'a [u8],
+    limits: &WireLimits,
+    validated: Validated,
+) -> MessageView<'a>
+    requires validated { IsValidated (limits_of limits.now) bytes.now validated }
+    ensures viewed { IsFirstView (limits_of limits.now) bytes.now result }
 {
-    let mut told = nothing_told();
-    check_all(bytes, limits, &mut told)
-}
-
-// The message within the limits that the bytes begin with, validated; or the answer to bytes that
-// begin with none.
-pub(crate) fn first_validated(bytes: &[u8], limits: &WireLimits) -> Result<Validated, u32>
-    ensures whole { BeginsWithMessage (limits_of limits.now) bytes.now ↔ (answer_of result ≡ WHOLE) }
-    ensures apart { TellsApart (limits_of limits.now) bytes.now (answer_of result) }
-    ensures validated { IfOk result (λ v. IsValidated (limits_of limits.now) bytes.now v) }
-    ensures none { IfErr result (λ answer. WHOLE < answer) }
-    ensures most { IfErr result (λ answer. answer ≤ REFUSED) }
-{
-    let within = given_limits(limits);
-    match validate(bytes, within) {
-        Some(validated) => Ok(validated),
-        None => Err(answer_to_none(bytes, within)),
-    }
-}
-
-// A view of the message within the limits that the bytes begin with, which is validated by itself.
-pub(crate) fn first_view(bytes: &[u8], limits: Limits) -> Option<MessageView<'_>>
-    ensures viewed { IfSome result (λ v. IsFirstView limits bytes.now v) }
-    ensures none { result ≡ None → BeginsWithNone limits bytes.now }
-{
-    let validated = validate(bytes, limits)?;
     let message = &bytes[..validated.length];
-    Some(MessageView::of_validated(message, limits, validated))
+    MessageView::of_validated(message, given_limits(limits), validated)
 }

@@ -2,9 +2,10 @@
 #![tactic(auto)]
 
 ghost use Rattle.std.specs.Prelude.{◌≡◌, ◌↔◌, ◌≤◌, ◌+◌, ℕ, List, length};
-ghost use Rattle.dbus_c.specs.Parting.{IsPartFlat, IsTold, start_of, values_of};
+ghost use Rattle.dbus_c.specs.Checking.{IsExact, Tells};
+ghost use Rattle.dbus_c.specs.Parting.{IsPartFlat, start_of, values_of};
 ghost use Rattle.dbus_c.specs.GivenLimits.{limits_of};
-ghost use Rattle.dbus_c.specs.Outcomes.{BeginsWithMessage, TellsApart};
+ghost use Rattle.dbus_c.specs.Outcomes.{IsTold, with_room};
 ghost use Rattle.dbus_c.specs.declared.flattening.Part.TheVariants.{Body, Fields};
 ghost use Rattle.dbus_message_model.specs.Messages.{MessageTree};
 ghost use Rattle.dbus_types.specs.SignatureCodes.{AreLengths};
@@ -13,7 +14,7 @@ ghost use Rattle.dbus_walk.specs.Standing.{AllStandAt};
 ghost use Rattle.dbus_walk.specs.declared.spot.MessageBytes.{MessageBytes};
 
 use crate::answers::{NO_ROOM, WHOLE};
-use crate::checking::first_validated;
+use crate::checking::{Checked, first_validated};
 use crate::given_limits::{WireLimits, given_limits};
 use dbus_flatten::{FlatItem, flatten};
 use dbus_validate::Whole;
@@ -35,9 +36,9 @@ pub(crate) enum Part {
 ///
 /// [`WHOLE`] if there is room for all from `first` on, else [`NO_ROOM`]: the same call at a place
 /// after those written goes on. If the bytes begin with no message, [`crate::PARTIAL`] or
-/// [`crate::REFUSED`], as [`crate::dbus_wire_check`], which reports why; then `items` and `count`
-/// stay as they are. Whatever room there is, each call validates the whole message and then walks
-/// it once. It allocates nothing. D-Bus Specification, "Message Format".
+/// [`crate::REFUSED`]; then `items` and `count` stay as they are. `told` has what
+/// [`crate::dbus_wire_check`] reports. Whatever room there is, each call validates the whole
+/// message and then walks it once. It allocates nothing. D-Bus Specification, "Message Format".
 #[unsafe(no_mangle)]
 pub extern "C" fn dbus_wire_flatten(
     bytes: &[u8],
@@ -45,14 +46,25 @@ pub extern "C" fn dbus_wire_flatten(
     first: usize,
     items: &mut [FlatItem],
     count: &mut u64,
+    told: &mut Checked,
 ) -> u32
-    ensures whole { BeginsWithMessage (limits_of limits.now) bytes.now ↔ IsTold result }
-    ensures apart { TellsApart (limits_of limits.now) bytes.now result }
+    ensures tells { Tells (limits_of limits.now) bytes.now (with_room result) told.new }
+    ensures exact { IsExact (limits_of limits.now) bytes.now (with_room result) told.new }
     ensures flat { IsTold result → IsPartFlat Body (limits_of limits.now) bytes.now first items.old items.new count.new }
     ensures room { IsTold result → (result ≡ WHOLE) ↔ (count.new ≤ first + length items.old) }
     ensures unchanged { (IsTold result → ⊥) → (items.new ≡ items.old) × (count.new ≡ count.old) }
 {
-    flatten_part(Part::Body, bytes, limits, first, items, count)
+    match first_validated(bytes, limits, told) {
+        Ok(validated) => {
+            let whole = Whole {
+                bytes,
+                limits: given_limits(limits),
+                validated: &validated,
+            };
+            flatten_part(Part::Body, &whole, first, items, count)
+        }
+        Err(answer) => answer,
+    }
 }
 
 /// Writes the items of the array of the header fields of the message within the limits that the
@@ -66,52 +78,52 @@ pub extern "C" fn dbus_wire_flatten_fields(
     first: usize,
     items: &mut [FlatItem],
     count: &mut u64,
+    told: &mut Checked,
 ) -> u32
-    ensures whole { BeginsWithMessage (limits_of limits.now) bytes.now ↔ IsTold result }
-    ensures apart { TellsApart (limits_of limits.now) bytes.now result }
+    ensures tells { Tells (limits_of limits.now) bytes.now (with_room result) told.new }
+    ensures exact { IsExact (limits_of limits.now) bytes.now (with_room result) told.new }
     ensures flat { IsTold result → IsPartFlat Fields (limits_of limits.now) bytes.now first items.old items.new count.new }
     ensures room { IsTold result → (result ≡ WHOLE) ↔ (count.new ≤ first + length items.old) }
     ensures unchanged { (IsTold result → ⊥) → (items.new ≡ items.old) × (count.new ≡ count.old) }
 {
-    flatten_part(Part::Fields, bytes, limits, first, items, count)
-}
-
-// The items of a part of the message that the bytes begin with, from a place on, and the answer.
-fn flatten_part(
-    part: Part,
-    bytes: &[u8],
-    limits: &WireLimits,
-    first: usize,
-    items: &mut [FlatItem],
-    count: &mut u64,
-) -> u32
-    ensures whole { BeginsWithMessage (limits_of limits.now) bytes.now ↔ IsTold result }
-    ensures apart { TellsApart (limits_of limits.now) bytes.now result }
-    ensures flat { IsTold result → IsPartFlat part (limits_of limits.now) bytes.now first items.old items.new count.new }
-    ensures room { IsTold result → (result ≡ WHOLE) ↔ (count.new ≤ first + length items.old) }
-    ensures unchanged { (IsTold result → ⊥) → (items.new ≡ items.old) × (count.new ≡ count.old) }
-{
-    match first_validated(bytes, limits) {
+    match first_validated(bytes, limits, told) {
         Ok(validated) => {
             let whole = Whole {
                 bytes,
                 limits: given_limits(limits),
                 validated: &validated,
             };
-            let told = flat_part(part, &whole, first, items);
-            *count = told as u64;
-            if told.saturating_sub(first) > items.len() {
-                NO_ROOM
-            } else {
-                WHOLE
-            }
+            flatten_part(Part::Fields, &whole, first, items, count)
         }
         Err(answer) => answer,
     }
 }
 
-// The items of a part of the message that was validated, which the bytes begin with, from a place
-// on: how many the whole row has.
+// Writes the items of a part of the message that was validated, from a place on, and how many the
+// whole row has. Whether there was room for all from there on.
+pub(crate) fn flatten_part(
+    part: Part,
+    whole: &Whole<'_>,
+    first: usize,
+    items: &mut [FlatItem],
+    count: &mut u64,
+) -> u32
+    requires validated { WasValidated whole.now }
+    ensures told { IsTold result }
+    ensures flat { IsPartFlat part whole.now.limits whole.now.bytes.now first items.old items.new count.new }
+    ensures room { (result ≡ WHOLE) ↔ (count.new ≤ first + length items.old) }
+{
+    let told = flat_part(part, whole, first, items);
+    *count = told as u64;
+    if told.saturating_sub(first) > items.len() {
+        NO_ROOM
+    } else {
+        WHOLE
+    }
+}
+
+// The items of a part of the message that was validated, from a place on: how many the whole row
+// has.
 fn flat_part(part: Part, whole: &Whole<'_>, first: usize, items: &mut [FlatItem]) -> usize
     requires validated { WasValidated whole.now }
     ensures { IsPartFlat part whole.now.limits whole.now.bytes.now first items.old items.new result }

@@ -3,9 +3,10 @@
 //!
 //! [`dbus_wire_check`] checks bytes, [`dbus_wire_wanted`] returns how many to read,
 //! [`dbus_wire_parts_of`] gives a message's parts, and [`dbus_wire_swap`] byteswaps.
-//! [`dbus_wire_flatten`] gives all values of its body as one row of items, and
-//! [`dbus_wire_flatten_fields`] those of its header fields. [`dbus_wire_checker_new`] makes a
-//! checker that takes one piece after another, and [`dbus_wire_rules_add`] keeps match rules,
+//! [`dbus_wire_flatten`] gives all values of its body as one row of items,
+//! [`dbus_wire_flatten_fields`] those of its header fields, and [`dbus_wire_read`] its parts and
+//! its body's values by one validation. [`dbus_wire_checker_new`] makes a checker that takes one
+//! piece after another, and [`dbus_wire_rules_add`] keeps match rules,
 //! [`dbus_wire_rules_owner`] the owners of names that their senders may be;
 //! [`dbus_wire_server_new`] and [`dbus_wire_client_new`] make an end of a handshake;
 //! [`dbus_wire_client_line`] and [`dbus_wire_server_line`] give the lines of one between others, of
@@ -28,6 +29,7 @@ mod handshakes;
 pub mod line_command;
 mod names;
 mod parts;
+mod reading;
 mod reasons;
 mod rule_reasons;
 mod rules;
@@ -57,6 +59,7 @@ pub use handshakes::{
 };
 pub use names::{dbus_wire_reason_name, names_are_texts};
 pub use parts::{TextPlace, WireParts, dbus_wire_parts_of};
+pub use reading::dbus_wire_read;
 pub use reasons::{field_named, reason_number, reasons_have_one_number};
 pub use rule_reasons::{
     NOT_UTF8, dbus_wire_rule_reason_name, rule_names_are_texts, rule_reason_number,

@@ -1,22 +1,24 @@
 //! The parts of a message in the caller's bytes, in numbers.
 #![tactic(auto)]
 
-ghost use Rattle.std.specs.Prelude.{◌≡◌, ◌≢◌, ◌↔◌, List, ℕ, true};
+ghost use Rattle.std.specs.Prelude.{◌≡◌, ◌≢◌, List, ℕ, true};
+ghost use Rattle.dbus_c.specs.Checking.{IsExact, Tells};
 ghost use Rattle.dbus_c.specs.GivenLimits.{limits_of};
-ghost use Rattle.dbus_c.specs.Outcomes.{BeginsWithMessage, TellsApart};
 ghost use Rattle.dbus_c.specs.Parting.{HasFields, HasParts, IsOwnPlace, IsPlaceOf, number_of};
 ghost use Rattle.dbus_validate.specs.Seen.{AreNoted, ArePlaced};
+ghost use Rattle.dbus_validate.specs.Validating.{IsValidated};
+ghost use Rattle.dbus_value_model.specs.declared.limits.Limits.{Limits};
 ghost use Rattle.dbus_value_model.specs.declared.order.Order.{Order};
 ghost use Rattle.dbus_message_model.specs.KnownFields.{field_value};
 ghost use Rattle.dbus_message_model.specs.Messages.{FieldTree, is_known, order_byte};
 
 use crate::answers::WHOLE;
-use crate::checking::first_validated;
+use crate::checking::{Checked, first_validated};
 use crate::given_limits::WireLimits;
 use dbus_message_model::field_code::{
     DESTINATION, ERROR_NAME, INTERFACE, MEMBER, PATH, REPLY_SERIAL, SENDER, SIGNATURE, UNIX_FDS,
 };
-use dbus_validate::FieldPlaces;
+use dbus_validate::{FieldPlaces, Validated};
 use dbus_value_model::Order;
 
 /// The place of a text, such as that of a header field, in the caller's bytes.
@@ -69,41 +71,54 @@ pub struct WireParts {
 }
 
 /// Writes the parts of the message within the limits that the bytes begin with, and returns
-/// [`WHOLE`]. If they begin with none, returns [`crate::PARTIAL`] or [`crate::REFUSED`], as
-/// [`crate::dbus_wire_check`], which reports why, and `out` stays as it is. Each part lies within
-/// the message, whatever bytes follow it. It allocates nothing.
+/// [`WHOLE`]. If they begin with none, returns [`crate::PARTIAL`] or [`crate::REFUSED`], and `out`
+/// stays as it is. `told` has what [`crate::dbus_wire_check`] reports. Each part lies within the
+/// message, whatever bytes follow it. It allocates nothing.
 ///
 /// D-Bus Specification, "Message Format" and "Header Fields".
 #[unsafe(no_mangle)]
-pub extern "C" fn dbus_wire_parts_of(bytes: &[u8], limits: &WireLimits, out: &mut WireParts) -> u32
-    ensures whole { BeginsWithMessage (limits_of limits.now) bytes.now ↔ (result ≡ WHOLE) }
-    ensures apart { TellsApart (limits_of limits.now) bytes.now result }
+pub extern "C" fn dbus_wire_parts_of(
+    bytes: &[u8],
+    limits: &WireLimits,
+    out: &mut WireParts,
+    told: &mut Checked,
+) -> u32
+    ensures tells { Tells (limits_of limits.now) bytes.now result told.new }
+    ensures exact { IsExact (limits_of limits.now) bytes.now result told.new }
     ensures parts { result ≡ WHOLE → HasParts (limits_of limits.now) bytes.now out.new }
     ensures unchanged { result ≢ WHOLE → out.new ≡ out.old }
 {
-    match first_validated(bytes, limits) {
+    match first_validated(bytes, limits, told) {
         Ok(validated) => {
-            let seen = &validated.fields;
-            *out = WireParts {
-                length: validated.length as u64,
-                body: validated.body as u64,
-                order: order_byte(validated.order),
-                kind: u32::from(validated.kind),
-                flags: u32::from(validated.flags),
-                serial: validated.serial,
-                reply_serial: number_of(seen, REPLY_SERIAL),
-                unix_fds: number_of(seen, UNIX_FDS),
-                path: place_of(seen, PATH),
-                interface: place_of(seen, INTERFACE),
-                member: place_of(seen, MEMBER),
-                error_name: place_of(seen, ERROR_NAME),
-                destination: place_of(seen, DESTINATION),
-                sender: place_of(seen, SENDER),
-                signature: place_of(seen, SIGNATURE),
-            };
+            *out = parts_in(&validated);
             WHOLE
         }
         Err(answer) => answer,
+    }
+}
+
+// The parts of a message that was validated.
+pub(crate) fn parts_in(validated: &Validated) -> WireParts
+    ensures { (limits : Limits) (bytes : List ℕ) → IsValidated limits bytes validated.now →
+        HasParts limits bytes result }
+{
+    let seen = &validated.fields;
+    WireParts {
+        length: validated.length as u64,
+        body: validated.body as u64,
+        order: order_byte(validated.order),
+        kind: u32::from(validated.kind),
+        flags: u32::from(validated.flags),
+        serial: validated.serial,
+        reply_serial: number_of(seen, REPLY_SERIAL),
+        unix_fds: number_of(seen, UNIX_FDS),
+        path: place_of(seen, PATH),
+        interface: place_of(seen, INTERFACE),
+        member: place_of(seen, MEMBER),
+        error_name: place_of(seen, ERROR_NAME),
+        destination: place_of(seen, DESTINATION),
+        sender: place_of(seen, SENDER),
+        signature: place_of(seen, SIGNATURE),
     }
 }
 

@@ -2,7 +2,9 @@
 #![tactic(auto)]
 
 ghost use Rattle.std.specs.Prelude.{◌≡◌, MatchOption, None, true, false};
+ghost use Rattle.dbus_c.specs.Checking.{IsExact, Tells};
 ghost use Rattle.dbus_c.specs.GivenLimits.{limits_of};
+ghost use Rattle.dbus_c.specs.Outcomes.{with_memory, with_room};
 ghost use Rattle.dbus_c.specs.Rules.{IsOwner, TellsAll, TellsMatching, TellsOwner, TellsRule, TellsRuleText, TellsSharing, removal_told, rule_fault_told};
 ghost use Rattle.dbus_c_handle.specs.Rules.{given_of, is_shared, owners_of, rules_of};
 ghost use Rattle.dbus_texts.specs.Kinds.{IsKind};
@@ -10,8 +12,8 @@ ghost use Rattle.dbus_texts.specs.declared.text_kind.TextKind.TheVariants.{BusNa
 ghost use Rattle.dbus_rule_set.specs.Held.{rule_at, without};
 
 use crate::answers::{NO_MEMORY, NO_ROOM, NO_RULE, REFUSED, SHARED, WHOLE};
-use crate::checking::{answer_to_none, first_view};
-use crate::given_limits::{WireLimits, given_limits};
+use crate::checking::{Checked, first_validated, first_view};
+use crate::given_limits::WireLimits;
 use crate::names::put_text;
 use crate::rule_reasons::{NOT_UTF8, rule_reason_number};
 use dbus_c_handle::{ShareFault, WireHandle};
@@ -141,8 +143,8 @@ pub extern "C" fn dbus_wire_rules_share(
 /// Writes the id of each rule that matches the message within the limits that the bytes begin with,
 /// from the start of `ids` on: [`WHOLE`]. [`NO_ROOM`] if `ids` is too short for them, and then it
 /// stays as it is. In both cases `count` is their number. [`crate::PARTIAL`] and [`REFUSED`] as
-/// [`crate::dbus_wire_check`]. Of a message, [`NO_MEMORY`] if memory runs out. In these three cases
-/// `ids` and `count` stay as they are.
+/// [`crate::dbus_wire_check`], of which `told` has what it reports. Of a message, [`NO_MEMORY`] if
+/// memory runs out. In these three cases `ids` and `count` stay as they are.
 ///
 /// A rule's `sender` matches a message whose SENDER is that name, or the owner that
 /// [`dbus_wire_rules_owner`] noted of it. It takes memory for what it finds. D-Bus Specification,
@@ -155,15 +157,19 @@ pub extern "C" fn dbus_wire_rules_matching(
     limits: &WireLimits,
     ids: &mut [RuleHandle],
     count: &mut u64,
+    told: &mut Checked,
 ) -> u32
     ensures same { rules.new.state ≡ rules.old.state }
-    ensures told { TellsMatching (rules_of rules.old.state) (owners_of rules.old.state) (limits_of limits.now) bytes.now result
+    ensures tells { Tells (limits_of limits.now) bytes.now (with_room (with_memory result)) told.new }
+    ensures exact { IsExact (limits_of limits.now) bytes.now (with_room (with_memory result)) told.new }
+    ensures matching { TellsMatching (rules_of rules.old.state) (owners_of rules.old.state) (limits_of limits.now) bytes.now result
         ids.old ids.new count.old count.new }
 {
-    let within = given_limits(limits);
-    let Some(view) = first_view(bytes, within) else {
-        return answer_to_none(bytes, within);
+    let validated = match first_validated(bytes, limits, told) {
+        Ok(validated) => validated,
+        Err(answer) => return answer,
     };
+    let view = first_view(bytes, limits, validated);
     let Ok(found) = rules.matching(alloc, &view) else {
         return NO_MEMORY;
     };

@@ -3,16 +3,17 @@
 
 ghost use Rattle.std.specs.Prelude.{◌≡◌, ◌≤◌, ◌++◌, drop, length};
 ghost use Rattle.dbus_c.specs.GivenLimits.{limits_of};
-ghost use Rattle.dbus_c.specs.Outcomes.{IsSwapExact, Swaps, order_named};
+ghost use Rattle.dbus_c.specs.Checking.{IsExact, Tells};
+ghost use Rattle.dbus_c.specs.Outcomes.{Swaps, order_named, with_room};
 ghost use Rattle.dbus_header.specs.MessageOutcomes.{IsWhole};
 ghost use Rattle.dbus_validate.specs.Validating.{IsValidated};
 ghost use Rattle.dbus_message_model.specs.Messages.{MessageTree, message_bytes};
 
 use crate::answers::{NO_ROOM, WHOLE};
-use crate::checking::{Checked, check_all, whole_told};
+use crate::checking::{Checked, first_validated};
 use crate::given_limits::{WireLimits, given_limits};
 use dbus_swap::byteswap;
-use dbus_validate::{Validated, validate};
+use dbus_validate::Validated;
 use dbus_value_model::{Limits, Order};
 
 /// Writes the message within the limits that the bytes begin with to the start of `out`, in the
@@ -32,22 +33,25 @@ pub extern "C" fn dbus_wire_swap(
     out: &mut [u8],
     told: &mut Checked,
 ) -> u32
-    ensures swaps { Swaps (limits_of limits.now) bytes.now (order_named order) result told.new
-        out.old out.new }
-    ensures exact { IsSwapExact (limits_of limits.now) bytes.now (order_named order) result told.new
-        out.old out.new }
+    ensures tells { Tells (limits_of limits.now) bytes.now (with_room result) told.new }
+    ensures exact { IsExact (limits_of limits.now) bytes.now (with_room result) told.new }
+    ensures swaps { Swaps (limits_of limits.now) bytes.now (order_named order) result out.old out.new }
 {
-    let within = given_limits(limits);
-    match validate(bytes, within) {
-        Some(validated) => {
-            *told = whole_told(bytes, validated.length);
+    match first_validated(bytes, limits, told) {
+        Ok(validated) => {
             if out.len() < validated.length {
                 return NO_ROOM;
             }
-            write_in(bytes, &validated, within, order_of(order), out);
+            write_in(
+                bytes,
+                &validated,
+                given_limits(limits),
+                order_of(order),
+                out,
+            );
             WHOLE
         }
-        None => check_all(bytes, within, told),
+        Err(answer) => answer,
     }
 }
 

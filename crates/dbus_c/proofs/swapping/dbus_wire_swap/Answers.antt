@@ -1,61 +1,45 @@
-use Rattle.std.proofs.Common.{◌++◌, drop, refl, ap, subst, ◌∙◌, arith}
+use Rattle.std.proofs.Common.{ℕ, ◌++◌, drop, ap, sym, subst, ◌∙◌, arith}
 use Rattle.dbus_value_model.specs.declared.limits.Limits.{Limits}
 use Rattle.dbus_value_model.specs.declared.order.Order.{Order}
 use Rattle.dbus_message_model.specs.Messages.{message_bytes}
 use Rattle.dbus_header.specs.MessageOutcomes.{IsWhole}
-use Rattle.dbus_header.specs.NoMessage.{BeginsWithNone}
-use Rattle.dbus_c.specs.Checking.{Tells}
+use Rattle.dbus_validate.specs.Validating.{IsValidated}
+use Rattle.dbus_c.specs.Checking.{IsExact, Tells}
 use Rattle.dbus_c.specs.GivenLimits.{limits_of}
-use Rattle.dbus_c.specs.Outcomes.{order_named, swapped, no_room}
-use Rattle.dbus_c.proofs.Swapped.{none_swaps, swaps_exact}
-use Rattle.dbus_c.proofs.Telling.{some_there}
+use Rattle.dbus_c.specs.Outcomes.{order_named}
+use Rattle.dbus_c.proofs.Outcomes.{with_room_same}
+use Rattle.dbus_c.proofs.Swapped.{all_written, none_written, short_written}
 use Rattle.dbus_c.proofs.swapping.dbus_wire_swap.Goals as goal
 
-pub whole_told-requires : goal.whole_told-requires
-whole_told-requires c =
-    let validated = c.in-Some.validated in
-    let is = c.in-Some.ensures.validated in
-    some_there c.given_limits-within.result c.args.bytes.now validated.length (validated.order, is.message, is.whole)
+pub write_in-requires : goal.write_in-requires
+write_in-requires c = record {
+  validated = subst (λ (l : Limits). IsValidated l c.args.bytes.now c.in-Ok.validated) (sym c.given_limits.ensures) c.in-Ok.ensures.validated;
+  room = omega arith;
+}
 
 pub returns-then-out-validated-clause-swaps : goal.returns-then-out-validated-clause-swaps
 returns-then-out-validated-clause-swaps c =
-    let limits = limits_of c.args.limits.now in
-    let validated = c.in-Some.validated in
-    let is = c.in-Some.ensures.validated in
-    let whole = subst (λ (l : Limits). IsWhole l c.args.bytes.now validated.order is.message validated.length) c.given_limits-within.ensures is.whole in
-    no_room validated.order is.message validated.length whole (omega arith) refl (c.whole_told.ensures limits validated.order is.message whole) refl
-
-pub returns-then-out-validated-clause-exact : goal.returns-then-out-validated-clause-exact
-returns-then-out-validated-clause-exact c =
-    let limits = limits_of c.args.limits.now in
-    let validated = c.in-Some.validated in
-    let is = c.in-Some.ensures.validated in
-    let whole = subst (λ (l : Limits). IsWhole l c.args.bytes.now validated.order is.message validated.length) c.given_limits-within.ensures is.whole in
-    let none = no_room validated.order is.message validated.length whole (omega arith) refl (c.whole_told.ensures limits validated.order is.message whole) refl in
-    swaps_exact limits c.args.bytes.now (order_named c.args.order) 4 c.whole_told.result c.args.out.now c.args.out.now none
+    let is = c.in-Ok.ensures.validated in
+    short_written (limits_of c.args.limits.now) c.args.bytes.now (order_named c.args.order) c.args.out.now c.in-Ok.validated.order is.message c.in-Ok.validated.length is.whole (omega arith)
 
 pub returns-else-out-validated-clause-swaps : goal.returns-else-out-validated-clause-swaps
 returns-else-out-validated-clause-swaps c =
     let limits = limits_of c.args.limits.now in
-    let validated = c.in-Some.validated in
-    let is = c.in-Some.ensures.validated in
-    let whole = subst (λ (l : Limits). IsWhole l c.args.bytes.now validated.order is.message validated.length) c.given_limits-within.ensures is.whole in
-    let written = c.write_in.ensures is.message is.whole ∙ ap (λ (o : Order). message_bytes o is.message ++ drop validated.length c.args.out.now) c.order_of.ensures in
-    swapped validated.order is.message validated.length whole (omega arith) refl (c.whole_told.ensures limits validated.order is.message whole) written
+    let validated = c.in-Ok.validated in
+    let is = c.in-Ok.ensures.validated in
+    let whole = subst (λ (l : Limits). IsWhole l c.args.bytes.now validated.order is.message validated.length) (sym c.given_limits.ensures) is.whole in
+    let written = c.write_in.ensures is.message whole ∙ ap (λ (o : Order). message_bytes o is.message ++ drop validated.length c.args.out.now) c.order_of.ensures in
+    all_written limits c.args.bytes.now (order_named c.args.order) c.args.out.now validated.order is.message validated.length is.whole c.write_in.new.out (omega arith) written
 
-pub returns-else-out-validated-clause-exact : goal.returns-else-out-validated-clause-exact
-returns-else-out-validated-clause-exact c =
-    let limits = limits_of c.args.limits.now in
-    let validated = c.in-Some.validated in
-    let is = c.in-Some.ensures.validated in
-    let whole = subst (λ (l : Limits). IsWhole l c.args.bytes.now validated.order is.message validated.length) c.given_limits-within.ensures is.whole in
-    let written = c.write_in.ensures is.message is.whole ∙ ap (λ (o : Order). message_bytes o is.message ++ drop validated.length c.args.out.now) c.order_of.ensures in
-    let done = swapped validated.order is.message validated.length whole (omega arith) refl (c.whole_told.ensures limits validated.order is.message whole) written in
-    swaps_exact limits c.args.bytes.now (order_named c.args.order) 0 c.whole_told.result c.args.out.now c.write_in.new.out done
+pub returns-in-Err-clause-tells : goal.returns-in-Err-clause-tells
+returns-in-Err-clause-tells c =
+    subst (λ (n : ℕ). Tells (limits_of c.args.limits.now) c.args.bytes.now n c.first_validated.new.told) (sym (with_room_same c.in-Err.answer c.in-Err.ensures.most)) c.in-Err.ensures.tells
 
-pub returns-in-None-clause-swaps : goal.returns-in-None-clause-swaps
-returns-in-None-clause-swaps c =
-    let limits = limits_of c.args.limits.now in
-    let none = subst (λ (l : Limits). BeginsWithNone l c.args.bytes.now) c.given_limits-within.ensures (c.in-None.ensures.none refl) in
-    let tells = subst (λ (l : Limits). Tells l c.args.bytes.now c.check_all.result c.check_all.new.out) c.given_limits-within.ensures c.check_all.ensures.tells in
-    none_swaps limits c.args.bytes.now (order_named c.args.order) c.check_all.result c.check_all.new.out c.args.out.now c.args.out.now none tells refl
+pub returns-in-Err-clause-exact : goal.returns-in-Err-clause-exact
+returns-in-Err-clause-exact c =
+    subst (λ (n : ℕ). IsExact (limits_of c.args.limits.now) c.args.bytes.now n c.first_validated.new.told) (sym (with_room_same c.in-Err.answer c.in-Err.ensures.most)) c.in-Err.ensures.exact
+
+pub returns-in-Err-clause-swaps : goal.returns-in-Err-clause-swaps
+returns-in-Err-clause-swaps c =
+    none_written (limits_of c.args.limits.now) c.args.bytes.now (order_named c.args.order) c.args.out.now
+    (λ order m n whole. let is = (c.in-Err.ensures.exact.whole order m n whole).0 in omega (arith, is, c.in-Err.ensures.none)) c.in-Err.answer

@@ -1,0 +1,23 @@
+use Rattle.std.proofs.Common.{ℕ, subst, sym}
+use Rattle.dbus_c.specs.Checking.{IsExact, Tells}
+use Rattle.dbus_c.specs.GivenLimits.{limits_of}
+use Rattle.dbus_c.proofs.Outcomes.{not_told, with_room_same}
+use Rattle.dbus_c.proofs.flattening.dbus_wire_flatten.Goals as goal
+
+pub returns-in-Ok-clause-tells : goal.returns-in-Ok-clause-tells
+returns-in-Ok-clause-tells c =
+    subst (λ (n : ℕ). Tells (limits_of c.args.limits.now) c.args.bytes.now n c.first_validated.new.told) (sym c.flatten_part.ensures.told) c.in-Ok.ensures.tells
+
+pub returns-in-Err-clause-tells : goal.returns-in-Err-clause-tells
+returns-in-Err-clause-tells c =
+    subst (λ (n : ℕ). Tells (limits_of c.args.limits.now) c.args.bytes.now n c.first_validated.new.told) (sym (with_room_same c.in-Err.answer c.in-Err.ensures.most)) c.in-Err.ensures.tells
+
+pub returns-in-Err-clause-exact : goal.returns-in-Err-clause-exact
+returns-in-Err-clause-exact c =
+    subst (λ (n : ℕ). IsExact (limits_of c.args.limits.now) c.args.bytes.now n c.first_validated.new.told) (sym (with_room_same c.in-Err.answer c.in-Err.ensures.most)) c.in-Err.ensures.exact
+
+pub returns-in-Err-clause-flat : goal.returns-in-Err-clause-flat
+returns-in-Err-clause-flat c = λ told. absurd (not_told c.in-Err.answer c.in-Err.ensures.most c.in-Err.ensures.none told)
+
+pub returns-in-Err-clause-room : goal.returns-in-Err-clause-room
+returns-in-Err-clause-room c = λ told. absurd (not_told c.in-Err.answer c.in-Err.ensures.most c.in-Err.ensures.none told)
