@@ -3,6 +3,7 @@ use Rattle.std.specs.Prelude.{String}
 use Rattle.std.proofs.Common.{◌≡◌, ℕ, nat_eq, List, [], ◌∷◌, ◌++◌, Bool, true, false, Option, None, Some, option_map, cond, Bor, string_bytes, map, refl, ap, ◌∙◌, sym, subst, arith, append_assoc, append-nil, ⊎_elim}
 use Rattle.std.specs.BTreeMap.{BTreeMap, IsOrdered, get, get_by_text, is_at}
 use Rattle.std.specs.List.{All, AllByRecursion, Contains, IsDistinct, flat_map}
+use Rattle.std.specs.List.Sorted.{IsStrictlySortedBy}
 use Rattle.std.specs.Map.{keys_of, lookup, values_of}
 use Rattle.std.specs.Map.Iter.{deref_pair}
 use Rattle.std.specs.Cmp.Lexicographic.{slice_cmp}
@@ -14,7 +15,8 @@ use Rattle.std.proofs.lemmas.Map.Keys.{IsDistinct-from_sorted}
 use Rattle.std.proofs.lemmas.Map.Text.{is_eq-slice_cmp}
 use Rattle.std.proofs.lemmas.Slice.Eq.{bytes_eq-Decides}
 use Rattle.dbus_calls.specs.Events.{caller_of}
-use Rattle.dbus_calls.specs.Kept.{call_at, call_in, waiting}
+use Rattle.dbus_calls.specs.Kept.{call_at, call_in, entries_of, waiting}
+use Rattle.dbus_calls.specs.declared.caller_calls.CallerCalls.{CallerCalls}
 use Rattle.dbus_calls.specs.Pairing.{IsOpen, run}
 use Rattle.dbus_calls.specs.Waiting.{Waiting, no_calls}
 use Rattle.dbus_calls.proofs.Passes.{keeps_open}
@@ -30,28 +32,28 @@ use Rattle.dbus_call_lines.proofs.Sorting.{Known, no_both, none_same, number, sa
 use Rattle.dbus_call_lines.proofs.Steps.{AreKept}
 
 abbrev pub Calls : Type 0
-Calls = BTreeMap ℕ WaitingCall
+Calls = CallerCalls WaitingCall
 
 abbrev pub Entry : Type 0
 Entry = String Global × Calls
 
 -- the calls of a caller are in order, and each is at its serial
 abbrev pub IsMap : Entry → Type 0
-IsMap e = IsOrdered nat_cmp e.1 × All (λ f. get nat_cmp e.1 f.0 ≡ Some f.1) e.1.entries
+IsMap e = IsStrictlySortedBy nat_cmp (keys_of (entries_of e.1)) × All (λ f. call_at e.1 f.0 ≡ Some f.1) (entries_of e.1)
 
 -- the calls of all
 abbrev pub values_in : List Entry → List WaitingCall
-values_in es = flat_map (λ e. values_of e.1.entries) es
+values_in es = flat_map (λ e. values_of (entries_of e.1)) es
 
 -- ---- one caller more
 
-values_push : (ys : List (Bor (String Global) × Bor Calls)) (y : Bor (String Global) × Bor Calls) → values_in (map deref_pair (ys ++ y ∷ [])) ≡ values_in (map deref_pair ys) ++ values_of y.1.now.entries
-values_push [] y = append-nil (values_of y.1.now.entries)
-values_push (z ∷ ys) y = ap (λ (l : List WaitingCall). values_of z.1.now.entries ++ l) (values_push ys y) ∙ sym (append_assoc (values_of z.1.now.entries) (values_in (map deref_pair ys)) (values_of y.1.now.entries))
+values_push : (ys : List (Bor (String Global) × Bor Calls)) (y : Bor (String Global) × Bor Calls) → values_in (map deref_pair (ys ++ y ∷ [])) ≡ values_in (map deref_pair ys) ++ values_of (entries_of y.1.now)
+values_push [] y = append-nil (values_of (entries_of y.1.now))
+values_push (z ∷ ys) y = ap (λ (l : List WaitingCall). values_of (entries_of z.1.now) ++ l) (values_push ys y) ∙ sym (append_assoc (values_of (entries_of z.1.now)) (values_in (map deref_pair ys)) (values_of (entries_of y.1.now)))
 
-pub collected_push : (rows old : List WaitingCall) (ys : List (Bor (String Global) × Bor Calls)) (y : Bor (String Global) × Bor Calls) → rows ≡ old ++ values_of y.1.now.entries → old ≡ values_in (map deref_pair ys)
+pub collected_push : (rows old : List WaitingCall) (ys : List (Bor (String Global) × Bor Calls)) (y : Bor (String Global) × Bor Calls) → rows ≡ old ++ values_of (entries_of y.1.now) → old ≡ values_in (map deref_pair ys)
     → rows ≡ values_in (map deref_pair (ys ++ y ∷ []))
-collected_push rows old ys y more is = more ∙ (ap (λ (l : List WaitingCall). l ++ values_of y.1.now.entries) is ∙ sym (values_push ys y))
+collected_push rows old ys y more is = more ∙ (ap (λ (l : List WaitingCall). l ++ values_of (entries_of y.1.now)) is ∙ sym (values_push ys y))
 
 pub maps_push : (ys : List (Bor (String Global) × Bor Calls)) (y : Bor (String Global) × Bor Calls) → AllByRecursion IsMap (map deref_pair ys) → IsMap (deref_pair y) → AllByRecursion IsMap (map deref_pair (ys ++ y ∷ []))
 maps_push [] y all is = (is, tt)
@@ -63,9 +65,9 @@ no_call : (call : WaitingCall) → ◌≡◌ {A = Option WaitingCall} None (Some
 no_call call is = grind arith
 
 chosen_in : (b : Bool) (e : Entry) (s : ℕ) (call : WaitingCall) (rest : Option Calls) (more : List WaitingCall) → call_in (cond b (Some e.1) rest) s ≡ Some call → (call_in rest s ≡ Some call → Contains more call)
-    → Contains (values_of e.1.entries ++ more) call
-chosen_in true e s call rest more is later = Contains-append_left (values_of e.1.entries) more call (value_in (is_at (nat_cmp s)) e.1.entries call is)
-chosen_in false e s call rest more is later = Contains-append_right (values_of e.1.entries) more call (later is)
+    → Contains (values_of (entries_of e.1) ++ more) call
+chosen_in true e s call rest more is later = Contains-append_left (values_of (entries_of e.1)) more call (value_in (is_at (nat_cmp s)) (entries_of e.1) call is)
+chosen_in false e s call rest more is later = Contains-append_right (values_of (entries_of e.1)) more call (later is)
 
 call_among : (test : String Global → Bool) (es : List Entry) (s : ℕ) (call : WaitingCall) → call_in (lookup test es) s ≡ Some call → Contains (values_in es) call
 call_among test [] s call is = absurd (no_call call is)
@@ -96,7 +98,7 @@ module _ (texts : Texts) (wanted : Wanted) (before : List Numbered) (rising : Ar
 
   -- a caller's calls are known, and no two are the same
   abbrev IsCaller : Entry → Type 0
-  IsCaller e = IsDistinct same (values_of e.1.entries) × ((call : WaitingCall) → Contains (values_of e.1.entries) call → KnownOf (string_bytes e.0) call)
+  IsCaller e = IsDistinct same (values_of (entries_of e.1)) × ((call : WaitingCall) → Contains (values_of (entries_of e.1)) call → KnownOf (string_bytes e.0) call)
 
   both_known : (a b : String Global) (c d : WaitingCall) → KnownOf (string_bytes a) c → KnownOf (string_bytes b) d → eq_by_cmp string_cmp a b ≡ false → same c d ≡ false
   both_known a b c d h k apart = none_same (same c d) (λ alike.
@@ -109,19 +111,19 @@ module _ (texts : Texts) (wanted : Wanted) (before : List Numbered) (rising : Ar
   apart_from e call known [] apart callers other h = absurd (none_in other h)
   apart_from e call known (f ∷ fs) apart callers other h = ⊎_elim
       (λ here. both_known e.0 f.0 call other known (callers.0.1 other here) apart.0)
-      (λ later. apart_from e call known fs apart.1 callers.1 other later) (Contains-append_cases (values_of f.1.entries) (values_in fs) other h)
+      (λ later. apart_from e call known fs apart.1 callers.1 other later) (Contains-append_cases (values_of (entries_of f.1)) (values_in fs) other h)
 
   all_apart : (es : List Entry) → IsDistinct (eq_by_cmp string_cmp) (keys_of es) → AllByRecursion IsCaller es → IsDistinct same (values_in es)
   unfolding IsDistinct
   all_apart [] apart callers = tt
-  all_apart (e ∷ es) apart callers = distinct_both same (values_of e.1.entries) (values_in es) callers.0.0 (all_apart es apart.1 callers.1)
+  all_apart (e ∷ es) apart callers = distinct_both same (values_of (entries_of e.1)) (values_in es) callers.0.0 (all_apart es apart.1 callers.1)
       (λ a b h k. apart_from e a (callers.0.1 a h) es apart.0 callers.1 b k)
 
   all_known : (es : List Entry) → AllByRecursion IsCaller es → (call : WaitingCall) → Contains (values_in es) call → Known texts wanted WasOpen call
   all_known [] callers call h = absurd (none_in call h)
   all_known (e ∷ es) callers call h = ⊎_elim
       (λ here. let k = callers.0.1 call here in (k.0, k.1.0, k.2))
-      (λ later. all_known es callers.1 call later) (Contains-append_cases (values_of e.1.entries) (values_in es) call h)
+      (λ later. all_known es callers.1 call later) (Contains-append_cases (values_of (entries_of e.1)) (values_in es) call h)
 
   module _ (callers : BTreeMap (String Global) Calls) (ordered : IsOrdered string_cmp callers) (gets : All (λ e. get string_cmp callers e.0 ≡ Some e.1) callers.entries) (maps : AllByRecursion IsMap callers.entries)
       (u : Waiting WaitingCall) (are : AreKept texts wanted u w) (kept_are : (c : List ℕ) (s : ℕ) → call_in (get_by_text callers c) s ≡ u c s) where

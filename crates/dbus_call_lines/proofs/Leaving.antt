@@ -1,8 +1,8 @@
 -- A list of calls takes a message by which a caller leaves.
 use Rattle.std.proofs.Common.{◌≡◌, ℕ, nat_eq, List, [], ◌∷◌, ◌++◌, Bool, true, false, ◌||◌, ◌==◌, Option, Some, inr, if◌then◌else◌, map, refl, ap, ◌∙◌, sym, subst, arith, append-nil}
-use Rattle.std.specs.BTreeMap.{BTreeMap, IsOrdered, get}
 use Rattle.std.specs.List.{All}
-use Rattle.std.specs.Map.{values_of}
+use Rattle.std.specs.List.Sorted.{IsStrictlySortedBy}
+use Rattle.std.specs.Map.{keys_of, values_of}
 use Rattle.std.specs.Ordering.{nat_cmp}
 use Rattle.std.proofs.lemmas.List.Elements.{Contains-append_left}
 use Rattle.dbus_message_model.specs.declared.message_type.TheConstants as message
@@ -10,7 +10,8 @@ use Rattle.dbus_message_model.specs.declared.field_code.TheConstants as field
 use Rattle.dbus_calls.specs.Events.{Event, caller_of, departed, event_of, replied_to, reply_serial_of, sender_of, text_at, wants_reply}
 use Rattle.dbus_calls.specs.Events.Event.{Calls, Replies, Leaves}
 use Rattle.dbus_calls.specs.OwnerChanges.{change_of}
-use Rattle.dbus_calls.specs.Kept.{call_at, waiting}
+use Rattle.dbus_calls.specs.Kept.{call_at, entries_of, waiting}
+use Rattle.dbus_calls.specs.declared.caller_calls.CallerCalls.{CallerCalls}
 use Rattle.dbus_calls.specs.Pairing.{run}
 use Rattle.dbus_calls.specs.Waiting.{Waiting, no_calls, without_caller}
 use Rattle.dbus_call_lines.specs.Keeping.{EndedCall, GainsSorted, Keeps, Texts}
@@ -47,9 +48,9 @@ left_by x c is = left_kind (x.message.kind == message.METHOD_CALL) (x.message.ki
 
 module _ (texts : Texts) (before : List Numbered) (x : Numbered) {S : Type 0} (gains : S → List EndedCall → S → Type 0) (joins : (a b c : S) (s t : List EndedCall) → gains a s b → gains b t c → gains a (s ++ t) c) (old new : S) (list list' : CallList)
     (wanted : Wanted) (keeps : Keeps texts wanted before list) (same : list'.wanted ≡ list.wanted) (counted : list'.stray ≡ list.stray) (name : List ℕ) (is : Leaves name ≡ event_of x.message)
-    (left : (d : List ℕ) (t : ℕ) → waiting list'.open d t ≡ without_caller name (waiting list.open) d t) (rising : AreRising (before ++ x ∷ [])) (calls : BTreeMap ℕ WaitingCall)
-    (ordered : IsOrdered nat_cmp calls) (gets : All (λ e. get nat_cmp calls e.0 ≡ Some e.1) calls.entries) (closed : (s : ℕ) → call_at calls s ≡ waiting list.open name s)
-    (h : GainsSorted gains list.wanted Left (values_of calls.entries) old new) where
+    (left : (d : List ℕ) (t : ℕ) → waiting list'.open d t ≡ without_caller name (waiting list.open) d t) (rising : AreRising (before ++ x ∷ [])) (calls : CallerCalls WaitingCall)
+    (ordered : IsStrictlySortedBy nat_cmp (keys_of (entries_of calls))) (gets : All (λ e. call_at calls e.0 ≡ Some e.1) (entries_of calls)) (closed : (s : ℕ) → call_at calls s ≡ waiting list.open name s)
+    (h : GainsSorted gains list.wanted Left (values_of (entries_of calls)) old new) where
   abbrev w : Waiting Numbered
   w = run message_of no_calls before
 
@@ -70,7 +71,7 @@ module _ (texts : Texts) (before : List Numbered) (x : Numbered) {S : Type 0} (g
   leaves_some = by_wanted texts before x gains joins old new list list' wanted keeps (λ k.
       let u : Waiting WaitingCall = waiting list.open in
       let are = are_kept before x (Leaves name) is texts list.wanted list k in
-      let l = gains_those texts list.wanted Ended one (values_of calls.entries) (apart_of texts list.wanted before Ended one name calls ordered gets u are closed by_key)
+      let l = gains_those texts list.wanted Ended one (values_of (entries_of calls)) (apart_of texts list.wanted before Ended one name calls ordered gets u are closed by_key)
       (each_of texts list.wanted before Ended one name calls ordered gets u are closed by_key)
       (λ n ended. let at = by_end n ended in all_of texts list.wanted before Ended one name calls ordered gets u are closed by_key at.0 n at.1) gains Left old new h in
       let own : own_row before x ≡ [] = ap (λ b. if b then row Unwanted x ∷ [] else []) (not_unwanted x (Leaves name) is refl) in (

@@ -1,12 +1,14 @@
 -- The calls that are kept of one caller, and the lines of those that are known.
 use Rattle.std.proofs.Common.{◌≡◌, ℕ, List, [], ◌∷◌, Bool, true, false, Option, None, Some, option_map, cond, map, refl, ap, ◌∙◌, sym, subst, arith}
-use Rattle.std.specs.BTreeMap.{BTreeMap, IsOrdered, get, is_at}
+use Rattle.std.specs.BTreeMap.{is_at}
 use Rattle.std.specs.List.{All, Contains, IsDistinct}
+use Rattle.std.specs.List.Sorted.{IsStrictlySortedBy}
 use Rattle.std.specs.Map.{keys_of, lookup, values_of}
 use Rattle.std.specs.Ordering.{eq_by_cmp, nat_cmp}
 use Rattle.std.proofs.lemmas.List.Elements.{All-contains}
 use Rattle.std.proofs.lemmas.Map.Keys.{IsDistinct-from_sorted}
-use Rattle.dbus_calls.specs.Kept.{call_at}
+use Rattle.dbus_calls.specs.Kept.{call_at, entries_of}
+use Rattle.dbus_calls.specs.declared.caller_calls.CallerCalls.{CallerCalls}
 use Rattle.dbus_calls.specs.Pairing.{run}
 use Rattle.dbus_calls.specs.Waiting.{Waiting, no_calls}
 use Rattle.dbus_calls.proofs.Passes.{keeps_open}
@@ -51,9 +53,9 @@ value_in test (e ∷ es) call is = value_at (test e.0) e.1 call (lookup test es)
 key_same : (j k : ℕ) → j ≡ k → eq_by_cmp nat_cmp j k ≡ true
 key_same j k is = grind arith
 
--- Of a map that keeps what waits of a caller, each call is known, and no two are the same.
-module _ (texts : Texts) (wanted : Wanted) (before : List Numbered) (Is : Numbered → Type 0) (one : (a b : Numbered) → Is a → Is b → a.place.number ≡ b.place.number → a ≡ b) (name : List ℕ) (calls : BTreeMap ℕ WaitingCall)
-    (ordered : IsOrdered nat_cmp calls) (gets : All (λ e. get nat_cmp calls e.0 ≡ Some e.1) calls.entries) (u : Waiting WaitingCall) (are : AreKept texts wanted u (run message_of no_calls before))
+-- Of what waits of a caller, each call is known, and no two are the same.
+module _ (texts : Texts) (wanted : Wanted) (before : List Numbered) (Is : Numbered → Type 0) (one : (a b : Numbered) → Is a → Is b → a.place.number ≡ b.place.number → a ≡ b) (name : List ℕ) (calls : CallerCalls WaitingCall)
+    (ordered : IsStrictlySortedBy nat_cmp (keys_of (entries_of calls))) (gets : All (λ e. call_at calls e.0 ≡ Some e.1) (entries_of calls)) (u : Waiting WaitingCall) (are : AreKept texts wanted u (run message_of no_calls before))
     (closed : (s : ℕ) → call_at calls s ≡ u name s) (by_key : (s : ℕ) (n : Numbered) → run message_of no_calls before name s ≡ Some n → Is n) where
   abbrev w : Waiting Numbered
   w = run message_of no_calls before
@@ -64,24 +66,24 @@ module _ (texts : Texts) (wanted : Wanted) (before : List Numbered) (Is : Number
   keys : (j k : ℕ) (n : Numbered) → Key j n → Key k n → eq_by_cmp nat_cmp j k ≡ true
   keys j k n p q = key_same j k (((keeps_open message_of before name j n).0 p).2 ∙ sym ((keeps_open message_of before name k n).0 q).2)
 
-  known_at : (e : ℕ × WaitingCall) → get nat_cmp calls e.0 ≡ Some e.1 → KnownAt texts wanted Is one (eq_by_cmp nat_cmp) Key keys e
+  known_at : (e : ℕ × WaitingCall) → call_at calls e.0 ≡ Some e.1 → KnownAt texts wanted Is one (eq_by_cmp nat_cmp) Key keys e
   known_at e got =
       let b = call_behind texts wanted e.1 (w name e.0) (ap (option_map kept) (sym got ∙ closed e.0) ∙ are name e.0) in
       (b.0, by_key e.0 b.0 b.1, b.2, b.1)
 
-  known : AreKnown texts wanted Is one (eq_by_cmp nat_cmp) Key keys calls.entries
-  known = all_from (KnownAt texts wanted Is one (eq_by_cmp nat_cmp) Key keys) calls.entries (λ e h. known_at e (All-contains (λ e. get nat_cmp calls e.0 ≡ Some e.1) calls.entries e gets h))
+  known : AreKnown texts wanted Is one (eq_by_cmp nat_cmp) Key keys (entries_of calls)
+  known = all_from (KnownAt texts wanted Is one (eq_by_cmp nat_cmp) Key keys) (entries_of calls) (λ e h. known_at e (All-contains (λ e. call_at calls e.0 ≡ Some e.1) (entries_of calls) e gets h))
 
-  pub apart_of : IsDistinct same (values_of calls.entries)
-  apart_of = distinct_values texts wanted Is one (eq_by_cmp nat_cmp) Key keys calls.entries (IsDistinct-from_sorted nat_cmp (keys_of calls.entries) ordered) known
+  pub apart_of : IsDistinct same (values_of (entries_of calls))
+  apart_of = distinct_values texts wanted Is one (eq_by_cmp nat_cmp) Key keys (entries_of calls) (IsDistinct-from_sorted nat_cmp (keys_of (entries_of calls)) ordered) known
 
-  pub each_of : (call : WaitingCall) → Contains (values_of calls.entries) call → Known texts wanted Is call
-  each_of = values_known texts wanted Is one (eq_by_cmp nat_cmp) Key keys calls.entries known
+  pub each_of : (call : WaitingCall) → Contains (values_of (entries_of calls)) call → Known texts wanted Is call
+  each_of = values_known texts wanted Is one (eq_by_cmp nat_cmp) Key keys (entries_of calls) known
 
-  pub all_of : (s : ℕ) (n : Numbered) → w name s ≡ Some n → (call : WaitingCall) × Contains (values_of calls.entries) call × (kept call ≡ kept_of texts wanted n)
+  pub all_of : (s : ℕ) (n : Numbered) → w name s ≡ Some n → (call : WaitingCall) × Contains (values_of (entries_of calls)) call × (kept call ≡ kept_of texts wanted n)
   all_of s n at =
       let k = call_kept texts wanted (u name s) n (are name s ∙ ap (option_map (kept_of texts wanted)) at) in
-      (k.0, value_in (is_at (nat_cmp s)) calls.entries k.0 (closed s ∙ k.1), k.2)
+      (k.0, value_in (is_at (nat_cmp s)) (entries_of calls) k.0 (closed s ∙ k.1), k.2)
 
 -- The lines of calls that are known, each of which is kept once.
 module _ (texts : Texts) (wanted : Wanted) (Is : Numbered → Type 0) (one : (a b : Numbered) → Is a → Is b → a.place.number ≡ b.place.number → a ≡ b) (values : List WaitingCall) (apart : IsDistinct same values)

@@ -2,15 +2,16 @@
 #![tactic(auto)]
 
 ghost use Rattle.std.specs.Prelude.{◌≡◌, ◌++◌, [], ◌∷◌, List, Some, IfOk, OnErr, OnOk, string_bytes, map, option_map};
-ghost use Rattle.std.specs.BTreeMap.{IsOrdered, get};
 ghost use Rattle.std.specs.List.{All};
-ghost use Rattle.std.specs.Map.{values_of};
+ghost use Rattle.std.specs.List.Sorted.{IsStrictlySortedBy};
+ghost use Rattle.std.specs.Map.{keys_of, values_of};
 ghost use Rattle.std.specs.Ordering.{nat_cmp};
 ghost use Rattle.dbus_value_model.specs.declared.order.Order.{Order};
 ghost use Rattle.dbus_message_model.specs.Messages.{MessageTree};
 ghost use Rattle.dbus_view.specs.Views.{Views};
 ghost use Rattle.dbus_calls.specs.Events.{event_of};
 ghost use Rattle.dbus_calls.specs.Events.Event.{Calls, Replies};
+ghost use Rattle.dbus_calls.specs.Kept.{call_at, entries_of};
 ghost use Rattle.dbus_call_lines.specs.Keeping.{GainsSorted, Keeps, KnowsStray, TakesNext, Texts, as_list, ended_if, ended_kept, ended_rows, kept, kept_of};
 ghost use Rattle.dbus_call_lines.specs.Listing.{AreRising, ListsOpen, Numbered, Row, named_nth};
 ghost use Rattle.dbus_call_lines.specs.Names.{Known, names_seen};
@@ -25,11 +26,10 @@ use crate::place::Place;
 use crate::sink::CallSink;
 use crate::waiting_call::{CallParts, WaitingCall};
 use crate::wanted::Wanted;
-use dbus_calls::{CallSeen, Event, OpenCalls, ReplySeen, event_of};
+use dbus_calls::{CallSeen, CallerCalls, Event, OpenCalls, ReplySeen, event_of};
 use dbus_show::StringDraft;
 use dbus_view::MessageView;
 use std::alloc::{AllocError, Global};
-use std::collections::BTreeMap;
 
 /// A list of the calls in an input, which takes its messages one after the other, and adds a call to
 /// a [`CallSink`] once it is known what came of it: [`CallList::take`] by the message that ends the
@@ -229,18 +229,18 @@ impl CallList {
     fn add_all<S: CallSink>(
         &self,
         sink: &mut S,
-        calls: &BTreeMap<u32, WaitingCall>,
+        calls: &CallerCalls<WaitingCall>,
         outcome: Outcome,
     ) -> Result<(), AllocError>
-        ensures ordered { OnOk result (IsOrdered nat_cmp calls.now) }
+        ensures ordered { OnOk result (IsStrictlySortedBy nat_cmp (keys_of (entries_of calls.now))) }
         ensures found { OnOk result
-            (All (λ e. get nat_cmp calls.now e.0 ≡ Some e.1) calls.now.entries) }
+            (All (λ e. call_at calls.now e.0 ≡ Some e.1) (entries_of calls.now)) }
         ensures adds { OnOk result (GainsSorted S.gains self.now.wanted
-            (outcome_seen outcome.entry) (values_of calls.now.entries) sink.old sink.new) }
+            (outcome_seen outcome.entry) (values_of (entries_of calls.now)) sink.old sink.new) }
         ensures unadded { OnErr result (sink.new ≡ sink.old) }
     {
         let mut rows = Vec::new(self.alloc);
-        collect_calls(&mut rows, calls)?;
+        calls.append_to(&mut rows)?;
         add_sorted(sink, self.wanted, &mut rows, outcome)
     }
 
@@ -263,7 +263,7 @@ impl CallList {
         let callers = open.into_callers();
         let mut rows = Vec::new(alloc);
         for (_, calls) in &callers {
-            collect_calls(&mut rows, calls)?;
+            calls.append_to(&mut rows)?;
         }
         add_sorted(sink, wanted, &mut rows, Outcome::Open)
     }
@@ -295,23 +295,6 @@ fn add_kept<S: CallSink>(sink: &mut S, wanted: Wanted, call: &WaitingCall, outco
     if wanted.lists(parts.place.time, outcome) {
         sink.add(wanted.form, parts.place, parts.text.as_str(), outcome);
     }
-}
-
-// Puts the calls of a caller behind others.
-fn collect_calls<'a>(
-    rows: &mut Vec<&'a WaitingCall>,
-    calls: &'a BTreeMap<u32, WaitingCall>,
-) -> Result<(), AllocError>
-    ensures ordered { OnOk result (IsOrdered nat_cmp calls.now) }
-    ensures found { OnOk result
-        (All (λ e. get nat_cmp calls.now e.0 ≡ Some e.1) calls.now.entries) }
-    ensures collected { OnOk result (map (λ call. call.now) rows.new.items ≡
-        map (λ call. call.now) rows.old.items ++ values_of calls.now.entries) }
-{
-    for (_, call) in calls {
-        rows.push(call)?;
-    }
-    Ok(())
 }
 
 // Adds calls, in the order of their numbers.

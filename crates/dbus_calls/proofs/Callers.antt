@@ -1,28 +1,41 @@
 -- The calls of a caller.
-use Rattle.std.proofs.Common.{◌≡◌, ℕ, nat_eq, List, Bool, true, false, Option, None, Some, ◌==◌, ◌||◌, ◌&&◌, if◌then◌else◌, refl, arith, ap, ◌∙◌}
-use Rattle.std.specs.BTreeMap.{BTreeMap, btree_map_len, is_at}
-use Rattle.std.specs.Map.{lookup}
-use Rattle.std.proofs.lemmas.List.{nil_from_length}
+use Rattle.std.proofs.Common.{◌≡◌, ℕ, nat_eq, List, Bool, true, false, Option, None, Some, Result, OnOk, ◌==◌, ◌||◌, ◌&&◌, if◌then◌else◌, refl, arith, ap, sym, ◌∙◌, subst}
+use Rattle.std.specs.BTreeMap.{BTreeMap, get}
+use Rattle.std.specs.List.{All}
+use Rattle.std.specs.List.Sorted.{IsStrictlySortedBy}
+use Rattle.std.specs.Map.{keys_of}
 use Rattle.std.specs.Ordering.{nat_cmp}
 use Rattle.dbus_message_model.specs.Messages.{MessageTree}
 use Rattle.dbus_message_model.specs.declared.message_type.TheConstants as message
-use Rattle.dbus_calls.specs.Kept.{call_in, call_at}
+use Rattle.dbus_calls.specs.Kept.{call_at, call_in, entries_of}
+use Rattle.dbus_calls.specs.declared.caller_calls.CallerCalls.{CallerCalls}
+use Rattle.dbus_calls.specs.declared.caller_calls.CallerCalls.TheVariants.{One, Several}
 use Rattle.dbus_calls.specs.OwnerChanges.{Change, change_of}
 use Rattle.dbus_calls.specs.OwnerChanges.Change.{Owned, Free, Lost}
 use Rattle.dbus_calls.specs.Events.{Event, event_of, departed, caller_of, replied_to, reply_serial_of, wants_reply, sender_of}
 use Rattle.dbus_calls.specs.Events.Event.{Calls, Replies}
 
-none_of : {T : Type 0} (x : Option (BTreeMap ℕ T)) (serial s : ℕ) → x ≡ None → call_in x s ≡ (if nat_eq serial s then None else call_in x s)
+none_of : {T : Type 0} (x : Option (CallerCalls T)) (serial s : ℕ) → x ≡ None → call_in x s ≡ (if nat_eq serial s then None else call_in x s)
 none_of x serial s none = grind arith
 
 -- a caller that has no calls loses none
-pub none_left : {T : Type 0} (x y : Option (BTreeMap ℕ T)) (same : Bool) (serial s : ℕ) → y ≡ x → (same ≡ true → x ≡ None) → call_in y s ≡ (if (same && nat_eq serial s) then None else call_in x s)
+pub none_left : {T : Type 0} (x y : Option (CallerCalls T)) (same : Bool) (serial s : ℕ) → y ≡ x → (same ≡ true → x ≡ None) → call_in y s ≡ (if (same && nat_eq serial s) then None else call_in x s)
 none_left x y false serial s is none = ap (λ z. call_in z s) is
 none_left x y true serial s is none = ap (λ z. call_in z s) is ∙ none_of x serial s (none refl)
 
--- calls of none have none of a serial
-pub idle_has_none : {T : Type 0} (calls : BTreeMap ℕ T) (s : ℕ) → btree_map_len calls ≡ 0 → call_at calls s ≡ None
-idle_has_none calls s none = ap (λ es. lookup (is_at (nat_cmp s)) es) (nil_from_length calls.entries none)
+-- nothing changes if a caller that has no calls is let go
+pub none_let_go : {T : Type 0} (b : Bool) (x : Option (CallerCalls T)) (s : ℕ) → (b ≡ true → call_in x s ≡ None) → call_in (if b then None else x) s ≡ call_in x s
+none_let_go true x s none = sym (none refl)
+none_let_go false x s none = refl
+
+-- the serials of one call rise, and those of a map are where it has them
+pub one_rises : {T : Type 0} (calls : CallerCalls T) (serial : ℕ) (call : T) → calls ≡ One serial call → IsStrictlySortedBy nat_cmp (keys_of (entries_of calls))
+unfolding IsStrictlySortedBy
+one_rises calls serial call is = subst (λ c. IsStrictlySortedBy nat_cmp (keys_of (entries_of c))) (sym is) (tt, tt)
+
+pub several_found : {T U E : Type 0} (r : Result U E) (calls : CallerCalls T) (kept : BTreeMap ℕ T) → calls ≡ Several kept → OnOk r (All (λ e. get nat_cmp kept e.0 ≡ Some e.1) kept.entries)
+    → OnOk r (All (λ e. call_at calls e.0 ≡ Some e.1) (entries_of calls))
+several_found r calls kept is found = subst (λ c. OnOk r (All (λ e. call_at c e.0 ≡ Some e.1) (entries_of c))) (sym is) found
 
 -- Of what a call is seen as, the caller and the serial are its own.
 module _ (c : List ℕ) (s : ℕ) (w : Bool) where

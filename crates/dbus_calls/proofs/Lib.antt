@@ -1,2 +1,3 @@
 mod Callers
 pub mod Passes
+mod Said

@@ -34,9 +34,9 @@ is_text (Some w) v = bytes_eq w v
 abbrev pub has_text : ℕ → MessageTree → List ℕ → Bool
 has_text code m v = is_text (text_of (field_value code m.fields)) v
 
--- a signal of the bus with this member
-abbrev pub is_of_bus : (member : List ℕ) → MessageTree → Bool
-is_of_bus member m = (m.kind == message.SIGNAL) && (has_text field.SENDER m bus && (has_text field.INTERFACE m bus && has_text field.MEMBER m member))
+-- a signal of the bus
+abbrev pub is_of_bus : MessageTree → Bool
+is_of_bus m = (m.kind == message.SIGNAL) && (has_text field.SENDER m bus && has_text field.INTERFACE m bus)
 
 -- a name has this owner, or nobody has it if that is empty
 abbrev pub owned_or_free : (name unique : List ℕ) → Change
@@ -60,10 +60,14 @@ named_to a b c = None
 abbrev pub name_told : MessageTree → Option Ownership
 name_told m = named_to (string_of (body_value 0 m.body)) (text_of (field_value field.DESTINATION m.fields)) (body_value 1 m.body)
 
--- what a message says of the owner of a name
-abbrev pub change_of : MessageTree → Option Change
-change_of m =
-    if is_of_bus (codes "NameOwnerChanged") m then changed_by m
-    else if is_of_bus (codes "NameAcquired") m then option_map Owned (name_told m)
-    else if is_of_bus (codes "NameLost") m then option_map Lost (name_told m)
+-- what a signal of the bus says of the owner of a name, by its member
+abbrev pub said_by : MessageTree → Option Change
+said_by m =
+    if has_text field.MEMBER m (codes "NameOwnerChanged") then changed_by m
+    else if has_text field.MEMBER m (codes "NameAcquired") then option_map Owned (name_told m)
+    else if has_text field.MEMBER m (codes "NameLost") then option_map Lost (name_told m)
     else None
+
+-- what a message says of it
+abbrev pub change_of : MessageTree → Option Change
+change_of m = if is_of_bus m then said_by m else None

@@ -1,16 +1,21 @@
 //! What the bus says of the owners of names.
 #![tactic(auto)]
 
-ghost use Rattle.std.specs.Prelude.{◌≡◌, option_map};
+ghost use Rattle.std.specs.Prelude.{◌≡◌, ℕ, List, Some, IfSome, option_map};
+ghost use Rattle.dbus_value_model.specs.Values.{ValueTree, ValueTrees};
 ghost use Rattle.dbus_value_model.specs.declared.order.Order.{Order};
+ghost use Rattle.dbus_message_model.specs.KnownFields.{body_value};
 ghost use Rattle.dbus_message_model.specs.Messages.{MessageTree};
+ghost use Rattle.dbus_match.specs.Matching.{string_of};
+ghost use Rattle.dbus_values.specs.Seen.{IsSeen};
+ghost use Rattle.dbus_values.specs.States.{AreLeft};
 ghost use Rattle.dbus_view.specs.Views.{Views};
-ghost use Rattle.dbus_calls.specs.OwnerChanges.{change_of, changed_by, is_of_bus, is_text, name_of, name_told, owned_or_free};
-ghost use Rattle.dbus_calls.specs.Changes.{change_seen, owner_seen};
+ghost use Rattle.dbus_calls.specs.OwnerChanges.{change_of, changed_by, is_of_bus, is_text, name_of, name_told, owned_or_free, said_by};
+ghost use Rattle.dbus_calls.specs.Changes.{change_seen, others, owner_seen};
 
 use crate::answering::BUS;
-use dbus_match::string_arg;
 use dbus_message_model::message_type::SIGNAL;
+use dbus_values::{ValueView, Values};
 use dbus_view::MessageView;
 
 /// A name, and the unique name of a connection that has it or had it.
@@ -54,13 +59,22 @@ pub fn owner_change<'a>(view: &MessageView<'a>) -> Option<OwnerChange<'a>>
     ensures { (order : Order) (m : MessageTree) → Views view.now order m →
         option_map change_seen result ≡ change_of m }
 {
-    if is_of_bus(view, "NameOwnerChanged") {
+    if is_of_bus(view) { said_by(view) } else { None }
+}
+
+// What a signal of the bus says, by its member.
+fn said_by<'a>(view: &MessageView<'a>) -> Option<OwnerChange<'a>>
+    ensures { (order : Order) (m : MessageTree) → Views view.now order m →
+        option_map change_seen result ≡ said_by m }
+{
+    let member = view.member();
+    if is_text(member, "NameOwnerChanged") {
         return changed_by(view);
     }
-    if is_of_bus(view, "NameAcquired") {
+    if is_text(member, "NameAcquired") {
         return Some(OwnerChange::Owned(name_told(view)?));
     }
-    if is_of_bus(view, "NameLost") {
+    if is_text(member, "NameLost") {
         return Some(OwnerChange::Lost(name_told(view)?));
     }
     None
@@ -71,13 +85,36 @@ fn changed_by<'a>(view: &MessageView<'a>) -> Option<OwnerChange<'a>>
     ensures { (order : Order) (m : MessageTree) → Views view.now order m →
         option_map change_seen result ≡ changed_by m }
 {
-    let name = string_arg(view, 0)?;
-    string_arg(view, 1)?;
-    let unique = string_arg(view, 2)?;
-    if view.arg(3).is_some() {
+    let mut values = view.body();
+    let name = next_string(&mut values)?;
+    let _old = next_string(&mut values)?;
+    let unique = next_string(&mut values)?;
+    if values.next().is_some() {
         return None;
     }
     Some(owned_or_free(name, unique))
+}
+
+// The next value, if that is a STRING.
+fn next_string<'a>(values: &mut Values<'a>) -> Option<&'a str>
+    ensures text { (xs : ValueTrees) (rest : List ℕ) → AreLeft values.old xs rest →
+        option_map (λ t. t.now) result ≡ string_of (body_value 0 xs) }
+    ensures left { (xs : ValueTrees) (rest : List ℕ) → AreLeft values.old xs rest →
+        IfSome result (λ _. AreLeft values.new (others xs) rest) }
+{
+    let seen = values.next()?;
+    string_in(seen)
+}
+
+// The text of a value, if that is a STRING.
+fn string_in(seen: ValueView<'_>) -> Option<&str>
+    ensures { (x : ValueTree) → IsSeen seen.entry x →
+        option_map (λ t. t.now) result ≡ string_of (Some x) }
+{
+    match seen {
+        ValueView::Str(text) => Some(text),
+        _ => None,
+    }
 }
 
 // The name has this owner, or nobody has it if that is empty.
@@ -96,23 +133,21 @@ fn name_told<'a>(view: &MessageView<'a>) -> Option<NameOwner<'a>>
     ensures { (order : Order) (m : MessageTree) → Views view.now order m →
         option_map owner_seen result ≡ name_told m }
 {
-    let name = string_arg(view, 0)?;
+    let mut values = view.body();
+    let name = next_string(&mut values)?;
     let unique = view.destination()?;
-    if view.arg(1).is_some() {
+    if values.next().is_some() {
         return None;
     }
     Some(NameOwner { name, unique })
 }
 
-// Whether it is a signal of the bus with this member.
-fn is_of_bus(view: &MessageView, member: &str) -> bool
+// Whether it is a signal of the bus.
+fn is_of_bus(view: &MessageView) -> bool
     ensures { (order : Order) (m : MessageTree) → Views view.now order m →
-        result ≡ is_of_bus member.now m }
+        result ≡ is_of_bus m }
 {
-    view.kind() == SIGNAL
-        && is_text(view.sender(), BUS)
-        && is_text(view.interface(), BUS)
-        && is_text(view.member(), member)
+    view.kind() == SIGNAL && is_text(view.sender(), BUS) && is_text(view.interface(), BUS)
 }
 
 // Whether the text is there, and it is this.

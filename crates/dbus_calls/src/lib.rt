@@ -7,6 +7,7 @@
 #![tactic(auto)]
 
 mod answering;
+mod caller_calls;
 mod changes;
 mod event;
 pub mod laws;
@@ -14,6 +15,7 @@ mod open_calls;
 mod sent;
 
 pub use answering::{BUS, is_ownable, is_unique, may_answer};
+pub use caller_calls::CallerCalls;
 pub use changes::{NameOwner, OwnerChange, owner_change};
 pub use event::{CallSeen, Event, ReplySeen, event_of};
 pub use open_calls::OpenCalls;

@@ -1,11 +1,11 @@
 //! The calls that wait for a reply.
 #![tactic(auto)]
 
-ghost use Rattle.std.specs.Prelude.{◌≡◌, ℕ, nat_eq, true, option_map, is_some, List, Option, None, Some, IfOk, OnErr, OnOk, if◌then◌else◌};
+ghost use Rattle.std.specs.Prelude.{◌≡◌, ℕ, true, option_map, is_some, List, None, IfOk, OnErr, OnOk};
 ghost use Rattle.std.specs.BTreeMap.{get_by_text};
-ghost use Rattle.dbus_calls.specs.Kept.{call_at};
 
 use crate::answering::may_answer;
+use crate::caller_calls::CallerCalls;
 use crate::sent::Sent;
 use std::alloc::{AllocError, Global};
 use std::collections::BTreeMap;
@@ -23,20 +23,7 @@ use std::collections::BTreeMap;
 #[derive(Drop)]
 pub struct OpenCalls<T: Drop> {
     alloc: Global,
-    callers: BTreeMap<String, BTreeMap<u32, T>>,
-}
-
-// Puts a call among those of its caller, and returns the one of that serial, whose place it takes.
-fn put<T: Drop>(calls: &mut BTreeMap<u32, T>, serial: u32, call: T) -> Result<Option<T>, AllocError>
-    ensures put { OnOk result ((s : ℕ) →
-        call_at calls.new s ≡ (if nat_eq serial s then Some call else call_at calls.old s)) }
-    ensures before { IfOk result (λ before. before ≡ call_at calls.old serial) }
-    ensures unchanged { OnErr result ((s : ℕ) → call_at calls.new s ≡ call_at calls.old s) }
-{
-    match calls.insert(serial, call) {
-        Ok(before) => Ok(before),
-        Err(_) => Err(AllocError),
-    }
+    callers: BTreeMap<String, CallerCalls<T>>,
 }
 
 impl<T: Drop> OpenCalls<T> {
@@ -65,7 +52,7 @@ impl<T: Drop> OpenCalls<T> {
     {
         match self.callers.get_mut(caller) {
             Some(calls) => {
-                let before = put(calls, serial, call)?;
+                let before = calls.put(self.alloc, serial, call)?;
                 Ok(before)
             }
             None => {
@@ -83,9 +70,7 @@ impl<T: Drop> OpenCalls<T> {
         ensures unchanged { OnErr result ((c : List ℕ) (s : ℕ) → waiting self.new c s ≡ waiting self.old c s) }
     {
         let name = String::from_str(self.alloc, caller)?;
-        let mut calls = BTreeMap::new(self.alloc);
-        put(&mut calls, serial, call)?;
-        match self.callers.insert(name, calls) {
+        match self.callers.insert(name, CallerCalls::One(serial, call)) {
             Ok(_) => Ok(()),
             Err(_) => Err(AllocError),
         }
@@ -96,7 +81,7 @@ impl<T: Drop> OpenCalls<T> {
         ensures { option_map (λ call. call.now) result ≡ waiting self.now caller.now serial }
     {
         match self.callers.get(caller) {
-            Some(calls) => calls.get(&serial),
+            Some(calls) => calls.get(serial),
             None => None,
         }
     }
@@ -108,45 +93,33 @@ impl<T: Drop> OpenCalls<T> {
         ensures left { (c : List ℕ) (s : ℕ) →
             waiting self.new c s ≡ without_call caller.now serial (waiting self.old) c s }
     {
-        let call = self.take(caller, serial);
-        self.forget_idle(caller);
+        let (call, idle) = self.take(caller, serial);
+        if idle {
+            self.callers.remove(caller);
+        }
         call
     }
 
-    // Takes the call of this caller and serial away.
-    fn take(&mut self, caller: &str, serial: u32) -> Option<T>
-        ensures closed { result ≡ waiting self.old caller.now serial }
+    // Takes the call of this caller and serial away, and returns whether the caller is kept and has
+    // no other.
+    fn take(&mut self, caller: &str, serial: u32) -> (Option<T>, bool)
+        ensures closed { result.0 ≡ waiting self.old caller.now serial }
+        ensures idle { result.1 ≡ true → (s : ℕ) → waiting self.new caller.now s ≡ None }
         ensures left { (c : List ℕ) (s : ℕ) →
             waiting self.new c s ≡ without_call caller.now serial (waiting self.old) c s }
     {
         match self.callers.get_mut(caller) {
-            Some(calls) => calls.remove(&serial),
-            None => None,
+            Some(calls) => {
+                let call = calls.take(self.alloc, serial);
+                (call, calls.is_empty())
+            }
+            None => (None, false),
         }
     }
 
-    // Whether a caller is kept that has no open call.
-    fn is_idle(&self, caller: &str) -> bool
-        ensures { result ≡ true → (s : ℕ) → waiting self.now caller.now s ≡ None }
-    {
-        match self.callers.get(caller) {
-            Some(calls) => calls.is_empty(),
-            None => false,
-        }
-    }
-
-    // Lets go of a caller that has no open call.
-    fn forget_idle(&mut self, caller: &str)
-        ensures { (c : List ℕ) (s : ℕ) → waiting self.new c s ≡ waiting self.old c s }
-    {
-        if self.is_idle(caller) {
-            self.callers.remove(caller);
-        }
-    }
-
-    /// Closes all calls of the caller of this name, and returns them by their serials: it is gone.
+    /// Closes all calls of the caller of this name, and returns them: it is gone.
     /// It allocates nothing.
-    pub fn close_all(&mut self, name: &str) -> Option<BTreeMap<u32, T>>
+    pub fn close_all(&mut self, name: &str) -> Option<CallerCalls<T>>
         ensures closed { (s : ℕ) → call_in result s ≡ waiting self.old name.now s }
         ensures left { (c : List ℕ) (s : ℕ) →
             waiting self.new c s ≡ without_caller name.now (waiting self.old) c s }
@@ -154,8 +127,8 @@ impl<T: Drop> OpenCalls<T> {
         self.callers.remove(name)
     }
 
-    /// The calls that are still open, by their callers and their serials.
-    pub fn into_callers(self) -> BTreeMap<String, BTreeMap<u32, T>>
+    /// The calls that are still open, by their callers.
+    pub fn into_callers(self) -> BTreeMap<String, CallerCalls<T>>
         ensures { (c : List ℕ) (s : ℕ) → call_in (get_by_text result c) s ≡ waiting self c s }
     {
         let OpenCalls { callers, .. } = self;

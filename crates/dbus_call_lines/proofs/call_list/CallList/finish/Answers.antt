@@ -17,8 +17,8 @@ if_ok (Err e) a f = tt
 
 pub loop-calls-preserved : goal.loop-calls-preserved
 loop-calls-preserved g c = record {
-  collected = collected_push _ _ c.loop-calls.yielded _ c.in_ok-collect_calls.ensures.collected c.loop-calls.invariant.collected;
-  maps = maps_push c.loop-calls.yielded _ c.loop-calls.invariant.maps (c.in_ok-collect_calls.ensures.ordered, c.in_ok-collect_calls.ensures.found);
+  collected = collected_push _ _ c.loop-calls.yielded _ c.in_ok-append_to.ensures.appended c.loop-calls.invariant.collected;
+  maps = maps_push c.loop-calls.yielded _ c.loop-calls.invariant.maps (c.in_ok-append_to.ensures.ordered, c.in_ok-append_to.ensures.found);
 }
 
 pub returns-clause-lists : goal.returns-clause-lists

@@ -15,6 +15,12 @@ pub returns-in-Some-clause-left : goal.returns-in-Some-clause-left
 unfolding waiting
 returns-in-Some-clause-left g c = λ d s. grind (arith, text_keys)
 
+pub returns-in-Some-clause-idle : goal.returns-in-Some-clause-idle
+unfolding waiting
+returns-in-Some-clause-idle g c = λ idle s.
+    let none = c.is_empty.ensures idle s in
+    grind (arith, text_keys)
+
 pub returns-in-None-clause-closed : goal.returns-in-None-clause-closed
 unfolding waiting
 returns-in-None-clause-closed g c = grind (arith, text_keys)
