@@ -1,5 +1,5 @@
 -- A set of texts with one more, and with one less.
-use Rattle.std.proofs.Common.{◌≡◌, Result, Ok, Err, OnErr, ℕ, Bool, true, false, not, cond, ◌&&◌, ◌||◌, List, ◌∷◌, refl, sym, ◌∙◌, ap, subst, string_bytes}
+use Rattle.std.proofs.Common.{◌≡◌, Result, Ok, Err, OnErr, ℕ, Bool, true, false, not, cond, ◌&&◌, ◌||◌, List, [], ◌∷◌, length, refl, sym, ◌∙◌, ap, subst, arith, string_bytes}
 use Rattle.std.specs.Prelude.{String}
 use Rattle.std.specs.BTreeSet.{BTreeSet, Updates, UpdatesBy, contains_text}
 use Rattle.std.specs.Cmp.Lexicographic.{slice_cmp}
@@ -11,6 +11,7 @@ use Rattle.std.specs.Ordering.{is_eq}
 use Rattle.std.specs.Str.{bytes_eq}
 use Rattle.std.specs.String.{string_cmp}
 use Rattle.std.specs.declared.alloc.Global.{Global}
+use Rattle.std.proofs.lemmas.Bool.{false≢true}
 use Rattle.std.proofs.lemmas.Cmp.{eq_by_cmp_equiv, nat_list_cmp_total}
 use Rattle.std.proofs.lemmas.Map.Text.{btree_set_updates_text, is_eq-slice_cmp}
 use Rattle.std.proofs.lemmas.Slice.Eq.{bytes_eq-Decides}
@@ -106,3 +107,22 @@ module _ (F : List ℕ → List ℕ → Bool) (name n u : List ℕ) where
       nothing : (b : Bool) → (b && false) ≡ false
       nothing true = refl
       nothing false = refl
+
+-- ---- one text alone
+
+abbrev at : List ℕ → String Global → Bool
+at w k = is_eq (slice_cmp nat_cmp w (string_bytes k))
+
+or_none : (b : Bool) → (b || false) ≡ b
+or_none true = refl
+or_none false = refl
+
+alone_in : (ks : List (String Global)) (w : List ℕ) → length ks ≡ 1 → list_any (at w) ks ≡ true → (t : List ℕ) → list_any (at t) ks ≡ bytes_eq w t
+alone_in [] w one is t = absurd (false≢true is)
+alone_in (k ∷ []) w one is t =
+    let same : w ≡ string_bytes k = (bytes_eq-Decides w (string_bytes k)).0 (sym (is_eq-slice_cmp w (string_bytes k)) ∙ (sym (or_none (at w k)) ∙ is)) in
+    or_none (at t k) ∙ (is_eq-slice_cmp t (string_bytes k) ∙ (flip t (string_bytes k) ∙ ap (λ v. bytes_eq v t) (sym same)))
+alone_in (k ∷ j ∷ ks) w one is t = absurd (omega (arith, one))
+
+pub alone : (s : BTreeSet (String Global)) (w : List ℕ) → length s.keys ≡ 1 → contains_text s w ≡ true → (t : List ℕ) → contains_text s t ≡ bytes_eq w t
+alone s w one is t = alone_in s.keys w one is t

@@ -25,6 +25,16 @@ pub(crate) fn has(groups: &Groups, first: &str, second: &str) -> bool
     }
 }
 
+/// Whether the first text has the second, and no other.
+pub(crate) fn has_only(groups: &Groups, first: &str, second: &str) -> bool
+    ensures { OnTrue result ((u : List ℕ) → has groups.now first.now u ≡ bytes_eq second.now u) }
+{
+    match groups.get(first) {
+        Some(group) => group.len() == 1 && group.contains(second),
+        None => false,
+    }
+}
+
 /// Adds a text, if it is not there.
 pub(crate) fn note(
     alloc: Global,

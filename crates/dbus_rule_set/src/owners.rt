@@ -1,7 +1,7 @@
 //! The owners of names.
 #![tactic(auto)]
 
-use crate::groups::{Groups, forget, has, join, leave, leave_each, note};
+use crate::groups::{Groups, forget, has, has_only, join, leave, leave_each, note};
 use std::alloc::{AllocError, Global};
 use std::collections::{BTreeMap, BTreeSet};
 use std::marker::Model;
@@ -97,6 +97,9 @@ impl Owners {
     {
         if unique.is_empty() {
             self.remove(name);
+            return Ok(());
+        }
+        if has_only(&self.by_name, name, unique) {
             return Ok(());
         }
         let key = String::from_str(self.alloc, name)?;

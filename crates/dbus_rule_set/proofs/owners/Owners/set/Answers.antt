@@ -1,12 +1,27 @@
-use Rattle.std.proofs.Common.{rules, arith, ap, sym, refl, ◌∙◌, ◌≡◌, ◌&&◌, ◌||◌, not, cond, [], List, ℕ, false, string_bytes}
+use Rattle.std.proofs.Common.{rules, arith, ap, sym, refl, ◌∙◌, ◌≡◌, ◌&&◌, ◌||◌, not, cond, [], List, ℕ, Bool, true, false, string_bytes}
 use Rattle.std.specs.BTreeSet.{contains_text}
 use Rattle.std.specs.Str.{bytes_eq}
 use Rattle.std.proofs.lemmas.Map.Text.{text_keys}
+use Rattle.std.proofs.lemmas.Slice.Eq.{bytes_eq-Decides}
 use Rattle.dbus_rule_set.proofs.GroupedTexts.{one_anew, one_new}
 use Rattle.dbus_rule_set.proofs.OwnerSets.{contains_anew, held, same_owners}
 use Rattle.dbus_rule_set.specs.Owners.{owned_anew}
 use Rattle.dbus_rule_set.specs.Groups.{has, owners_by}
 use Rattle.dbus_rule_set.proofs.owners.Owners.set.Goals as goal
+
+kept_only : (b q h : Bool) → (b ≡ true → h ≡ q) → h ≡ cond b q h
+kept_only true q h is = is refl
+kept_only false q h is = refl
+
+pub returns-then-has_only-clause-set : goal.returns-then-has_only-clause-set
+returns-then-has_only-clause-set c = rw (← c.self.view_is) (
+    let name = c.args.name.now in
+    let unique = c.args.unique.now in
+    let before = c.self.inside.by_name in
+    let some : bytes_eq unique [] ≡ false = search rules in
+    same_owners before c.self.invariant.ordered (owned_anew name unique (owners_by before))
+    (λ n u. kept_only (bytes_eq name n) (bytes_eq unique u) (has before n u) (λ same. ap (λ w. has before w u) (sym ((bytes_eq-Decides name n).0 same)) ∙ c.if-has_only.ensures u)
+    ∙ (ap (λ h. cond (bytes_eq name n) (bytes_eq unique u) h) (sym (held before c.self.invariant.ordered n u)) ∙ sym (contains_anew (owners_by before) name unique n u some))))
 
 pub invariant_of-self-in-Ok-None : goal.invariant_of-self-in-Ok-None
 invariant_of-self-in-Ok-None c =
