@@ -15,7 +15,7 @@ abbrev pub call_seen : CallSeen → NameCall
 call_seen call = record { name = call.name.now; holder = call.holder }
 
 abbrev pub call_kept : KeptCall → NameCall
-call_kept call = let parts = call.parts.value in record { name = string_bytes parts.name; holder = parts.holder }
+call_kept call = record { name = string_bytes call.name; holder = call.holder }
 
 -- the open calls that it keeps
 abbrev pub calls_of : Names → Waiting NameCall

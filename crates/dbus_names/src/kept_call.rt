@@ -9,16 +9,9 @@ use crate::name_call::{Holder, NameCall};
 use dbus_calls::{BUS, Sent};
 use std::alloc::{AllocError, Global};
 
-/// A call whose reply tells who has a name. It is in a box, since the map of its caller has room for
-/// fifteen calls, however few wait.
+/// A call whose reply tells who has a name.
 #[derive(Drop)]
 pub(crate) struct KeptCall {
-    pub(crate) parts: Box<KeptParts>,
-}
-
-/// What is kept of it.
-#[derive(Drop)]
-pub(crate) struct KeptParts {
     /// The name.
     pub(crate) name: String,
     /// Who has it.
@@ -32,12 +25,9 @@ impl KeptCall {
     pub(crate) fn of(alloc: Global, call: NameCall<'_>) -> Result<KeptCall, AllocError>
         ensures { IfOk result (λ kept. call_kept kept ≡ call_seen call.entry) }
     {
-        let parts = KeptParts {
+        Ok(KeptCall {
             name: String::from_str(alloc, call.name)?,
             holder: call.holder,
-        };
-        Ok(KeptCall {
-            parts: Box::new(alloc, parts)?,
         })
     }
 }
@@ -46,9 +36,9 @@ impl Sent for KeptCall {
     ghost sent_to = { λ call. receiver_of (call_kept call) };
 
     fn destination(&self) -> Option<&str> {
-        match self.parts.holder {
+        match self.holder {
             Holder::Caller | Holder::Value => Some(BUS),
-            Holder::Sender => Some(self.parts.name.as_str()),
+            Holder::Sender => Some(self.name.as_str()),
         }
     }
 }

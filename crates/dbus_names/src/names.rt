@@ -184,11 +184,10 @@ fn note_reply<F: NameFilter>(
         named_by (wanted_change (F.wanted filter.now) (reply_told (call_kept call.now) m)) owners.new (kept_names first.old owners.old) u) }
     ensures unchanged { OnErr result (owners.new ≡ owners.old) }
 {
-    let parts = &*call.parts;
-    let Some(unique) = holder_told(view, parts.holder) else {
+    let Some(unique) = holder_told(view, call.holder) else {
         return Ok(());
     };
-    let name = parts.name.as_str();
+    let name = call.name.as_str();
     if filter.wants(name) {
         note_owner(NameOwner { name, unique }, owners, first)
     } else {
