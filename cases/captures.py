@@ -218,7 +218,7 @@ def checked(given):
     is_cut = size % MESSAGE > 0
     packet = f" in packet {given.last}" if given.last else ""
     first = f"refused at {size}: Truncated{packet}\n" if is_cut else f"ok {size // MESSAGE} messages {size} bytes\n"
-    second = f"capture: {given.cut} cut packets passed over\n" if given.cut else ""
+    second = f"capture: {given.cut} cut packet{'s' if given.cut > 1 else ''} passed over\n" if given.cut else ""
     second += "capture refused at {}: {}\n".format(*given.fault) if given.fault else ""
     return first.encode(), second.encode(), 1 if is_cut or second else 0
 

@@ -26,7 +26,7 @@ sys.path.insert(0, str(ROOT / "cases"))
 from read_cases import DATA, read_bytes, read_cases, read_parts  # noqa: E402
 
 REFUSED = re.compile(r"refused at (\d+): \S+ in message (\d+) at (\d+)(?: in packet \d+)?\n((?:  .*\n){3,4})?")
-CUT = re.compile(rb"^capture: \d+ cut packets passed over$", re.M)
+CUT = re.compile(rb"^capture: \d+ cut packets? passed over$", re.M)
 FAULT = re.compile(r"^capture refused at (\d+): ", re.M)
 # The files with bytes of messages, and the columns that have them.
 COLUMNS = {"messages": (2, 3), "faults": (2, 3), "streams": (2,), "printed": (2,)}

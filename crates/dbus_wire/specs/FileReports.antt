@@ -22,7 +22,7 @@ passes_cut (Err error) = false
 
 -- how many packets were passed over
 abbrev pub cut_line : ℕ → List ℕ
-cut_line cut = if cut == 0 then [] else codes "capture: " ++ (decimal cut ++ codes " cut packets passed over\n")
+cut_line cut = if cut == 0 then [] else (if cut == 1 then codes "capture: 1 cut packet passed over\n" else codes "capture: " ++ (decimal cut ++ codes " cut packets passed over\n"))
 
 -- the place from the start of the file, and the reason
 abbrev pub fault_line : Option CaptureFault → List ℕ

@@ -74,5 +74,8 @@ fn cut_line(alloc: Global, cut: u64) -> Result<String, AllocError>
     if cut == 0 {
         return Ok(String::new(alloc));
     }
+    if cut == 1 {
+        return format!(in alloc; "capture: 1 cut packet passed over\n");
+    }
     format!(in alloc; "capture: {cut} cut packets passed over\n")
 }
