@@ -16,7 +16,7 @@ from sources import TYPES, all_items, all_types, cases, exports, methods
 PAGE = ROOT / "docs" / "API.md"
 
 # What a program names in its line of crates.txt. A call is listed under the first of them that has it.
-CALLERS = """dbus_c dbus_page dbus_value dbus_message dbus_compose dbus_body dbus_validate dbus_resync dbus_swap dbus_stream dbus_device dbus_capture dbus_pcap dbus_match dbus_rule_set dbus_calls dbus_names dbus_auth dbus_handshake_input
+CALLERS = """dbus_c dbus_page dbus_value dbus_message dbus_compose dbus_body dbus_validate dbus_resync dbus_swap dbus_stream dbus_device dbus_lines dbus_capture dbus_pcap dbus_match dbus_rule_set dbus_calls dbus_names dbus_auth dbus_handshake_input
     dbus_auth_lines dbus_count dbus_call_lines dbus_list dbus_show dbus_show_handshake dbus_show_view dbus_json dbus_explain dbus_types dbus_texts dbus_tool cli_run
     cli_options cli_report""".split()
 
@@ -31,7 +31,7 @@ HEADINGS = {
     "Make a message and encode it": "dbus_compose dbus_build dbus_encode dbus_body dbus_swap",
     "Values alone": "dbus_unmarshal dbus_marshal dbus_value_model",
     "Read and write streams": """dbus_stream/cutter.rt dbus_stream/message_reader.rt dbus_stream/raw_reader.rt dbus_stream/check_reader.rt
-        dbus_stream/writing.rt dbus_device dbus_capture/capture.rt dbus_capture dbus_pcap dbus_stream""",
+        dbus_stream/writing.rt dbus_device dbus_lines dbus_capture/capture.rt dbus_capture dbus_pcap dbus_stream""",
     "Match rules": "dbus_rule/parse.rt dbus_rule/to_text.rt dbus_match dbus_rule dbus_rule_set",
     "Calls and replies": "dbus_calls dbus_names dbus_call_lines",
     "The handshake": "dbus_auth/server_end.rt dbus_auth/client_end.rt dbus_auth dbus_handshake_input dbus_auth_lines",
