@@ -14,7 +14,9 @@ MESSAGE = bytes.fromhex("6c02010100000000010000000800000005017500010000 00")
 # A line without its CR LF.
 LINE = re.compile(rb"[\x01-\x09\x0b\x0c\x0e-\x7f]{0,16382}")
 # A word of what a server is made of.
-OF_SERVER = re.compile("guid=[0-9a-f]{32}|user=[0-9]+|anonymous=yes")
+OF_SERVER = re.compile("guid=[0-9a-f]{32}|user=[0-9]+|anonymous=yes|agrees=yes")
+# What ends a state: the server's GUID that a client has, and that both agreed.
+KNOWN = re.compile("( [0-9a-f]{32})?( agreed)?$")
 # Bytes that are as many are only split near their ends.
 LONG = 1000
 # The settings that say in which pieces bytes are handed over: in one; byte by byte; and so that an empty piece comes after each byte.
@@ -85,7 +87,8 @@ def settings_of(column):
     """The settings that say an end."""
     side, *words = column.split(" ")
     if side == "client":
-        return f"mechanisms={','.join(map(mechanism_of, words))}" if words else ""
+        mechanisms = [mechanism_of(it) for it in words if it != "asks=yes"]
+        return words_of(f"mechanisms={','.join(mechanisms)}" if mechanisms else "", "asks=yes" if "asks=yes" in words else "")
     assert side == "server" and all(map(OF_SERVER.fullmatch, words)), column
     return words_of(*words, "" if "guid=" in column else f"guid={GUID}")
 
@@ -108,18 +111,18 @@ def acts_of(side, sent, status):
 
 
 def standing(side, state):
-    """The status of an end or the state of a machine as it says it, in one word, and of a client with the server's GUID."""
-    state, _, guid = state.partition(" ") if state.startswith("begun") else (state, "", "")
-    word = "".join(map(str.capitalize, state.split(" ")))
-    return f"{word} {guid or 'none'}" if side == "client" else word
+    """The status of an end or the state of a machine as it says it, in one word, of a client with the server's GUID; and whether both agreed."""
+    guid, agreed = KNOWN.search(state).groups(default="")
+    word = "".join(map(str.capitalize, KNOWN.sub("", state, count=1).split(" ")))
+    return (f"{word}{guid or ' none'}" if side == "client" else word) + agreed
 
 
 def ask_dialogue(case, _):
     _, end, column, sent, takes, status, state = case
     side, data, settings = end.split(" ")[0], read_bytes(column), settings_of(end)
-    sent, guid = read_bytes(sent), state.removeprefix("begun") if state.startswith("begun") else ""
+    sent, known = read_bytes(sent), KNOWN.search(state)[0]
     about = words_of(f"{side}-end", hexed(data), settings)
-    did = f"{hexed(sent)} {standing(side, status + guid)}"
+    did = f"{hexed(sent)} {standing(side, status + known)}"
     each = "" if takes == "0" else takes.replace(" + ", " ")
     yield Question("in one piece", f"{about} taken=each", f"0 {did} {each}")
     # A line with a fault closes an end, and its machine does not hear of it.

@@ -76,6 +76,14 @@ class _Handshake:
         if step.status == Status.CLOSED:
             raise ConnectionError("the handshake failed")
 
+    @property
+    def agreed(self) -> bool:
+        """Whether both ends agreed to pass Unix file descriptors, once the handshake succeeded."""
+        with self._lock:
+            answer = library.dbus_wire_handshake_agreed(byref(self._handle))
+        _raise_if_failed(answer)
+        return answer == OK
+
     def close(self) -> None:
         """Frees the end. Once more does nothing; ValueError is raised by its other calls from then
         on."""
@@ -99,12 +107,13 @@ class Server(_Handshake):
 
     __slots__ = ()
 
-    def __init__(self, guid: str, user: int | None = None, *, anonymous: bool = False) -> None:
+    def __init__(self, guid: str, user: int | None = None, *, anonymous: bool = False, descriptors: bool = False) -> None:
         """Makes the end of a server of this GUID, which offers EXTERNAL if it has a user, and
-        ANONYMOUS, which lets everybody in, if `anonymous` is true. Raises ValueError if the GUID is
-        not 32 hexadecimal digits, and MemoryError."""
+        ANONYMOUS, which lets everybody in, if `anonymous` is true. If `descriptors` is true, it
+        agrees to pass Unix file descriptors, which is for Unix sockets. Raises ValueError if the
+        GUID is not 32 hexadecimal digits, and MemoryError."""
         handle, text = _library.Handshake(), text_of("guid", guid)
-        mechanisms = _mechanisms(0 if user is None else EXTERNAL_AS_USER, user, anonymous)
+        mechanisms = _mechanisms(0 if user is None else EXTERNAL_AS_USER, user, anonymous, descriptors)
         answer = library.dbus_wire_server_new(text, len(text), byref(mechanisms), byref(handle))
         _raise_if_failed(answer)
         if answer == REFUSED:
@@ -123,16 +132,17 @@ class Client(_Handshake):
 
     __slots__ = ()
 
-    def __init__(self, *, user: int | None = None, reported: bool = False, trace: Bytes | None = None) -> None:
+    def __init__(self, *, user: int | None = None, reported: bool = False, trace: Bytes | None = None, descriptors: bool = False) -> None:
         """Makes the end of a client that asks for EXTERNAL, as the user of this number or as the
         one that the transport reports to the server, and then for ANONYMOUS if there is a trace,
-        which may be empty. Raises ValueError if the trace has over 255 bytes or both kinds of
+        which may be empty. If `descriptors` is true, it asks to pass Unix file descriptors, which
+        is for Unix sockets. Raises ValueError if the trace has over 255 bytes or both kinds of
         EXTERNAL are asked for, and MemoryError."""
         if bool_of("reported", reported) and user is not None:
             raise ValueError("EXTERNAL is asked for either as a user or as the one that is reported")
         external = EXTERNAL_AS_REPORTED if reported else 0 if user is None else EXTERNAL_AS_USER
         handle, text = _library.Handshake(), as_bytes(b"" if trace is None else trace)
-        mechanisms = _mechanisms(external, user, trace is not None)
+        mechanisms = _mechanisms(external, user, trace is not None, descriptors)
         answer = library.dbus_wire_client_new(byref(mechanisms), text, len(text), byref(handle))
         _raise_if_failed(answer)
         if answer == REFUSED:
@@ -141,7 +151,7 @@ class Client(_Handshake):
 
     @property
     def guid(self) -> str | None:
-        """The server's GUID, as 32 hexadecimal digits in lower case, once the handshake succeeded;
+        """The server's GUID, as 32 hexadecimal digits in lower case, once it accepted the client;
         else None."""
         text = ctypes.create_string_buffer(GUID_LENGTH)
         with self._lock:
@@ -150,9 +160,9 @@ class Client(_Handshake):
         return text.raw.decode("ascii") if answer == OK else None
 
 
-def _mechanisms(external: int, user: int | None, anonymous: bool) -> _library.Mechanisms:
+def _mechanisms(external: int, user: int | None, anonymous: bool, descriptors: bool) -> _library.Mechanisms:
     number = 0 if user is None else uint32_of("user", user)
-    return _library.Mechanisms(external, number, int(bool_of("anonymous", anonymous)), 0)
+    return _library.Mechanisms(external, number, int(bool_of("anonymous", anonymous)), int(bool_of("descriptors", descriptors)))
 
 
 def _raise_if_failed(answer: int) -> None:

@@ -93,7 +93,7 @@ class RuleRefused(ctypes.Structure):
 
 
 class Mechanisms(ctypes.Structure):
-    _fields_ = [(name, c_uint32) for name in ("external", "user", "anonymous", "reserved")]
+    _fields_ = [(name, c_uint32) for name in ("external", "user", "anonymous", "descriptors")]
 
 
 class Handshake(ctypes.Structure):
@@ -156,6 +156,7 @@ _CALLS = {
     "client_new": (c_uint32, POINTER(Mechanisms), c_char_p, c_size_t, POINTER(Handshake)),
     "handshake_take": (c_uint32, POINTER(Handshake), c_char_p, c_size_t, c_char_p, c_size_t, POINTER(HandshakeStep)),
     "handshake_guid": (c_uint32, POINTER(Handshake), c_char_p, c_size_t),
+    "handshake_agreed": (c_uint32, POINTER(Handshake)),
     "handshake_free": (None, POINTER(Handshake)),
     "client_line": (c_uint32, c_char_p, c_size_t, POINTER(Line)),
     "server_line": (c_uint32, c_char_p, c_size_t, POINTER(Line)),

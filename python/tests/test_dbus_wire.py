@@ -479,15 +479,17 @@ class Handshakes(unittest.TestCase):
         given = dict(word.split("=", 1) if "=" in word else (word, "") for word in words)
         user = int(given.get("user") or given.get("external") or 0)
         if kind == "server":
-            return Server(given.get("guid", self.GUID), user if "user" in given else None, anonymous="anonymous" in given)
-        if [word.split("=")[0] for word in words] not in ([], ["external"], ["anonymous"], ["external", "anonymous"]):
+            user = user if "user" in given else None
+            return Server(given.get("guid", self.GUID), user, anonymous="anonymous" in given, descriptors="agrees" in given)
+        if [it for it in (word.split("=")[0] for word in words) if it != "asks"] not in ([], ["external"], ["anonymous"], ["external", "anonymous"]):
             return None
         trace = read_bytes(given["anonymous"]) if "anonymous" in given else None
-        return Client(user=user if given.get("external") else None, reported=given.get("external") == "", trace=trace)
+        user, reported = user if given.get("external") else None, given.get("external") == ""
+        return Client(user=user, reported=reported, trace=trace, descriptors="asks" in given)
 
     def test_each_case_of_an_end(self):
         tried = 0
-        for name, setup, received, sent, taken, status, _ in read_cases(CASES / "dialogues.txt"):
+        for name, setup, received, sent, taken, status, state in read_cases(CASES / "dialogues.txt"):
             with self.subTest(name):
                 end, rest = self.end_of(setup), read_bytes(received)
                 if end is None:
@@ -501,6 +503,7 @@ class Handshakes(unittest.TestCase):
                     counts += [step.count] if step.count else []
                 said = (reply, " + ".join(map(str, counts)) or "0", step.status.name.lower())
                 self.assertEqual(said, (read_bytes(sent), taken, status))
+                self.assertEqual(end.agreed, state.endswith(" agreed"))
         self.assertGreater(tried, 100)
 
     def shake(self, client, server, size):
@@ -559,12 +562,17 @@ class Handshakes(unittest.TestCase):
             ({"reported": True}, {"user": 7}, begun, [3, 2]),
             ({"user": 1000, "trace": b"t" * 255}, {"user": 7, "anonymous": True}, begun, [3, 2]),
             ({"trace": b""}, {"anonymous": True}, begun, [2, 1]),
+            ({"user": 7, "descriptors": True}, {"user": 7, "descriptors": True}, begun, [3, 2]),
+            ({"user": 7, "descriptors": True}, {"user": 7}, begun, [3, 2]),
+            ({"user": 7}, {"user": 7, "descriptors": True}, begun, [2, 1]),
         ):
             for size in (1, 5, 4096):
                 with self.subTest(asked, size=size), Client(**asked) as client, Server(self.GUID, **offered) as server:
                     self.assertIsNone(client.guid)
                     self.assertEqual(self.shake(client, server, size), (*ends, lines))
                     self.assertEqual(client.guid, self.GUID.lower())
+                    both = all("descriptors" in given for given in (asked, offered))
+                    self.assertEqual((client.agreed, server.agreed), (both, both))
                     self.assertEqual((client.take(b"l\1").count, server.take(b"l\1").count), (0, 0))
 
     def test_hands_are_shaken_over_a_socket(self):

@@ -87,6 +87,11 @@ impl Handshake {
         };
         Ok(Step { count: told.count as usize, reply: &self.room[..told.reply as usize], status })
     }
+
+    fn agreed(&mut self) -> bool {
+        // SAFETY: a reference, as `sys` says; only calls write `raw`.
+        unsafe { sys::dbus_wire_handshake_agreed(&mut self.raw) == sys::DBUS_WIRE_OK }
+    }
 }
 
 impl Drop for Handshake {
@@ -97,8 +102,8 @@ impl Drop for Handshake {
     }
 }
 
-fn mechanisms(external: u32, user: u32, anonymous: bool) -> sys::dbus_wire_mechanisms {
-    sys::dbus_wire_mechanisms { external, user, anonymous: anonymous.into(), reserved: 0 }
+fn mechanisms(external: u32, user: u32, anonymous: bool, descriptors: bool) -> sys::dbus_wire_mechanisms {
+    sys::dbus_wire_mechanisms { external, user, anonymous: anonymous.into(), descriptors: descriptors.into() }
 }
 
 /// A server's end of the handshake.
@@ -126,8 +131,27 @@ impl Server {
     /// **The user has to be the one that the transport reports**, as `SO_PEERCRED` of a Unix socket
     /// does, and not the one that is expected: a client that names no user is let in as that one.
     pub fn new(guid: &str, user: Option<u32>, anonymous: bool) -> Result<Self, HandshakeError> {
+        Self::made(guid, user, anonymous, false)
+    }
+
+    /// As [`Server::new`], and the server agrees to pass Unix file descriptors if the client asks
+    /// for it: for a transport that passes them, as a Unix socket does.
+    ///
+    /// ```
+    /// let mut server = dbus_wire::Server::with_descriptors("0123456789abcdef0123456789abcdef", Some(0), false)?;
+    /// server.take(b"\0AUTH EXTERNAL 30\r\n")?;
+    /// assert_eq!(server.take(b"NEGOTIATE_UNIX_FD\r\n")?.reply, b"AGREE_UNIX_FD\r\n");
+    /// server.take(b"BEGIN\r\n")?;
+    /// assert!(server.agreed());
+    /// # Ok::<(), Box<dyn std::error::Error>>(())
+    /// ```
+    pub fn with_descriptors(guid: &str, user: Option<u32>, anonymous: bool) -> Result<Self, HandshakeError> {
+        Self::made(guid, user, anonymous, true)
+    }
+
+    fn made(guid: &str, user: Option<u32>, anonymous: bool, descriptors: bool) -> Result<Self, HandshakeError> {
         let external = if user.is_some() { sys::DBUS_WIRE_EXTERNAL_AS_USER } else { 0 };
-        let mechanisms = mechanisms(external, user.unwrap_or(0), anonymous);
+        let mechanisms = mechanisms(external, user.unwrap_or(0), anonymous, descriptors);
         let mut made = Handshake::none();
         // SAFETY: a slice and references, as `sys` says, to what is no end yet.
         match unsafe { sys::dbus_wire_server_new(guid.as_ptr(), guid.len(), &mechanisms, &mut made.raw) } {
@@ -142,6 +166,11 @@ impl Server {
     /// same piece again.
     pub fn take(&mut self, piece: &[u8]) -> Result<Step<'_>, OutOfMemory> {
         self.0.take(piece)
+    }
+
+    /// Whether both ends agreed to pass Unix file descriptors, once the handshake succeeded.
+    pub fn agreed(&mut self) -> bool {
+        self.0.agreed()
     }
 }
 
@@ -173,12 +202,34 @@ impl Client {
     /// The end of a client that asks for EXTERNAL, if that is given, and then for ANONYMOUS, if its
     /// trace is given, which may be empty and has at most 255 bytes.
     pub fn new(external: Option<External>, trace: Option<&[u8]>) -> Result<Self, HandshakeError> {
+        Self::made(external, trace, false)
+    }
+
+    /// As [`Client::new`], and the client asks a server that accepts it to pass Unix file
+    /// descriptors: for a transport that passes them, as a Unix socket does.
+    ///
+    /// ```
+    /// use dbus_wire::{Client, External};
+    ///
+    /// let mut client = Client::with_descriptors(Some(External::AsUser(0)), None)?;
+    /// client.take(b"")?;
+    /// let step = client.take(b"OK 0123456789abcdef0123456789abcdef\r\n")?;
+    /// assert_eq!(step.reply, b"NEGOTIATE_UNIX_FD\r\n");
+    /// assert_eq!(client.take(b"ERROR\r\n")?.reply, b"BEGIN\r\n");
+    /// assert!(!client.agreed());
+    /// # Ok::<(), Box<dyn std::error::Error>>(())
+    /// ```
+    pub fn with_descriptors(external: Option<External>, trace: Option<&[u8]>) -> Result<Self, HandshakeError> {
+        Self::made(external, trace, true)
+    }
+
+    fn made(external: Option<External>, trace: Option<&[u8]>, descriptors: bool) -> Result<Self, HandshakeError> {
         let (external, user) = match external {
             None => (0, 0),
             Some(External::AsUser(user)) => (sys::DBUS_WIRE_EXTERNAL_AS_USER, user),
             Some(External::AsReported) => (sys::DBUS_WIRE_EXTERNAL_AS_REPORTED, 0),
         };
-        let mechanisms = mechanisms(external, user, trace.is_some());
+        let mechanisms = mechanisms(external, user, trace.is_some(), descriptors);
         let trace = trace.unwrap_or(&[]);
         let mut made = Handshake::none();
         // SAFETY: a slice and references, as `sys` says, to what is no end yet.
@@ -197,7 +248,12 @@ impl Client {
         self.0.take(piece)
     }
 
-    /// The server's GUID, as 32 hexadecimal digits in lower case, once the handshake succeeded.
+    /// Whether both ends agreed to pass Unix file descriptors, once the handshake succeeded.
+    pub fn agreed(&mut self) -> bool {
+        self.0.agreed()
+    }
+
+    /// The server's GUID, as 32 hexadecimal digits in lower case, once it accepted the client.
     pub fn guid(&mut self) -> Option<String> {
         let mut text = [0; GUID_LENGTH];
         // SAFETY: a slice and a reference, as `sys` says; only calls write `raw`.

@@ -242,7 +242,7 @@ pub struct dbus_wire_mechanisms {
     pub external: u32,
     pub user: u32,
     pub anonymous: u32,
-    pub reserved: u32,
+    pub descriptors: u32,
 }
 
 #[repr(C)]
@@ -456,6 +456,7 @@ extern "C" {
         out: *mut dbus_wire_handshake_step,
     ) -> u32;
     pub fn dbus_wire_handshake_guid(handshake: *mut dbus_wire_handshake, out: *mut u8, room: usize) -> u32;
+    pub fn dbus_wire_handshake_agreed(handshake: *mut dbus_wire_handshake) -> u32;
     pub fn dbus_wire_handshake_free(handshake: *mut dbus_wire_handshake);
     pub fn dbus_wire_client_line(bytes: *const u8, length: usize, out: *mut dbus_wire_line) -> u32;
     pub fn dbus_wire_server_line(bytes: *const u8, length: usize, out: *mut dbus_wire_line) -> u32;

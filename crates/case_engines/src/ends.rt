@@ -4,9 +4,9 @@ ghost use Rattle.std.specs.Prelude.{◌≡◌, true};
 ghost use Rattle.dbus_auth.specs.EndViews.{client_end_state};
 
 use crate::pieces::{Pieces, hand_over};
-use crate::setups::{mechanisms_of, server_of};
+use crate::setups::{client_of, server_of};
 use case_questions::{Engine, Memory, Question, Reply, bytes_of, say_places, split};
-use dbus_auth::{Client, ClientEnd, EndStep, ServerEnd, Status};
+use dbus_auth::{ClientEnd, EndStep, ServerEnd, Status};
 use dbus_handshake_input::Side;
 use std::alloc::{AllocError, Allocator, Global};
 
@@ -52,8 +52,7 @@ fn end_of<A: Allocator + Copy>(
         let end = ServerEnd::new(memory.heap, server_of(memory.spare, question)?);
         return Some((End::Server(end), Vec::new(memory.heap)));
     }
-    let client = Client::new(mechanisms_of(memory.spare, question)?).ok()?;
-    let mut end = ClientEnd::new(memory.heap, client);
+    let mut end = ClientEnd::new(memory.heap, client_of(memory.spare, question)?);
     let sent = match end.start() {
         Ok(sent) => sent,
         Err(AllocError) => end.start().ok()?,
@@ -102,13 +101,20 @@ impl<A: Allocator + Copy> Led<A> {
         hand_over(self, question, under_way, 0);
     }
 
-    // Adds what it sent, its status, the GUID that a client has; and with `taken=each` how many
-    // bytes each call took, with `taken=all` all calls.
+    // Adds what it sent, its status, the GUID that a client has, and whether both agreed; and with
+    // `taken=each` how many bytes each call took, with `taken=all` all calls.
     fn say(&self, reply: &mut Reply, question: Question<'_>) {
         reply.bytes(&self.sent);
         reply.variant(&self.status);
-        if let End::Client(client) = &self.end {
-            reply.found(client.end.guid());
+        let agreed = match &self.end {
+            End::Server(end) => end.agreed(),
+            End::Client(client) => {
+                reply.found(client.end.guid());
+                client.end.agreed()
+            }
+        };
+        if agreed {
+            reply.word("agreed");
         }
         match question.setting("taken") {
             Some("each") => reply.word(self.takes.line()),

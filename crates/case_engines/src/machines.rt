@@ -4,7 +4,7 @@ ghost use Rattle.std.specs.Prelude.{◌≡◌};
 ghost use Rattle.dbus_auth.specs.ClientViews.{client_machine};
 ghost use Rattle.dbus_auth.specs.declared.states.ClientState.TheVariants as now;
 
-use crate::setups::{mechanisms_of, server_of};
+use crate::setups::{client_of, server_of};
 use case_questions::{Memory, Question, Reply, bytes_of};
 use dbus_auth::{Client, ClientAct, ClientState, Server, ServerAct, ServerState};
 use dbus_auth_lines::{client_text, read_client, read_server, server_text};
@@ -60,6 +60,7 @@ impl<A: Allocator + Copy> Machine<A> for Client<A> {
             ClientState::Fresh | ClientState::Begun | ClientState::Closed => return Ok(()),
             ClientState::WaitingForData
             | ClientState::WaitingForOk
+            | ClientState::WaitingForAgree
             | ClientState::WaitingForReject => self.receive(memory.heap, line)?,
         };
         say_act(reply, memory.spare, &act);
@@ -88,7 +89,14 @@ fn hear_lines<A: Allocator + Copy, M: Machine<A>>(
     }
 }
 
-// What a server does on lines, and its state then.
+// Adds whether both ends agreed to pass descriptors, if they did.
+fn say_agreed(reply: &mut Reply, agreed: bool) {
+    if agreed {
+        reply.word("agreed");
+    }
+}
+
+// What a server does on lines, its state then, and whether it agreed.
 fn say_server<A: Allocator + Copy>(
     reply: &mut Reply,
     memory: Memory<A>,
@@ -97,10 +105,11 @@ fn say_server<A: Allocator + Copy>(
 ) {
     hear_lines(reply, memory, question, server);
     reply.variant(&server.state());
+    say_agreed(reply, server.agreed());
 }
 
-// What a client that has not started does as it starts and on lines, its state then, and the GUID
-// that it has. A call that was refused memory is made again.
+// What a client that has not started does as it starts and on lines, its state then, the GUID that
+// it has, and whether it agreed. A call that was refused memory is made again.
 fn say_client<A: Allocator + Copy>(
     reply: &mut Reply,
     memory: Memory<A>,
@@ -117,11 +126,12 @@ fn say_client<A: Allocator + Copy>(
     hear_lines(reply, memory, question, client);
     reply.variant(&client.state());
     reply.found(client.guid());
+    say_agreed(reply, client.agreed());
     Some(())
 }
 
-/// Adds what the machine of a side does as it starts and on lines, its state then, and the GUID
-/// that a client has.
+/// Adds what the machine of a side does as it starts and on lines, its state then, the GUID that a
+/// client has, and whether both agreed.
 pub(crate) fn say_machine<A: Allocator + Copy>(
     reply: &mut Reply,
     memory: Memory<A>,
@@ -135,7 +145,7 @@ pub(crate) fn say_machine<A: Allocator + Copy>(
             Some(())
         }
         Side::Client => {
-            let mut client = Client::new(mechanisms_of(memory.spare, question)?).ok()?;
+            let mut client = client_of(memory.spare, question)?;
             say_client(reply, memory, question, &mut client)
         }
     }

@@ -3,78 +3,80 @@
 use Rattle.std.proofs.Common.{◌≡◌, ◌⊎◌, inl, inr, ℕ, ◌+◌, ◌*◌, ◌≤◌, Bool, true, false, List, [], ◌∷◌, ◌++◌, length, take, refl, sym, ◌∙◌, ap, arith, append_assoc}
 use Rattle.std.specs.List.{AllByRecursion}
 use Rattle.std.proofs.lemmas.List.{append-nil}
-use Rattle.dbus_auth.specs.Machines.{ServerMachine, ClientMechanism, IsServer, IsMechanism}
+use Rattle.dbus_auth.specs.Machines.{ServerMachine, ClientMachine, IsServer, IsMechanism}
 use Rattle.dbus_auth.specs.Ends.{ServerEndState, ClientEndState, client_turn, client_takes, client_starts}
-use Rattle.dbus_auth.specs.World.{untaken, silent, World, Event, Start, To_server, To_client, Server_writes, Client_writes, server_writes, client_writes, start_once, hand_client, happens, run, at_first, line_ends, Handshake}
+use Rattle.dbus_auth.specs.World.{untaken, silent, World, Event, Start, To_server, To_client, Server_writes, Client_writes, server_writes, client_writes, start_once, hand_client, happens, run, at_first, line_ends, last_lines, Handshake}
 use Rattle.dbus_auth.specs.declared.end_step.Status.{Status}
 use Rattle.dbus_auth.specs.declared.end_step.Status.TheVariants as status
 use Rattle.dbus_auth.specs.declared.states.ServerState.TheVariants as at
 use Rattle.dbus_auth.proofs.Sides.{Carries, is_done}
-use Rattle.dbus_auth.proofs.Stages.{both_talk, ClientBegan, ServerBegan, Exchange, asked, gave_data, rejected, accepted, wants_data, confirming, both, Stage, fresh, speaks, began, over, start_same, server_mute, client_mute, client_mute_closed, to_client_of}
-use Rattle.dbus_auth.proofs.Steps.{to_server, to_client, first_stage, fresh-start, fresh-to_server, fresh-to_client, began-to_server, began-to_client, began-server_writes, began-client_writes, over-to_server, over-to_client}
+use Rattle.dbus_auth.proofs.Stages.{both_talk, ClientBegan, ServerBegan, Exchange, asked, gave_data, rejected, accepted, wants_data, asks_descriptors, answers_ask, agree, confirming, both, Stage, fresh, speaks, began, over, start_same, server_mute, client_mute, client_mute_closed, to_client_of}
+use Rattle.dbus_auth.proofs.Steps.{one_line, to_server, to_client, first_stage, fresh-start, fresh-to_server, fresh-to_client, began-to_server, began-to_client, began-server_writes, began-client_writes, over-to_server, over-to_client}
 
 -- ---- what the stages say of the server and of lines
 
-record Speaking (all : List ClientMechanism) (w : World) : Type 0 where
+record Speaking (made : ClientMachine) (w : World) : Type 0 where
   server : w.server.status ≡ status.Talking
   client : w.client.status ≡ status.Talking
   started : w.client.started ≡ true
-  lines : line_ends w.client_said ≤ 2 * length all + 1
+  lines : line_ends w.client_said ≤ 2 * length made.left + last_lines made
 
-speaking : {s : ServerMachine} {all : List ClientMechanism} {w : World} → Exchange s all w → Speaking all w
-speaking (asked z m left hm hl b a) = let t = both_talk a in record { server = t.0; client = t.1; started = t.3; lines = omega arith }
-speaking (gave_data left hl b a) = let t = both_talk a in record { server = t.0; client = t.1; started = t.3; lines = omega arith }
-speaking (rejected st left aw hl b a) = let t = both_talk a in record { server = t.1; client = t.0; started = t.2; lines = omega arith }
-speaking (accepted st left aw b a) = let t = both_talk a in record { server = t.1; client = t.0; started = t.2; lines = omega arith }
-speaking (wants_data left hl b a) = let t = both_talk a in record { server = t.1; client = t.0; started = t.2; lines = omega arith }
+speaking : {s : ServerMachine} {made : ClientMachine} {w : World} → Exchange s made w → Speaking made w
+speaking {made = made} (asked z m left hm hl b a) = let t = both_talk a in record { server = t.0; client = t.1; started = t.3; lines = omega (arith, b, one_line made) }
+speaking {made = made} (gave_data left hl b a) = let t = both_talk a in record { server = t.0; client = t.1; started = t.3; lines = omega (arith, b, one_line made) }
+speaking {made = made} (rejected st left aw hl b a) = let t = both_talk a in record { server = t.1; client = t.0; started = t.2; lines = omega (arith, b, one_line made) }
+speaking {made = made} (accepted st left aw b a) = let t = both_talk a in record { server = t.1; client = t.0; started = t.2; lines = omega (arith, b, one_line made) }
+speaking {made = made} (wants_data left hl b a) = let t = both_talk a in record { server = t.1; client = t.0; started = t.2; lines = omega (arith, b, one_line made) }
+speaking {made = made} (asks_descriptors left d b a) = let t = both_talk a in record { server = t.0; client = t.1; started = t.3; lines = omega (arith, b, one_line made) }
+speaking {made = made} (answers_ask left d b a) = let t = both_talk a in record { server = t.1; client = t.0; started = t.2; lines = omega (arith, b, one_line made) }
 
-record ServerSees (s : ServerMachine) (w : World) : Type 0 where
-  server : ServerBegan w.server w.to_server w.client_wrote
-  client : ClientBegan w.client w.to_client w.server_wrote s.guid
+record ServerSees (s : ServerMachine) (made : ClientMachine) (w : World) : Type 0 where
+  server : ServerBegan w.server w.to_server w.client_wrote (agree s made)
+  client : ClientBegan w.client w.to_client w.server_wrote s.guid (agree s made)
 
-server_sees : (s : ServerMachine) (all : List ClientMechanism) (w : World) → Stage s all w → (w.server.status ≡ status.Talking) ⊎ ServerSees s w
-server_sees s all w (fresh f) = inl (ap (λ (e : ServerEndState). e.status) f.server.end)
-server_sees s all w (speaks x u) = inl (speaking x).server
-server_sees s all w (began b c (confirming side nil)) = inl side.talking
-server_sees s all w (began b c (both a)) = inr (record { server = a; client = c })
-server_sees s all w (over z b q c u) = inl (ap (λ (e : ServerEndState). e.status) q.end)
+server_sees : (s : ServerMachine) (made : ClientMachine) (w : World) → Stage s made w → (w.server.status ≡ status.Talking) ⊎ ServerSees s made w
+server_sees s made w (fresh f) = inl (ap (λ (e : ServerEndState). e.status) f.server.end)
+server_sees s made w (speaks x u) = inl (speaking x).server
+server_sees s made w (began b c (confirming side nil)) = inl side.talking
+server_sees s made w (began b c (both a)) = inr (record { server = a; client = c })
+server_sees s made w (over z b q c u) = inl (ap (λ (e : ServerEndState). e.status) q.end)
 
-few_lines : (s : ServerMachine) (all : List ClientMechanism) (w : World) → Stage s all w → line_ends w.client_said ≤ 2 * length all + 1
-few_lines s all w (fresh f) = omega (arith, ap line_ends f.said)
-few_lines s all w (speaks x u) = (speaking x).lines
-few_lines s all w (began b c x) = b
-few_lines s all w (over z b q c u) = b
+few_lines : (s : ServerMachine) (made : ClientMachine) (w : World) → Stage s made w → line_ends w.client_said ≤ 2 * length made.left + last_lines made
+few_lines s made w (fresh f) = omega (arith, ap line_ends f.said)
+few_lines s made w (speaks x u) = (speaking x).lines
+few_lines s made w (began b c x) = b
+few_lines s made w (over z b q c u) = b
 
 -- ---- each event keeps it
 
-server_writes-keeps : (s : ServerMachine) (all : List ClientMechanism) (w : World) (bytes : List ℕ) → Stage s all w → (w.server.status ≡ status.Talking) ⊎ ServerSees s w → Stage s all (happens w (Server_writes bytes))
-server_writes-keeps s all w bytes st (inl talking) = rw (server_mute w bytes talking) st
-server_writes-keeps s all w bytes st (inr sees) = began-server_writes s all w bytes (few_lines s all w st) sees.client sees.server
+server_writes-keeps : (s : ServerMachine) (made : ClientMachine) (w : World) (bytes : List ℕ) → Stage s made w → (w.server.status ≡ status.Talking) ⊎ ServerSees s made w → Stage s made (happens w (Server_writes bytes))
+server_writes-keeps s made w bytes st (inl talking) = rw (server_mute w bytes talking) st
+server_writes-keeps s made w bytes st (inr sees) = began-server_writes s made w bytes (few_lines s made w st) sees.client sees.server
 
-keeps : (s : ServerMachine) (all : List ClientMechanism) → IsServer s → AllByRecursion IsMechanism all → (w : World) (e : Event) → Stage s all w → Stage s all (happens w e)
-keeps s all hs ha w Start (fresh f) = rw (fresh-start s all w f) (first_stage s all w all refl ha f.client.end f)
-keeps s all hs ha w Start (speaks x u) = rw (start_same w (speaking x).started) (speaks x u)
-keeps s all hs ha w Start (began b c x) = rw (start_same w c.end.started) (began b c x)
-keeps s all hs ha w Start (over z b q c u) = rw (start_same w c.started) (over z b q c u)
-keeps s all hs ha w (To_server n) (fresh f) = fresh-to_server s all w n f
-keeps s all hs ha w (To_server n) (speaks x u) = speaks (to_server s all hs w n x) u
-keeps s all hs ha w (To_server n) (began b c x) = began-to_server s all w n b c x
-keeps s all hs ha w (To_server n) (over z b q c u) = over-to_server s all w n z b q c u
-keeps s all hs ha w (To_client n) (fresh f) = rw (fresh-to_client s all w n f) (fresh f)
-keeps s all hs ha w (To_client n) (speaks x u) = rw (to_client_of w n (speaking x).started) (to_client s all hs w n x u)
-keeps s all hs ha w (To_client n) (began b c x) = began-to_client s all w n b c x
-keeps s all hs ha w (To_client n) (over z b q c u) = over-to_client s all w n z b q c u
-keeps s all hs ha w (Server_writes x) st = server_writes-keeps s all w x st (server_sees s all w st)
-keeps s all hs ha w (Client_writes x) (fresh f) = rw (client_mute w x (ap (λ (e : ClientEndState). e.status) f.client.end)) (fresh f)
-keeps s all hs ha w (Client_writes x) (speaks y u) = rw (client_mute w x (speaking y).client) (speaks y u)
-keeps s all hs ha w (Client_writes x) (began b c y) = began-client_writes s all w x b c y
-keeps s all hs ha w (Client_writes x) (over z b q c u) = rw (client_mute_closed w x c.status) (over z b q c u)
+keeps : (s : ServerMachine) (made : ClientMachine) → IsServer s → AllByRecursion IsMechanism made.left → (w : World) (e : Event) → Stage s made w → Stage s made (happens w e)
+keeps s made hs ha w Start (fresh f) = rw (fresh-start s made w f) (first_stage s made w made.left refl ha f.client.end f)
+keeps s made hs ha w Start (speaks x u) = rw (start_same w (speaking x).started) (speaks x u)
+keeps s made hs ha w Start (began b c x) = rw (start_same w c.end.started) (began b c x)
+keeps s made hs ha w Start (over z b q c u) = rw (start_same w c.started) (over z b q c u)
+keeps s made hs ha w (To_server n) (fresh f) = fresh-to_server s made w n f
+keeps s made hs ha w (To_server n) (speaks x u) = speaks (to_server s made hs w n x) u
+keeps s made hs ha w (To_server n) (began b c x) = began-to_server s made w n b c x
+keeps s made hs ha w (To_server n) (over z b q c u) = over-to_server s made w n z b q c u
+keeps s made hs ha w (To_client n) (fresh f) = rw (fresh-to_client s made w n f) (fresh f)
+keeps s made hs ha w (To_client n) (speaks x u) = rw (to_client_of w n (speaking x).started) (to_client s made hs w n x u)
+keeps s made hs ha w (To_client n) (began b c x) = began-to_client s made w n b c x
+keeps s made hs ha w (To_client n) (over z b q c u) = over-to_client s made w n z b q c u
+keeps s made hs ha w (Server_writes x) st = server_writes-keeps s made w x st (server_sees s made w st)
+keeps s made hs ha w (Client_writes x) (fresh f) = rw (client_mute w x (ap (λ (e : ClientEndState). e.status) f.client.end)) (fresh f)
+keeps s made hs ha w (Client_writes x) (speaks y u) = rw (client_mute w x (speaking y).client) (speaks y u)
+keeps s made hs ha w (Client_writes x) (began b c y) = began-client_writes s made w x b c y
+keeps s made hs ha w (Client_writes x) (over z b q c u) = rw (client_mute_closed w x c.status) (over z b q c u)
 
 silent_carries : Carries silent []
 silent_carries = record { left = refl; on_wire = record { within = omega arith } }
 
-at_first_is : (s : ServerMachine) (all : List ClientMechanism) → Stage s all (at_first s all)
-at_first_is s all = fresh (record {
+at_first_is : (s : ServerMachine) (made : ClientMachine) → Stage s made (at_first s made)
+at_first_is s made = fresh (record {
   server = record { end = refl; carries = silent_carries };
   client = record { end = refl; carries = silent_carries };
   said = refl;
@@ -90,11 +92,11 @@ record Ordered (w : World) : Type 0 where
 abbrev WroteLate : World → Type 0
 WroteLate w = (w.client_wrote ≡ []) ⊎ ((w.client.status ≡ status.Begun) × (w.client.started ≡ true))
 
-wrote_late : (s : ServerMachine) (all : List ClientMechanism) (w : World) → Stage s all w → WroteLate w
-wrote_late s all w (fresh f) = inl f.unsaid.client
-wrote_late s all w (speaks x u) = inl u.client
-wrote_late s all w (began b c x) = inr (c.end.status, c.end.started)
-wrote_late s all w (over z b q c u) = inl u.client
+wrote_late : (s : ServerMachine) (made : ClientMachine) (w : World) → Stage s made w → WroteLate w
+wrote_late s made w (fresh f) = inl f.unsaid.client
+wrote_late s made w (speaks x u) = inl u.client
+wrote_late s made w (began b c x) = inr (c.end.status, c.end.started)
+wrote_late s made w (over z b q c u) = inl u.client
 
 sends_first : (sent said wrote send : List ℕ) → sent ≡ said ++ wrote → wrote ≡ [] → sent ++ send ≡ (said ++ send) ++ wrote
 sends_first sent said wrote send e nil =
@@ -133,49 +135,52 @@ keeps_order w (To_client n) late h = ordered_takes w n h late w.client.started
 keeps_order w (Server_writes bytes) late h = ordered_server_writes w bytes h w.server.status
 keeps_order w (Client_writes bytes) late h = ordered_client_writes w bytes h w.client.status
 
-run_keeps : (s : ServerMachine) (all : List ClientMechanism) → IsServer s → AllByRecursion IsMechanism all → (es : List Event) (w : World) → Stage s all w → Ordered w → Stage s all (run es w) × Ordered (run es w)
-run_keeps s all hs ha [] w st o = (st, o)
-run_keeps s all hs ha (e ∷ es) w st o = run_keeps s all hs ha es (happens w e) (keeps s all hs ha w e st) (keeps_order w e (wrote_late s all w st) o)
+run_keeps : (s : ServerMachine) (made : ClientMachine) → IsServer s → AllByRecursion IsMechanism made.left → (es : List Event) (w : World) → Stage s made w → Ordered w → Stage s made (run es w) × Ordered (run es w)
+run_keeps s made hs ha [] w st o = (st, o)
+run_keeps s made hs ha (e ∷ es) w st o = run_keeps s made hs ha es (happens w e) (keeps s made hs ha w e st) (keeps_order w e (wrote_late s made w st) o)
 
 -- ---- what the stages say
 
-record ClientSees (s : ServerMachine) (w : World) : Type 0 where
-  client : ClientBegan w.client w.to_client w.server_wrote s.guid
+record ClientSees (s : ServerMachine) (made : ClientMachine) (w : World) : Type 0 where
+  client : ClientBegan w.client w.to_client w.server_wrote s.guid (agree s made)
   server : (w.server.machine.state ≡ at.WaitingForBegin) ⊎ (w.server.machine.state ≡ at.Begun)
+  agreed : w.server.machine.agreed ≡ agree s made
 
-client_sees : (s : ServerMachine) (all : List ClientMechanism) (w : World) → Stage s all w → ((w.client.status ≡ status.Talking) ⊎ (w.client.status ≡ status.Closed)) ⊎ ClientSees s w
-client_sees s all w (fresh f) = inl (inl (ap (λ (e : ClientEndState). e.status) f.client.end))
-client_sees s all w (speaks x u) = inl (inl (speaking x).client)
-client_sees s all w (began b c (confirming side nil)) = inr (record { client = c; server = inl (ap (λ (x : ServerMachine). x.state) side.is) })
-client_sees s all w (began b c (both a)) = inr (record { client = c; server = inr a.state_is })
-client_sees s all w (over z b q c u) = inl (inr c.status)
+client_sees : (s : ServerMachine) (made : ClientMachine) (w : World) → Stage s made w → ((w.client.status ≡ status.Talking) ⊎ (w.client.status ≡ status.Closed)) ⊎ ClientSees s made w
+client_sees s made w (fresh f) = inl (inl (ap (λ (e : ClientEndState). e.status) f.client.end))
+client_sees s made w (speaks x u) = inl (inl (speaking x).client)
+client_sees s made w (began b c (confirming side nil)) = inr (record { client = c; server = inl (ap (λ (x : ServerMachine). x.state) side.is); agreed = ap (λ (x : ServerMachine). x.agreed) side.is })
+client_sees s made w (began b c (both a)) = inr (record { client = c; server = inr a.state_is; agreed = a.agreed_is })
+client_sees s made w (over z b q c u) = inl (inr c.status)
 
-module _ (s : ServerMachine) (w : World) where
-  when_server : {A : Type 0} → (w.server.status ≡ status.Talking) ⊎ ServerSees s w → (ServerSees s w → A) → w.server.status ≡ status.Begun → A
+module _ (s : ServerMachine) (made : ClientMachine) (w : World) where
+  when_server : {A : Type 0} → (w.server.status ≡ status.Talking) ⊎ ServerSees s made w → (ServerSees s made w → A) → w.server.status ≡ status.Begun → A
   when_server (inl t) f h = absurd (let x : status.Talking ≡ status.Begun = sym t ∙ h in cc)
   when_server (inr b) f h = f b
 
-  when_client : {A : Type 0} → ((w.client.status ≡ status.Talking) ⊎ (w.client.status ≡ status.Closed)) ⊎ ClientSees s w → (ClientSees s w → A) → w.client.status ≡ status.Begun → A
+  when_client : {A : Type 0} → ((w.client.status ≡ status.Talking) ⊎ (w.client.status ≡ status.Closed)) ⊎ ClientSees s made w → (ClientSees s made w → A) → w.client.status ≡ status.Begun → A
   when_client (inl (inl t)) f h = absurd (let x : status.Talking ≡ status.Begun = sym t ∙ h in cc)
   when_client (inl (inr t)) f h = absurd (let x : status.Closed ≡ status.Begun = sym t ∙ h in cc)
   when_client (inr b) f h = f b
 
-concludes : (s : ServerMachine) (all : List ClientMechanism) (w : World) → Stage s all w → Ordered w → Handshake s all w
-concludes s all w st o =
-    let sv = server_sees s all w st in
-    let cl = client_sees s all w st in
+concludes : (s : ServerMachine) (made : ClientMachine) (w : World) → Stage s made w → Ordered w → Handshake s made w
+concludes s made w st o =
+    let sv = server_sees s made w st in
+    let cl = client_sees s made w st in
     record {
-      client_began = when_server s w sv (λ x. x.client.end.status);
-      same_guid = when_client s w cl (λ x. x.client.end.guid_is);
-      server_stands = when_client s w cl (λ x. x.server);
-      to_server = when_server s w sv (λ x. x.server.carries.left);
-      to_client = when_client s w cl (λ x. x.client.carries.left);
+      client_began = when_server s made w sv (λ x. x.client.end.status);
+      same_guid = when_client s made w cl (λ x. x.client.end.guid_is);
+      server_stands = when_client s made w cl (λ x. x.server);
+      same_agreed = when_client s made w cl (λ x. x.client.end.agreed_is ∙ sym x.agreed);
+      agreed = when_client s made w cl (λ x. x.agreed);
+      to_server = when_server s made w sv (λ x. x.server.carries.left);
+      to_client = when_client s made w cl (λ x. x.client.carries.left);
       order = o.order;
-      lines = few_lines s all w st;
+      lines = few_lines s made w st;
     }
 
 -- the law
-pub handshake : (s : ServerMachine) (all : List ClientMechanism) (es : List Event) → IsServer s → AllByRecursion IsMechanism all → Handshake s all (run es (at_first s all))
-handshake s all es hs ha =
-    let kept = run_keeps s all hs ha es (at_first s all) (at_first_is s all) (record { order = refl }) in
-    concludes s all (run es (at_first s all)) kept.0 kept.1
+pub handshake : (s : ServerMachine) (made : ClientMachine) (es : List Event) → IsServer s → AllByRecursion IsMechanism made.left → Handshake s made (run es (at_first s made))
+handshake s made es hs ha =
+    let kept = run_keeps s made hs ha es (at_first s made) (at_first_is s made) (record { order = refl }) in
+    concludes s made (run es (at_first s made)) kept.0 kept.1

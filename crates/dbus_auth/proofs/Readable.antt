@@ -15,6 +15,7 @@ use Rattle.dbus_auth.specs.Machines.{ServerMachine, ClientMechanism, External, A
 use Rattle.dbus_auth.specs.declared.states.ServerState.TheVariants as at
 use Rattle.dbus_auth.specs.declared.states.ClientState.TheVariants as now
 use Rattle.dbus_auth_lines.specs.WrittenLines.{HasClientBytes, is_word, is_client_spelled}
+use Rattle.dbus_auth.proofs.Stages.{answer_to_ask}
 use Rattle.dbus_auth_lines.proofs.PrintedWords.{length-hex_word}
 use Rattle.dbus_auth_lines.proofs.RoundTrips.{client_is_line, server_is_line, client_reads, server_reads}
 
@@ -62,6 +63,20 @@ data_is_read = client_reads (client.DataOf []) no_bytes refl
 pub begin_is_read : client_meaning (codes "BEGIN") ≡ client.Begin
 begin_is_read = client_reads client.Begin tt refl
 
+pub negotiate_is_line : IsLine (codes "NEGOTIATE_UNIX_FD")
+negotiate_is_line = client_is_line client.Negotiate tt refl (lit≤ tt)
+
+pub negotiate_is_read : client_meaning (codes "NEGOTIATE_UNIX_FD") ≡ client.Negotiate
+negotiate_is_read = client_reads client.Negotiate tt refl
+
+pub answer_is_line : (agrees : Bool) → IsLine (server_line (answer_to_ask agrees))
+answer_is_line true = server_is_line server.Agree tt refl (lit≤ tt)
+answer_is_line false = server_is_line (server.Error []) tt refl (lit≤ tt)
+
+pub answer_is_read : (agrees : Bool) → server_meaning (server_line (answer_to_ask agrees)) ≡ answer_to_ask agrees
+answer_is_read true = server_reads server.Agree tt refl
+answer_is_read false = server_reads (server.Error []) tt refl
+
 pub server_data_is_read : server_meaning (codes "DATA") ≡ server.DataOf []
 server_data_is_read = server_reads (server.DataOf []) no_bytes refl
 
@@ -98,13 +113,13 @@ decimal_is_some : (n : ℕ) → n < 2 ^ 32 → is_empty (decimal n) ≡ true →
 decimal_is_some n h e = omega (arith, empty_is_nil (decimal n) e, decimal_nonempty n (small n h))
 
 abbrev pub AuthStep : ServerMachine → ClientMechanism → Type 0
-AuthStep s m = (server_step (record s { state = at.WaitingForAuth }) (auth_line m) ≡ rejects s)
-    ⊎ ((server_step (record s { state = at.WaitingForAuth }) (auth_line m) ≡ accepts s)
-    ⊎ ((server_step (record s { state = at.WaitingForAuth }) (auth_line m) ≡ replies (server.DataOf []) at.WaitingForData) × (waits_in m ≡ now.WaitingForData)))
+AuthStep s m = (server_step (record s { state = at.WaitingForAuth; agreed = false }) (auth_line m) ≡ rejects s)
+    ⊎ ((server_step (record s { state = at.WaitingForAuth; agreed = false }) (auth_line m) ≡ accepts s)
+    ⊎ ((server_step (record s { state = at.WaitingForAuth; agreed = false }) (auth_line m) ≡ replies s (server.DataOf []) at.WaitingForData) × (waits_in m ≡ now.WaitingForData)))
 
 -- the step is one of three, and asks for data only where the test p holds
-by_test : (s : ServerMachine) (m : ClientMechanism) (p : Bool) (step : ServerStep) → step ≡ server_step (record s { state = at.WaitingForAuth }) (auth_line m)
-    → (step ≡ rejects s) ⊎ ((step ≡ accepts s) ⊎ ((step ≡ replies (server.DataOf []) at.WaitingForData) × (p ≡ true))) → (p ≡ true → waits_in m ≡ now.WaitingForData) → AuthStep s m
+by_test : (s : ServerMachine) (m : ClientMechanism) (p : Bool) (step : ServerStep) → step ≡ server_step (record s { state = at.WaitingForAuth; agreed = false }) (auth_line m)
+    → (step ≡ rejects s) ⊎ ((step ≡ accepts s) ⊎ ((step ≡ replies s (server.DataOf []) at.WaitingForData) × (p ≡ true))) → (p ≡ true → waits_in m ≡ now.WaitingForData) → AuthStep s m
 by_test s m p step is (inl x) w = inl (sym is ∙ x)
 by_test s m p step is (inr (inl x)) w = inr (inl (sym is ∙ x))
 by_test s m p step is (inr (inr x)) w = inr (inr (sym is ∙ x.0, w x.1))
@@ -113,16 +128,16 @@ pub auth_step : (s : ServerMachine) (m : ClientMechanism) → IsMechanism m → 
 unfolding server_step
 auth_step s (External None) h =
     let p = offers_external s.user && true in
-    by_test s (External None) p (server_step (record s { state = at.WaitingForAuth }) (auth_line (External None))) refl
-    (three_ways p (is_user s.user []) false (replies (server.DataOf []) at.WaitingForData) (accepts s) (rejects s)) (λ _. refl)
+    by_test s (External None) p (server_step (record s { state = at.WaitingForAuth; agreed = false }) (auth_line (External None))) refl
+    (three_ways p (is_user s.user []) false (replies s (server.DataOf []) at.WaitingForData) (accepts s) (rejects s)) (λ _. refl)
 auth_step s (External (Some n)) h =
     let p = offers_external s.user && is_empty (decimal n) in
-    by_test s (External (Some n)) p (server_step (record s { state = at.WaitingForAuth }) (auth_line (External (Some n)))) refl
-    (three_ways p (is_user s.user (decimal n)) false (replies (server.DataOf []) at.WaitingForData) (accepts s) (rejects s)) (λ e. absurd (decimal_is_some n h (and_parts (offers_external s.user) (is_empty (decimal n)) e).1))
+    by_test s (External (Some n)) p (server_step (record s { state = at.WaitingForAuth; agreed = false }) (auth_line (External (Some n)))) refl
+    (three_ways p (is_user s.user (decimal n)) false (replies s (server.DataOf []) at.WaitingForData) (accepts s) (rejects s)) (λ e. absurd (decimal_is_some n h (and_parts (offers_external s.user) (is_empty (decimal n)) e).1))
 auth_step s (Anonymous trace) h =
-    by_test s (Anonymous trace) false (server_step (record s { state = at.WaitingForAuth }) (auth_line (Anonymous trace))) refl
-    (three_ways false false s.anonymous (replies (server.DataOf []) at.WaitingForData) (accepts s) (rejects s)) (λ e. absurd (false≢true e))
+    by_test s (Anonymous trace) false (server_step (record s { state = at.WaitingForAuth; agreed = false }) (auth_line (Anonymous trace))) refl
+    (three_ways false false s.anonymous (replies s (server.DataOf []) at.WaitingForData) (accepts s) (rejects s)) (λ e. absurd (false≢true e))
 
-pub data_step : (s : ServerMachine) → server_step (record s { state = at.WaitingForData }) (client.DataOf []) ≡ accepts s
+pub data_step : (s : ServerMachine) → server_step (record s { state = at.WaitingForData; agreed = false }) (client.DataOf []) ≡ accepts s
 unfolding server_step
 data_step s = refl

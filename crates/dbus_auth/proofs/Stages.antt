@@ -1,5 +1,5 @@
 -- The stages of a handshake: where the two ends and the bytes between them stand.
-use Rattle.std.proofs.Common.{◌≡◌, ◌⊎◌, ℕ, ◌+◌, ◌*◌, ◌≤◌, ◌==◌, Bool, true, false, cond, List, [], ◌∷◌, ◌++◌, length, take, Some, None, refl, sym, ◌∙◌, ap, arith}
+use Rattle.std.proofs.Common.{◌≡◌, ◌⊎◌, ℕ, ◌+◌, ◌*◌, ◌≤◌, ◌==◌, ◌&&◌, Bool, true, false, cond, List, [], ◌∷◌, ◌++◌, length, take, Some, None, refl, sym, ◌∙◌, ap, arith}
 use Rattle.std.specs.Prelude.{codes}
 use Rattle.std.specs.List.{AllByRecursion}
 use Rattle.std.proofs.lemmas.List.{append-nil}
@@ -11,9 +11,9 @@ use Rattle.dbus_auth_lines.specs.ServerCommands.{ServerCommand}
 use Rattle.dbus_auth_lines.specs.ServerCommands as server
 use Rattle.dbus_auth_lines.specs.Lines.{ended, client_line, server_line}
 use Rattle.dbus_auth_lines.specs.Cut.{IsPlain, IsLine, cut}
-use Rattle.dbus_auth.specs.Machines.{ServerMachine, ClientMachine, ClientMechanism, auth_line, waits_in, mechanisms, IsMechanism, ServerStep}
+use Rattle.dbus_auth.specs.Machines.{ServerMachine, ClientMachine, ClientMechanism, auth_line, waits_in, mechanisms, IsMechanism, ServerStep, unaccepted}
 use Rattle.dbus_auth.specs.Ends.{EndState, ServerEndState, ClientEndState, EndOutcome, Turn, after_turn, takes, server_takes, client_takes, nothing, closes, cuts, first, talks, takes_at, does, server_sends}
-use Rattle.dbus_auth.specs.World.{Wire, untaken, sending, taking, World, Start, To_client, Server_writes, Client_writes, client_did, server_writes, client_writes, start_once, hand_client, happens, line_ends}
+use Rattle.dbus_auth.specs.World.{Wire, untaken, sending, taking, World, Start, To_client, Server_writes, Client_writes, client_did, server_writes, client_writes, start_once, hand_client, happens, line_ends, last_lines}
 use Rattle.dbus_auth.specs.declared.end_step.Status.TheVariants as status
 use Rattle.dbus_auth.specs.declared.states.ServerState.{ServerState}
 use Rattle.dbus_auth.specs.declared.states.ServerState.TheVariants as at
@@ -88,11 +88,31 @@ answers_by {M = M} q t reply next is = record {
 
 -- ---- the stages of a handshake
 
+-- a server that has not agreed, and one that waits for BEGIN and has agreed or not
 abbrev pub at_state : ServerMachine → ServerState → ServerMachine
-at_state s state = record s { state = state }
+at_state s state = record s { state = state; agreed = false }
 
-abbrev pub talks_as : ClientState → List ClientMechanism → ClientMachine
-talks_as state left = record { state = state; left = left; guid = None }
+abbrev pub let_in : ServerMachine → Bool → ServerMachine
+let_in s agreed = record s { state = at.WaitingForBegin; agreed = agreed }
+
+-- a client that no server has accepted, and one that asked for descriptors after that
+abbrev pub talks_as : ClientMachine → ClientState → List ClientMechanism → ClientMachine
+talks_as made state left = unaccepted made.descriptors state left
+
+abbrev pub wants_agree : ClientMachine → List ClientMechanism → List ℕ → ClientMachine
+wants_agree made left guid = record { state = now.WaitingForAgree; left = left; descriptors = made.descriptors; guid = Some guid; agreed = false }
+
+abbrev pub has_begun : ClientMachine → List ClientMechanism → List ℕ → Bool → ClientMachine
+has_begun made left guid agreed = record { state = now.Begun; left = left; descriptors = made.descriptors; guid = Some guid; agreed = agreed }
+
+-- what a server that passes descriptors, or passes none, answers to NEGOTIATE_UNIX_FD
+abbrev pub answer_to_ask : Bool → ServerCommand
+answer_to_ask true = server.Agree
+answer_to_ask false = server.Error []
+
+-- what both know at the end
+abbrev pub agree : ServerMachine → ClientMachine → Bool
+agree s made = s.descriptors && made.descriptors
 
 -- neither caller may send yet
 pub record Unsaid (client_wrote server_wrote : List ℕ) : Type 0 where
@@ -108,61 +128,67 @@ ToClient w c line s = OnWay w.client w.to_client c true (server_line line) w.ser
 abbrev pub IsAwaiting : ClientState → Type 0
 IsAwaiting state = (state ≡ now.WaitingForOk) ⊎ (state ≡ now.WaitingForData)
 
--- a line is on its way. s: the server as it was made; all: the client's mechanisms
-pub data Exchange (s : ServerMachine) (all : List ClientMechanism) (w : World) : Type 0 where
+-- a line is on its way. s, made: the server and the client as they were made
+pub data Exchange (s : ServerMachine) (made : ClientMachine) (w : World) : Type 0 where
   asked : (z : Bool) (m : ClientMechanism) (left : List ClientMechanism) → IsMechanism m → AllByRecursion IsMechanism left
-      → line_ends w.client_said + 2 * length left + 1 ≤ 2 * length all
-      → ToServer w (at_state s at.WaitingForAuth) z (auth_line m) (talks_as (waits_in m) left) → Exchange s all w
+      → line_ends w.client_said + 2 * length left + 1 ≤ 2 * length made.left
+      → ToServer w (at_state s at.WaitingForAuth) z (auth_line m) (talks_as made (waits_in m) left) → Exchange s made w
   gave_data : (left : List ClientMechanism) → AllByRecursion IsMechanism left
-      → line_ends w.client_said + 2 * length left ≤ 2 * length all
-      → ToServer w (at_state s at.WaitingForData) true (client.DataOf []) (talks_as now.WaitingForOk left) → Exchange s all w
+      → line_ends w.client_said + 2 * length left ≤ 2 * length made.left
+      → ToServer w (at_state s at.WaitingForData) true (client.DataOf []) (talks_as made now.WaitingForOk left) → Exchange s made w
   rejected : (state : ClientState) (left : List ClientMechanism) → IsAwaiting state → AllByRecursion IsMechanism left
-      → line_ends w.client_said + 2 * length left ≤ 2 * length all
-      → ToClient w (talks_as state left) (server.Rejected (mechanisms s)) (at_state s at.WaitingForAuth) → Exchange s all w
+      → line_ends w.client_said + 2 * length left ≤ 2 * length made.left
+      → ToClient w (talks_as made state left) (server.Rejected (mechanisms s)) (at_state s at.WaitingForAuth) → Exchange s made w
   accepted : (state : ClientState) (left : List ClientMechanism) → IsAwaiting state
-      → line_ends w.client_said ≤ 2 * length all
-      → ToClient w (talks_as state left) (server.Accepted s.guid) (at_state s at.WaitingForBegin) → Exchange s all w
+      → line_ends w.client_said ≤ 2 * length made.left
+      → ToClient w (talks_as made state left) (server.Accepted s.guid) (at_state s at.WaitingForBegin) → Exchange s made w
   wants_data : (left : List ClientMechanism) → AllByRecursion IsMechanism left
-      → line_ends w.client_said + 2 * length left + 1 ≤ 2 * length all
-      → ToClient w (talks_as now.WaitingForData left) (server.DataOf []) (at_state s at.WaitingForData) → Exchange s all w
+      → line_ends w.client_said + 2 * length left + 1 ≤ 2 * length made.left
+      → ToClient w (talks_as made now.WaitingForData left) (server.DataOf []) (at_state s at.WaitingForData) → Exchange s made w
+  asks_descriptors : (left : List ClientMechanism) → made.descriptors ≡ true → line_ends w.client_said ≤ 2 * length made.left + 1
+      → ToServer w (at_state s at.WaitingForBegin) true client.Negotiate (wants_agree made left s.guid) → Exchange s made w
+  answers_ask : (left : List ClientMechanism) → made.descriptors ≡ true → line_ends w.client_said ≤ 2 * length made.left + 1
+      → ToClient w (wants_agree made left s.guid) (answer_to_ask s.descriptors) (let_in s s.descriptors) → Exchange s made w
 
 -- the client has begun
-pub record HasBegun (e : ClientEndState) (guid : List ℕ) : Type 0 where
+pub record HasBegun (e : ClientEndState) (guid : List ℕ) (agreed : Bool) : Type 0 where
   pub status : e.status ≡ status.Begun
   pub started : e.started ≡ true
   pub guid_is : e.machine.guid ≡ Some guid
+  pub agreed_is : e.machine.agreed ≡ agreed
 
-pub record ClientBegan (e : ClientEndState) (wire : Wire) (server_wrote guid : List ℕ) : Type 0 where
-  pub end : HasBegun e guid
+pub record ClientBegan (e : ClientEndState) (wire : Wire) (server_wrote guid : List ℕ) (agreed : Bool) : Type 0 where
+  pub end : HasBegun e guid agreed
   pub carries : Carries wire server_wrote
 
-pub record ServerBegan (e : ServerEndState) (wire : Wire) (client_wrote : List ℕ) : Type 0 where
+pub record ServerBegan (e : ServerEndState) (wire : Wire) (client_wrote : List ℕ) (agreed : Bool) : Type 0 where
   pub status : e.status ≡ status.Begun
   pub state_is : e.machine.state ≡ at.Begun
+  pub agreed_is : e.machine.agreed ≡ agreed
   pub carries : Carries wire client_wrote
 
 -- a server whose client has begun: BEGIN is on its way, or was taken
-pub data Follows (s : ServerMachine) (w : World) : Type 0 where
-  confirming : Side w.server w.to_server (at_state s at.WaitingForBegin) true (ended (codes "BEGIN") ++ w.client_wrote) → w.server_wrote ≡ [] → Follows s w
-  both : ServerBegan w.server w.to_server w.client_wrote → Follows s w
+pub data Follows (s : ServerMachine) (agreed : Bool) (w : World) : Type 0 where
+  confirming : Side w.server w.to_server (let_in s agreed) true (ended (codes "BEGIN") ++ w.client_wrote) → w.server_wrote ≡ [] → Follows s agreed w
+  both : ServerBegan w.server w.to_server w.client_wrote agreed → Follows s agreed w
 
 pub record ClientClosed (e : ClientEndState) (wire : Wire) : Type 0 where
   pub status : e.status ≡ status.Closed
   pub started : e.started ≡ true
   pub carries : Carries wire []
 
-pub record Fresh (s : ServerMachine) (all : List ClientMechanism) (w : World) : Type 0 where
+pub record Fresh (s : ServerMachine) (made : ClientMachine) (w : World) : Type 0 where
   pub server : Quiet w.server w.to_server (at_state s at.WaitingForAuth) false
-  pub client : Quiet w.client w.to_client (talks_as now.Fresh all) false
+  pub client : Quiet w.client w.to_client (talks_as made now.Fresh made.left) false
   pub said : w.client_said ≡ []
   pub unsaid : Unsaid w.client_wrote w.server_wrote
 
-pub data Stage (s : ServerMachine) (all : List ClientMechanism) (w : World) : Type 0 where
-  fresh : Fresh s all w → Stage s all w
-  speaks : Exchange s all w → Unsaid w.client_wrote w.server_wrote → Stage s all w
-  began : line_ends w.client_said ≤ 2 * length all + 1 → ClientBegan w.client w.to_client w.server_wrote s.guid → Follows s w → Stage s all w
-  over : (z : Bool) → line_ends w.client_said ≤ 2 * length all + 1
-      → Quiet w.server w.to_server (at_state s at.WaitingForAuth) z → ClientClosed w.client w.to_client → Unsaid w.client_wrote w.server_wrote → Stage s all w
+pub data Stage (s : ServerMachine) (made : ClientMachine) (w : World) : Type 0 where
+  fresh : Fresh s made w → Stage s made w
+  speaks : Exchange s made w → Unsaid w.client_wrote w.server_wrote → Stage s made w
+  began : line_ends w.client_said ≤ 2 * length made.left + last_lines made → ClientBegan w.client w.to_client w.server_wrote s.guid (agree s made) → Follows s (agree s made) w → Stage s made w
+  over : (z : Bool) → line_ends w.client_said ≤ 2 * length made.left + last_lines made
+      → Quiet w.server w.to_server (at_state s at.WaitingForAuth) z → ClientClosed w.client w.to_client → Unsaid w.client_wrote w.server_wrote → Stage s made w
 
 -- ---- events that change nothing
 
@@ -184,8 +210,8 @@ to_client_of w n h = ap (hand_client w n) h
 -- What holds of each outcome of an end: it stays, closes, or cuts what it keeps and is handed.
 
 -- what a server's end does by a step
-abbrev pub server_answers : ServerMachine → ServerStep → Turn ServerMachine
-server_answers s = does (λ state. record s { state = state }) server_sends
+abbrev pub server_answers : ServerStep → Turn ServerMachine
+server_answers = does server_sends
 
 module _ {M : Type 0} (turn : M → List ℕ → Turn M) (P : EndOutcome (EndState M) → Type 0) (e : EndState M) (stays : P (nothing e)) (shuts : P (closes e))
     (goes_on : (skipped : ℕ) (q : List ℕ) → P (cuts turn e skipped q (cut (e.kept ++ q)))) where

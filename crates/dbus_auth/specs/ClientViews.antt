@@ -1,6 +1,6 @@
 -- The client's state machine as contracts see it.
-use Rattle.std.specs.Prelude.{ℕ, Bool, true, nat_le, List, map, drop, length, Option, Some, None}
-use Rattle.dbus_auth.specs.Machines.{ClientMachine, ClientStep, ClientAction, Sends, Begins, Disconnects, ClientMechanism, External, Anonymous}
+use Rattle.std.specs.Prelude.{ℕ, Bool, true, false, nat_le, List, map, drop, length, Option, Some, None}
+use Rattle.dbus_auth.specs.Machines.{ClientMachine, ClientStep, ClientAction, Sends, Begins, Disconnects, ClientMechanism, External, Anonymous, unaccepted}
 use Rattle.dbus_auth_lines.specs.Lines.{client_command}
 use Rattle.dbus_auth.specs.declared.states.ClientState.{ClientState}
 use Rattle.dbus_auth.specs.declared.states.ClientState.TheVariants as now
@@ -26,17 +26,23 @@ abbrev pub state_of : ClientStage → ClientState
 state_of stage.Fresh = now.Fresh
 state_of stage.WaitingForData = now.WaitingForData
 state_of stage.WaitingForOk = now.WaitingForOk
+state_of (stage.WaitingForAgree guid) = now.WaitingForAgree
 state_of stage.WaitingForReject = now.WaitingForReject
-state_of (stage.Begun guid) = now.Begun
+state_of (stage.Begun guid agreed) = now.Begun
 state_of stage.Closed = now.Closed
 
 abbrev pub guid_of : ClientStage → Option (List ℕ)
 guid_of stage.Fresh = None
 guid_of stage.WaitingForData = None
 guid_of stage.WaitingForOk = None
+guid_of (stage.WaitingForAgree guid) = Some guid.0
 guid_of stage.WaitingForReject = None
-guid_of (stage.Begun guid) = Some guid.0
+guid_of (stage.Begun guid agreed) = Some guid.0
 guid_of stage.Closed = None
+
+abbrev pub agreed_of : ClientStage → Bool
+agreed_of (stage.Begun guid agreed) = agreed
+agreed_of _ = false
 
 abbrev pub stage_after : ClientMechanism → ClientStage
 stage_after (External None) = stage.WaitingForData
@@ -47,11 +53,21 @@ stage_after (Anonymous trace) = stage.WaitingForOk
 abbrev pub left_of : {A : Type 0} → List (Mechanism A) → ℕ → List ClientMechanism
 left_of mechanisms tried = map client_mechanism (drop tried mechanisms)
 
+-- a client as it is in a stage, with this many mechanisms tried
+abbrev pub client_at : {A : Type 0} → Client A → ClientStage → ℕ → ClientMachine
+client_at c next tried = record {
+  state = state_of next;
+  left = left_of c.mechanisms.items tried;
+  descriptors = c.descriptors;
+  guid = guid_of next;
+  agreed = agreed_of next;
+}
+
 abbrev pub client_machine : {A : Type 0} → Client A → ClientMachine
-client_machine c = record { state = state_of c.stage; left = left_of c.mechanisms.items c.tried; guid = guid_of c.stage }
+client_machine c = client_at c c.stage c.tried
 
 abbrev pub fresh_client : {A : Type 0} → List (Mechanism A) → ClientMachine
-fresh_client mechanisms = record { state = now.Fresh; left = map client_mechanism mechanisms; guid = None }
+fresh_client mechanisms = unaccepted false now.Fresh (map client_mechanism mechanisms)
 
 abbrev pub client_action : {A : Type 0} → ClientAct A → ClientAction
 client_action (act.Send line) = Sends (client_command line)
@@ -61,18 +77,16 @@ client_action act.Disconnect = Disconnects
 abbrev pub shown_client : {A : Type 0} → ClientAct A → Client A → ClientStep
 shown_client act c = record { action = client_action act; next = client_machine c }
 
--- what a client with these mechanisms is about to do
-abbrev pub shown_turn : {A : Type 0} → ClientTurn A → List (Mechanism A) → ClientStep
-shown_turn t mechanisms = record {
-  action = client_action t.act;
-  next = record { state = state_of t.stage; left = left_of mechanisms t.tried; guid = guid_of t.stage };
-}
+-- what a client is about to do
+abbrev pub shown_turn : {A : Type 0} → ClientTurn A → Client A → ClientStep
+shown_turn t c = record { action = client_action t.act; next = client_at c t.stage t.tried }
 
 -- a state in which lines are received
 abbrev pub IsListening : ClientState → Type 0
 IsListening now.Fresh = ⊥
 IsListening now.WaitingForData = Unit {0}
 IsListening now.WaitingForOk = Unit {0}
+IsListening now.WaitingForAgree = Unit {0}
 IsListening now.WaitingForReject = Unit {0}
 IsListening now.Begun = ⊥
 IsListening now.Closed = ⊥

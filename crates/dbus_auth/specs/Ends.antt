@@ -87,9 +87,8 @@ status_after (Sends line) = status.Talking
 status_after Begins = status.Begun
 status_after Disconnects = status.Closed
 
--- by the machine that a step's next state makes
-abbrev pub does : {L S M : Type 0} → (S → M) → (Action L → List ℕ) → Step L S → Turn M
-does machine sent step = record { next = machine step.next; send = sent step.action; status = status_after step.action }
+abbrev pub does : {L M : Type 0} → (Action L → List ℕ) → Step L M → Turn M
+does sent step = record { next = step.next; send = sent step.action; status = status_after step.action }
 
 -- ---- the server's end
 
@@ -100,7 +99,7 @@ abbrev pub server_sends : ServerAction → List ℕ
 server_sends = sends server_line []
 
 abbrev pub server_turn : ServerMachine → List ℕ → Turn ServerMachine
-server_turn s line = does (λ state. record s { state = state }) server_sends (server_step s (client_meaning line))
+server_turn s line = does server_sends (server_step s (client_meaning line))
 
 abbrev pub server_takes : ServerEndState → List ℕ → EndOutcome ServerEndState
 server_takes e piece = takes server_turn e piece
@@ -114,7 +113,7 @@ abbrev pub client_sends : ClientAction → List ℕ
 client_sends = sends client_line (ended (client_line client.Begin))
 
 abbrev pub client_turn : ClientMachine → List ℕ → Turn ClientMachine
-client_turn c line = does (λ next. next) client_sends (client_step c (server_meaning line))
+client_turn c line = does client_sends (client_step c (server_meaning line))
 
 -- of an end that has started
 abbrev pub client_takes : ClientEndState → List ℕ → EndOutcome ClientEndState
@@ -126,5 +125,5 @@ client_greets = sends (λ line. 0 ∷ client_line line) []
 
 unfoldable pub client_starts : ClientEndState → EndOutcome ClientEndState
 client_starts e =
-    let t = does (λ next. next) client_greets (next_of e.machine.left) in
+    let t = does client_greets (next_of e.machine) in
     record { after = record (after_turn t) { kept = e.kept }; taken = 0; send = t.send }

@@ -32,13 +32,17 @@ pub record ServerMachine : Type 0 where
   -- the user that the transport tells
   pub user : Option ℕ
   pub anonymous : Bool
+  -- it agrees to pass Unix file descriptors, if it is asked
+  pub descriptors : Bool
   pub state : ServerState
+  -- it sent AGREE_UNIX_FD to the client that it accepted
+  pub agreed : Bool
 
 abbrev pub ServerAction : Type 0
 ServerAction = Action ServerCommand
 
 abbrev pub ServerStep : Type 0
-ServerStep = Step ServerCommand ServerState
+ServerStep = Step ServerCommand ServerMachine
 
 -- the decimal text of the user, without leading zeros
 abbrev pub is_user : Option ℕ → List ℕ → Bool
@@ -61,25 +65,33 @@ external_words (Some n) = codes "EXTERNAL" ∷ []
 abbrev pub mechanisms : ServerMachine → List (List ℕ)
 mechanisms s = external_words s.user ++ (if s.anonymous then codes "ANONYMOUS" ∷ [] else [])
 
-abbrev pub replies : ServerCommand → ServerState → ServerStep
-replies line next = record { action = Sends line; next = next }
+-- it sends a line, and has agreed to nothing
+abbrev pub replies : ServerMachine → ServerCommand → ServerState → ServerStep
+replies s line next = record { action = Sends line; next = record s { state = next; agreed = false } }
 
 abbrev pub rejects : ServerMachine → ServerStep
-rejects s = replies (server.Rejected (mechanisms s)) at.WaitingForAuth
+rejects s = replies s (server.Rejected (mechanisms s)) at.WaitingForAuth
 
 abbrev pub accepts : ServerMachine → ServerStep
-accepts s = replies (server.Accepted s.guid) at.WaitingForBegin
+accepts s = replies s (server.Accepted s.guid) at.WaitingForBegin
 
-abbrev pub disconnects : ServerStep
-disconnects = record { action = Disconnects; next = at.Closed }
+abbrev pub disconnects : ServerMachine → ServerStep
+disconnects s = record { action = Disconnects; next = record s { state = at.Closed; agreed = false } }
 
-abbrev pub complains : ServerState → ServerStep
-complains state = replies (server.Error []) state
+-- ERROR, and all stays
+abbrev pub complains : ServerMachine → ServerStep
+complains s = record { action = Sends (server.Error []); next = s }
+
+-- D-Bus Specification, "NEGOTIATE_UNIX_FD Command"
+abbrev pub negotiates : ServerMachine → ServerStep
+negotiates s =
+    if s.descriptors then record { action = Sends server.Agree; next = record s { state = at.WaitingForBegin; agreed = true } }
+    else complains s
 
 -- an empty EXTERNAL is asked for its identity by DATA
 abbrev pub by_mechanism : ServerMachine → List ℕ → List ℕ → ServerStep
 by_mechanism s mech response =
-    if bytes_eq mech (codes "EXTERNAL") && offers_external s.user && is_empty response then replies (server.DataOf []) at.WaitingForData
+    if bytes_eq mech (codes "EXTERNAL") && offers_external s.user && is_empty response then replies s (server.DataOf []) at.WaitingForData
     else if bytes_eq mech (codes "EXTERNAL") && is_user s.user response then accepts s
     else if bytes_eq mech (codes "ANONYMOUS") && s.anonymous then accepts s
     else rejects s
@@ -89,30 +101,31 @@ abbrev pub waiting_for_auth : ServerMachine → ClientCommand → ServerStep
 waiting_for_auth s (client.AuthBy mech response) = by_mechanism s mech response
 waiting_for_auth s client.Auth = rejects s
 waiting_for_auth s (client.Error text) = rejects s
-waiting_for_auth s client.Begin = disconnects
-waiting_for_auth s _ = complains at.WaitingForAuth
+waiting_for_auth s client.Begin = disconnects s
+waiting_for_auth s _ = complains s
 
 -- no identity means the user that the transport tells
 abbrev pub waiting_for_data : ServerMachine → ClientCommand → ServerStep
 waiting_for_data s (client.DataOf bytes) = if is_empty bytes || is_user s.user bytes then accepts s else rejects s
 waiting_for_data s client.Cancel = rejects s
 waiting_for_data s (client.Error text) = rejects s
-waiting_for_data s client.Begin = disconnects
-waiting_for_data s _ = complains at.WaitingForData
+waiting_for_data s client.Begin = disconnects s
+waiting_for_data s _ = complains s
 
 abbrev pub waiting_for_begin : ServerMachine → ClientCommand → ServerStep
-waiting_for_begin s client.Begin = record { action = Begins; next = at.Begun }
+waiting_for_begin s client.Begin = record { action = Begins; next = record s { state = at.Begun } }
 waiting_for_begin s client.Cancel = rejects s
 waiting_for_begin s (client.Error text) = rejects s
-waiting_for_begin s _ = complains at.WaitingForBegin
+waiting_for_begin s client.Negotiate = negotiates s
+waiting_for_begin s _ = complains s
 
 -- the table; past the last state nothing is received
 abbrev pub server_step_at : ServerMachine → ServerState → ClientCommand → ServerStep
 server_step_at s at.WaitingForAuth line = waiting_for_auth s line
 server_step_at s at.WaitingForData line = waiting_for_data s line
 server_step_at s at.WaitingForBegin line = waiting_for_begin s line
-server_step_at s at.Begun line = record { action = Disconnects; next = at.Begun }
-server_step_at s at.Closed line = record { action = Disconnects; next = at.Closed }
+server_step_at s at.Begun line = record { action = Disconnects; next = s }
+server_step_at s at.Closed line = record { action = Disconnects; next = s }
 
 unfoldable pub server_step : ServerMachine → ClientCommand → ServerStep
 server_step s line = server_step_at s s.state line
@@ -127,7 +140,12 @@ pub record ClientMachine : Type 0 where
   pub state : ClientState
   -- the mechanisms that were not tried yet
   pub left : List ClientMechanism
+  -- it asks to pass Unix file descriptors
+  pub descriptors : Bool
+  -- of the server that accepted it
   pub guid : Option (List ℕ)
+  -- that server sent AGREE_UNIX_FD
+  pub agreed : Bool
 
 abbrev pub ClientAction : Type 0
 ClientAction = Action ClientCommand
@@ -145,42 +163,67 @@ waits_in (External None) = now.WaitingForData
 waits_in (External (Some n)) = now.WaitingForOk
 waits_in (Anonymous trace) = now.WaitingForOk
 
+-- a client that no server has accepted
+abbrev pub unaccepted : (descriptors : Bool) → ClientState → List ClientMechanism → ClientMachine
+unaccepted descriptors state left = record { state = state; left = left; descriptors = descriptors; guid = None; agreed = false }
+
 -- AUTH of the next mechanism, or the end
-abbrev pub next_of : List ClientMechanism → ClientStep
-next_of [] = record { action = Disconnects; next = record { state = now.Closed; left = []; guid = None } }
-next_of (m ∷ ms) = record { action = Sends (auth_line m); next = record { state = waits_in m; left = ms; guid = None } }
+abbrev pub next_among : (descriptors : Bool) → List ClientMechanism → ClientStep
+next_among descriptors [] = record { action = Disconnects; next = unaccepted descriptors now.Closed [] }
+next_among descriptors (m ∷ ms) = record { action = Sends (auth_line m); next = unaccepted descriptors (waits_in m) ms }
 
-abbrev pub asks : ClientCommand → ClientState → List ClientMechanism → ClientStep
-asks line state left = record { action = Sends line; next = record { state = state; left = left; guid = None } }
+abbrev pub next_of : ClientMachine → ClientStep
+next_of c = next_among c.descriptors c.left
 
-abbrev pub begins : List ℕ → List ClientMechanism → ClientStep
-begins guid left = record { action = Begins; next = record { state = now.Begun; left = left; guid = Some guid } }
+abbrev pub asks : ClientMachine → ClientCommand → ClientState → ClientStep
+asks c line state = record { action = Sends line; next = unaccepted c.descriptors state c.left }
 
-abbrev pub closes : List ClientMechanism → ClientStep
-closes left = record { action = Disconnects; next = record { state = now.Closed; left = left; guid = None } }
+-- ERROR, and all stays
+abbrev pub client_complains : ClientMachine → ClientStep
+client_complains c = record { action = Sends (client.Error []); next = c }
 
-abbrev pub client_waiting_for_data : List ClientMechanism → ServerCommand → ClientStep
-client_waiting_for_data left (server.DataOf bytes) = asks (client.DataOf []) now.WaitingForOk left
-client_waiting_for_data left (server.Accepted guid) = begins guid left
-client_waiting_for_data left (server.Rejected words) = next_of left
-client_waiting_for_data left (server.Error text) = asks client.Cancel now.WaitingForReject left
-client_waiting_for_data left _ = asks (client.Error []) now.WaitingForData left
+abbrev pub begins : ClientMachine → Option (List ℕ) → (agreed : Bool) → ClientStep
+begins c guid agreed = record { action = Begins; next = record c { state = now.Begun; guid = guid; agreed = agreed } }
 
-abbrev pub client_waiting_for_ok : List ClientMechanism → ServerCommand → ClientStep
-client_waiting_for_ok left (server.Accepted guid) = begins guid left
-client_waiting_for_ok left (server.Rejected words) = next_of left
-client_waiting_for_ok left (server.DataOf bytes) = asks client.Cancel now.WaitingForReject left
-client_waiting_for_ok left (server.Error text) = asks client.Cancel now.WaitingForReject left
-client_waiting_for_ok left _ = asks (client.Error []) now.WaitingForOk left
+abbrev pub closes : ClientMachine → ClientStep
+closes c = record { action = Disconnects; next = unaccepted c.descriptors now.Closed c.left }
 
-abbrev pub client_waiting_for_reject : List ClientMechanism → ServerCommand → ClientStep
-client_waiting_for_reject left (server.Rejected words) = next_of left
-client_waiting_for_reject left _ = closes left
+-- after OK. D-Bus Specification, "OK Command"
+abbrev pub client_accepted : ClientMachine → List ℕ → ClientStep
+client_accepted c guid =
+    if c.descriptors then record { action = Sends client.Negotiate; next = record c { state = now.WaitingForAgree; guid = Some guid; agreed = false } }
+    else begins c (Some guid) false
+
+abbrev pub client_waiting_for_data : ClientMachine → ServerCommand → ClientStep
+client_waiting_for_data c (server.DataOf bytes) = asks c (client.DataOf []) now.WaitingForOk
+client_waiting_for_data c (server.Accepted guid) = client_accepted c guid
+client_waiting_for_data c (server.Rejected words) = next_of c
+client_waiting_for_data c (server.Error text) = asks c client.Cancel now.WaitingForReject
+client_waiting_for_data c _ = client_complains c
+
+abbrev pub client_waiting_for_ok : ClientMachine → ServerCommand → ClientStep
+client_waiting_for_ok c (server.Accepted guid) = client_accepted c guid
+client_waiting_for_ok c (server.Rejected words) = next_of c
+client_waiting_for_ok c (server.DataOf bytes) = asks c client.Cancel now.WaitingForReject
+client_waiting_for_ok c (server.Error text) = asks c client.Cancel now.WaitingForReject
+client_waiting_for_ok c _ = client_complains c
+
+-- D-Bus Specification, "AGREE_UNIX_FD Command"
+abbrev pub client_waiting_for_agree : ClientMachine → ServerCommand → ClientStep
+client_waiting_for_agree c server.Agree = begins c c.guid true
+client_waiting_for_agree c (server.Error text) = begins c c.guid false
+client_waiting_for_agree c (server.Rejected words) = next_of c
+client_waiting_for_agree c _ = client_complains c
+
+abbrev pub client_waiting_for_reject : ClientMachine → ServerCommand → ClientStep
+client_waiting_for_reject c (server.Rejected words) = next_of c
+client_waiting_for_reject c _ = closes c
 
 abbrev pub client_step_at : ClientMachine → ClientState → ServerCommand → ClientStep
-client_step_at c now.WaitingForData line = client_waiting_for_data c.left line
-client_step_at c now.WaitingForOk line = client_waiting_for_ok c.left line
-client_step_at c now.WaitingForReject line = client_waiting_for_reject c.left line
+client_step_at c now.WaitingForData line = client_waiting_for_data c line
+client_step_at c now.WaitingForOk line = client_waiting_for_ok c line
+client_step_at c now.WaitingForAgree line = client_waiting_for_agree c line
+client_step_at c now.WaitingForReject line = client_waiting_for_reject c line
 client_step_at c now.Fresh line = record { action = Disconnects; next = c }
 client_step_at c now.Begun line = record { action = Disconnects; next = c }
 client_step_at c now.Closed line = record { action = Disconnects; next = c }

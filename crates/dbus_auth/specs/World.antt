@@ -1,10 +1,10 @@
 -- Both ends and the bytes between them, over every order of events; and what holds of each
 -- handshake. D-Bus Specification, "Authentication Protocol".
-use Rattle.std.specs.Prelude.{ℕ, ◌+◌, ◌*◌, ◌≤◌, ◌≡◌, ◌⊎◌, ◌==◌, Bool, true, false, List, [], ◌∷◌, ◌++◌, length, take, drop, Some, None, count_by, ◌≢◌, codes}
-use Rattle.std.specs.List.{AllByRecursion}
+use Rattle.std.specs.Prelude.{ℕ, ◌+◌, ◌*◌, ◌≤◌, ◌≡◌, ◌⊎◌, ◌==◌, Bool, true, false, List, [], ◌∷◌, ◌++◌, length, take, drop, Some, count_by, ◌≢◌, codes, bytes_eq, ◌&&◌, if◌then◌else◌}
+use Rattle.std.specs.List.{AllByRecursion, list_any}
 use Rattle.dbus_auth_lines.specs.ServerCommands as server
 use Rattle.dbus_auth_lines.specs.Lines.{server_line, ended}
-use Rattle.dbus_auth.specs.Machines.{ServerMachine, ClientMechanism}
+use Rattle.dbus_auth.specs.Machines.{ServerMachine, ClientMachine, unaccepted}
 use Rattle.dbus_auth.specs.Ends.{ServerEndState, ClientEndState, EndOutcome, not_started, server_takes, client_takes, client_starts}
 use Rattle.dbus_auth.specs.declared.end_step.Status.{Status}
 use Rattle.dbus_auth.specs.declared.end_step.Status.TheVariants as status
@@ -95,18 +95,18 @@ run (e ∷ es) w = run es (happens w e)
 
 -- a server in its first state
 abbrev pub server_at_first : ServerMachine → ServerEndState
-server_at_first s = not_started (record s { state = at.WaitingForAuth })
+server_at_first s = not_started (record s { state = at.WaitingForAuth; agreed = false })
 
-abbrev pub client_at_first : List ClientMechanism → ClientEndState
-client_at_first mechanisms = not_started (record { state = now.Fresh; left = mechanisms; guid = None })
+abbrev pub client_at_first : ClientMachine → ClientEndState
+client_at_first c = not_started (unaccepted c.descriptors now.Fresh c.left)
 
 abbrev pub silent : Wire
 silent = record { sent = []; took = 0 }
 
-abbrev pub at_first : ServerMachine → List ClientMechanism → World
-at_first s mechanisms = record {
+abbrev pub at_first : ServerMachine → ClientMachine → World
+at_first s c = record {
   server = server_at_first s;
-  client = client_at_first mechanisms;
+  client = client_at_first c;
   to_server = silent;
   to_client = silent;
   client_said = [];
@@ -118,18 +118,26 @@ at_first s mechanisms = record {
 abbrev pub line_ends : List ℕ → ℕ
 line_ends bytes = count_by (λ b. b == 10) bytes
 
--- what holds of every handshake of this server and a client of these mechanisms
-pub record Handshake (s : ServerMachine) (mechanisms : List ClientMechanism) (w : World) : Type 0 where
+-- the lines that end a client's part: BEGIN, and NEGOTIATE_UNIX_FD before it
+abbrev pub last_lines : ClientMachine → ℕ
+last_lines c = if c.descriptors then 2 else 1
+
+-- what holds of every handshake of this server and this client, of which each has its mechanisms,
+-- and may pass descriptors or not
+pub record Handshake (s : ServerMachine) (c : ClientMachine) (w : World) : Type 0 where
   pub client_began : w.server.status ≡ status.Begun → w.client.status ≡ status.Begun
   pub same_guid : w.client.status ≡ status.Begun → w.client.machine.guid ≡ Some s.guid
   pub server_stands : w.client.status ≡ status.Begun → (w.server.machine.state ≡ at.WaitingForBegin) ⊎ (w.server.machine.state ≡ at.Begun)
+  -- both know the same, and both agreed exactly if both may pass descriptors
+  pub same_agreed : w.client.status ≡ status.Begun → w.client.machine.agreed ≡ w.server.machine.agreed
+  pub agreed : w.client.status ≡ status.Begun → w.server.machine.agreed ≡ (s.descriptors && c.descriptors)
   -- nothing after BEGIN was taken, and nothing else is left
   pub to_server : w.server.status ≡ status.Begun → untaken w.to_server ≡ w.client_wrote
-  -- nothing after the line of OK was taken
+  -- nothing after the line that the client answered by BEGIN was taken
   pub to_client : w.client.status ≡ status.Begun → untaken w.to_client ≡ w.server_wrote
   -- what the client's caller sent stands after all that its end sent
   pub order : w.to_server.sent ≡ w.client_said ++ w.client_wrote
-  pub lines : line_ends w.client_said ≤ 2 * length mechanisms + 1
+  pub lines : line_ends w.client_said ≤ 2 * length c.left + last_lines c
 
 -- A server's end before any peer: any bytes, in any pieces. D-Bus Specification, "Authentication
 -- Protocol".
@@ -159,12 +167,22 @@ run_server e bytes (n ∷ ns) =
 abbrev pub IsFinished : ServerRun → Type 0
 IsFinished run = (run.left ≡ []) ⊎ (run.after.status ≢ status.Talking)
 
--- the last line other than ERROR is OK
-pub record LastIsOk (guid : List ℕ) (said : List (List ℕ)) : Type 0 where
+-- a line that may follow OK: ERROR, or AGREE_UNIX_FD of a server that passes descriptors
+abbrev pub IsAfterOk : (descriptors : Bool) → List ℕ → Type 0
+IsAfterOk false line = line ≡ ended (codes "ERROR")
+IsAfterOk true line = (line ≡ ended (codes "ERROR")) ⊎ (line ≡ ended (codes "AGREE_UNIX_FD"))
+
+abbrev pub is_agree : List ℕ → Bool
+is_agree line = bytes_eq line (ended (codes "AGREE_UNIX_FD"))
+
+-- the last line other than these is OK, and AGREE_UNIX_FD is among them exactly if the server has
+-- agreed
+pub record LastIsOk (s : ServerMachine) (agreed : Bool) (said : List (List ℕ)) : Type 0 where
   pub front : List (List ℕ)
-  pub errors : List (List ℕ)
-  pub is : said ≡ front ++ ended (server_line (server.Accepted guid)) ∷ errors
-  pub only_errors : AllByRecursion (λ line. line ≡ ended (codes "ERROR")) errors
+  pub after : List (List ℕ)
+  pub is : said ≡ front ++ ended (server_line (server.Accepted s.guid)) ∷ after
+  pub only : AllByRecursion (IsAfterOk s.descriptors) after
+  pub agrees : agreed ≡ list_any is_agree after
 
 -- two ways to cut the same bytes look alike
 pub record LooksAlike (a b : ServerRun) : Type 0 where

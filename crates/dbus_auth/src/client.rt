@@ -1,12 +1,12 @@
 //! The client's state machine. D-Bus Specification, "Authentication Protocol", "Authentication
 //! state diagrams", "Client states".
 
-ghost use Rattle.std.specs.Prelude.{◌≡◌, true, false, IfOk, IfErr, OnErr, map, is_ok, option_map, length, drop, nat_le, None};
+ghost use Rattle.std.specs.Prelude.{◌≡◌, true, false, IfOk, IfErr, OnErr, map, is_ok, option_map, length, drop, nat_le, None, Some};
 ghost use Rattle.std.specs.List.{list_all, AllByRecursion};
 ghost use Rattle.hex.specs.Hex.{IsBytes};
-ghost use Rattle.dbus_auth.specs.Machines.{IsMechanism, client_step, next_of, auth_line, client_waiting_for_data, client_waiting_for_ok, client_waiting_for_reject};
+ghost use Rattle.dbus_auth.specs.Machines.{IsMechanism, client_step, next_of, auth_line, client_accepted, client_complains, client_waiting_for_agree, client_waiting_for_data, client_waiting_for_ok, client_waiting_for_reject};
 ghost use Rattle.dbus_auth_lines.specs.Lines.{client_command, server_command};
-ghost use Rattle.dbus_auth.specs.ClientViews.{client_mechanism, is_short, client_machine, fresh_client, client_action, left_of, shown_turn, shown_client, stage_after, guid_of, state_of, IsListening};
+ghost use Rattle.dbus_auth.specs.ClientViews.{client_mechanism, is_short, client_machine, fresh_client, client_action, client_at, shown_turn, shown_client, stage_after, guid_of, state_of, IsListening};
 ghost use Rattle.dbus_auth.specs.declared.states.ClientState.TheVariants as now;
 
 use crate::states::ClientState;
@@ -35,14 +35,16 @@ pub enum ClientAct<A: Allocator = Global> {
     Disconnect,
 }
 
-/// The client's state, with the server's GUID once it has begun.
+/// The client's state, with the GUID of the server that accepted it, and whether that server sent
+/// AGREE_UNIX_FD.
 #[derive(Clone, Copy, Drop)]
 pub enum ClientStage {
     Fresh,
     WaitingForData,
     WaitingForOk,
+    WaitingForAgree(Guid),
     WaitingForReject,
-    Begun(Guid),
+    Begun(Guid, bool),
     Closed,
 }
 
@@ -60,31 +62,40 @@ pub struct ClientTurn<A: Allocator> {
 /// "Next" is: it asks for its next mechanism by AUTH, and without one left it is closed. EXTERNAL
 /// as a user sends the user in decimal and waits for OK; EXTERNAL without one sends no response and
 /// waits for DATA; ANONYMOUS sends its trace and waits for OK. It ignores the words of REJECTED.
+/// "Accepted" is: it sends BEGIN, and has begun with the server's GUID; or, if it asks for
+/// descriptors, it sends NEGOTIATE_UNIX_FD and waits for AGREE_UNIX_FD.
 ///
 /// | state | line | it does |
 /// | --- | --- | --- |
 /// | waiting for DATA | DATA | sends DATA without bytes, waits for OK |
-/// | | OK | sends BEGIN, has begun with the server's GUID |
+/// | | OK | accepted |
 /// | | REJECTED | next |
 /// | | ERROR | sends CANCEL, waits for REJECTED |
 /// | | anything else | sends ERROR, stays |
-/// | waiting for OK | OK | sends BEGIN, has begun with the server's GUID |
+/// | waiting for OK | OK | accepted |
 /// | | REJECTED | next |
 /// | | DATA; ERROR | sends CANCEL, waits for REJECTED |
+/// | | anything else | sends ERROR, stays |
+/// | waiting for AGREE_UNIX_FD | AGREE_UNIX_FD | sends BEGIN, has begun, and both agreed |
+/// | | ERROR | sends BEGIN, has begun |
+/// | | REJECTED | next |
 /// | | anything else | sends ERROR, stays |
 /// | waiting for REJECTED | REJECTED | next |
 /// | | anything else | is closed |
 ///
-/// D-Bus Specification, "Client states". The answer to DATA is a choice of this profile.
+/// D-Bus Specification, "Client states". The answer to DATA is a choice of this profile, and so are
+/// those to REJECTED and to anything else while it waits for AGREE_UNIX_FD.
 #[derive(Drop)]
 pub struct Client<A: Allocator = Global> {
     stage: ClientStage,
+    descriptors: bool,
     mechanisms: Vec<Mechanism<A>, A>,
     tried: usize,
 }
 
 impl<A: Allocator + Copy> Client<A> {
-    /// A client that has not started. It tries the mechanisms in their order.
+    /// A client that has not started. It tries the mechanisms in their order, and does not ask for
+    /// Unix file descriptors.
     ///
     /// If a trace has over 255 bytes, the error returns them.
     pub fn new(mechanisms: Vec<Mechanism<A>, A>) -> Result<Self, Vec<Mechanism<A>, A>>
@@ -99,18 +110,43 @@ impl<A: Allocator + Copy> Client<A> {
         }
         Ok(Client {
             stage: ClientStage::Fresh,
+            descriptors: false,
             mechanisms,
             tried: 0,
         })
     }
 
-    /// The server's GUID, once the client has begun.
+    /// The same client, which passes Unix file descriptors or not. If it does, it sends
+    /// NEGOTIATE_UNIX_FD once a server has accepted it: for a transport that passes them, as a Unix
+    /// socket does. D-Bus Specification, "NEGOTIATE_UNIX_FD Command".
+    pub fn with_descriptors(self, descriptors: bool) -> Self
+        ensures { client_machine result ≡
+            record (client_machine self) { descriptors = descriptors } }
+    {
+        Client {
+            descriptors,
+            ..self
+        }
+    }
+
+    /// The GUID of the server, once it has accepted the client.
     pub fn guid(&self) -> Option<Guid>
         ensures { option_map (λ g. g.0) result ≡ (client_machine self.now).guid }
     {
         match self.stage {
-            ClientStage::Begun(guid) => Some(guid),
+            ClientStage::WaitingForAgree(guid) | ClientStage::Begun(guid, _) => Some(guid),
             _ => None,
+        }
+    }
+
+    /// Whether the client has begun, and the server sent AGREE_UNIX_FD before: messages of both
+    /// sides may then come with Unix file descriptors.
+    pub fn agreed(&self) -> bool
+        ensures { result ≡ (client_machine self.now).agreed }
+    {
+        match self.stage {
+            ClientStage::Begun(_, agreed) => agreed,
+            _ => false,
         }
     }
 
@@ -122,8 +158,9 @@ impl<A: Allocator + Copy> Client<A> {
             ClientStage::Fresh => ClientState::Fresh,
             ClientStage::WaitingForData => ClientState::WaitingForData,
             ClientStage::WaitingForOk => ClientState::WaitingForOk,
+            ClientStage::WaitingForAgree(_) => ClientState::WaitingForAgree,
             ClientStage::WaitingForReject => ClientState::WaitingForReject,
-            ClientStage::Begun(_) => ClientState::Begun,
+            ClientStage::Begun(_, _) => ClientState::Begun,
             ClientStage::Closed => ClientState::Closed,
         }
     }
@@ -135,7 +172,7 @@ impl<A: Allocator + Copy> Client<A> {
     pub fn start(&mut self, alloc: A) -> Result<ClientAct<A>, AllocError>
         requires { (client_machine self.old).state ≡ now.Fresh }
         ensures row { IfOk result (λ act.
-            shown_client act self.new ≡ next_of (client_machine self.old).left) }
+            shown_client act self.new ≡ next_of (client_machine self.old)) }
         ensures err { OnErr result (client_machine self.new ≡ client_machine self.old) }
     {
         let turn = self.next_mechanism(alloc)?;
@@ -164,12 +201,7 @@ impl<A: Allocator + Copy> Client<A> {
 
     /// Goes to a stage, with this number of mechanisms tried.
     pub(crate) fn go_to(&mut self, stage: ClientStage, tried: usize)
-        ensures machine { client_machine self.new ≡
-            record {
-              state = state_of stage;
-              left = left_of self.old.mechanisms.items tried;
-              guid = guid_of stage;
-            } }
+        ensures machine { client_machine self.new ≡ client_at self.old stage tried }
         ensures same { self.new.mechanisms ≡ self.old.mechanisms }
     {
         self.stage = stage;
@@ -179,7 +211,7 @@ impl<A: Allocator + Copy> Client<A> {
     /// The next mechanism, or the end.
     pub(crate) fn next_mechanism(&self, alloc: A) -> Result<ClientTurn<A>, AllocError>
         ensures { IfOk result (λ turn.
-            shown_turn turn self.now.mechanisms.items ≡ next_of (client_machine self.now).left) }
+            shown_turn turn self.now ≡ next_of (client_machine self.now)) }
     {
         if self.tried >= self.mechanisms.len() {
             return Ok(self.stays_with(ClientAct::Disconnect, ClientStage::Closed));
@@ -196,14 +228,15 @@ impl<A: Allocator + Copy> Client<A> {
     #[tactic(auto, unfolding(crate::specs::Machines::client_step))]
     pub(crate) fn step(&self, alloc: A, line: &ServerLine<A>) -> Result<ClientTurn<A>, AllocError>
         ensures { IfOk result (λ turn.
-            shown_turn turn self.now.mechanisms.items ≡
+            shown_turn turn self.now ≡
             client_step (client_machine self.now) (server_command line.now)) }
     {
         match self.stage {
             ClientStage::WaitingForData => self.on_data(alloc, line),
             ClientStage::WaitingForOk => self.on_ok(alloc, line),
+            ClientStage::WaitingForAgree(guid) => self.on_agree(alloc, line, guid),
             ClientStage::WaitingForReject => self.on_reject(alloc, line),
-            ClientStage::Fresh | ClientStage::Begun(_) | ClientStage::Closed => {
+            ClientStage::Fresh | ClientStage::Begun(_, _) | ClientStage::Closed => {
                 Ok(self.stays_with(ClientAct::Disconnect, self.stage))
             }
         }
@@ -222,50 +255,86 @@ impl<A: Allocator + Copy> Client<A> {
         }
     }
 
+    /// The server accepted the client.
+    fn accepted_by(&self, guid: Guid) -> ClientTurn<A>
+        ensures { shown_turn result self.now ≡ client_accepted (client_machine self.now) guid.0 }
+    {
+        if self.descriptors {
+            let asks = ClientAct::Send(ClientLine::Negotiate);
+            self.stays_with(asks, ClientStage::WaitingForAgree(guid))
+        } else {
+            self.stays_with(ClientAct::Begin, ClientStage::Begun(guid, false))
+        }
+    }
+
+    /// The line makes no sense in this state: ERROR, and the state stays.
+    fn complain(&self, alloc: A) -> ClientTurn<A>
+        ensures { shown_turn result self.now ≡ client_complains (client_machine self.now) }
+    {
+        let error = ClientLine::Error(Vec::new(alloc));
+        self.stays_with(ClientAct::Send(error), self.stage)
+    }
+
     /// What the client does on a line while it waits for DATA.
     fn on_data(&self, alloc: A, line: &ServerLine<A>) -> Result<ClientTurn<A>, AllocError>
         ensures { IfOk result (λ turn.
-            shown_turn turn self.now.mechanisms.items ≡
-            client_waiting_for_data (client_machine self.now).left (server_command line.now)) }
+            shown_turn turn self.now ≡
+            client_waiting_for_data (client_machine self.now) (server_command line.now)) }
     {
         match line {
             ServerLine::DataOf(_) => {
                 let data = ClientLine::DataOf(Vec::new(alloc));
                 Ok(self.stays_with(ClientAct::Send(data), ClientStage::WaitingForOk))
             }
-            ServerLine::Accepted(guid) => {
-                Ok(self.stays_with(ClientAct::Begin, ClientStage::Begun(*guid)))
-            }
+            ServerLine::Accepted(guid) => Ok(self.accepted_by(*guid)),
             ServerLine::Rejected(_) => self.next_mechanism(alloc),
             ServerLine::Error(_) => Ok(self.stays_with(
                 ClientAct::Send(ClientLine::Cancel),
                 ClientStage::WaitingForReject,
             )),
-            ServerLine::Agree | ServerLine::Other => {
-                let error = ClientLine::Error(Vec::new(alloc));
-                Ok(self.stays_with(ClientAct::Send(error), ClientStage::WaitingForData))
-            }
+            ServerLine::Agree | ServerLine::Other => Ok(self.complain(alloc)),
         }
     }
 
     /// The same while it waits for OK.
     fn on_ok(&self, alloc: A, line: &ServerLine<A>) -> Result<ClientTurn<A>, AllocError>
         ensures { IfOk result (λ turn.
-            shown_turn turn self.now.mechanisms.items ≡
-            client_waiting_for_ok (client_machine self.now).left (server_command line.now)) }
+            shown_turn turn self.now ≡
+            client_waiting_for_ok (client_machine self.now) (server_command line.now)) }
     {
         match line {
-            ServerLine::Accepted(guid) => {
-                Ok(self.stays_with(ClientAct::Begin, ClientStage::Begun(*guid)))
-            }
+            ServerLine::Accepted(guid) => Ok(self.accepted_by(*guid)),
             ServerLine::Rejected(_) => self.next_mechanism(alloc),
             ServerLine::DataOf(_) | ServerLine::Error(_) => Ok(self.stays_with(
                 ClientAct::Send(ClientLine::Cancel),
                 ClientStage::WaitingForReject,
             )),
-            ServerLine::Agree | ServerLine::Other => {
-                let error = ClientLine::Error(Vec::new(alloc));
-                Ok(self.stays_with(ClientAct::Send(error), ClientStage::WaitingForOk))
+            ServerLine::Agree | ServerLine::Other => Ok(self.complain(alloc)),
+        }
+    }
+
+    /// The same while it waits for AGREE_UNIX_FD of the server with this GUID.
+    fn on_agree(
+        &self,
+        alloc: A,
+        line: &ServerLine<A>,
+        guid: Guid,
+    ) -> Result<ClientTurn<A>, AllocError>
+        requires { (client_machine self.now).guid ≡ Some guid.0 }
+        ensures { IfOk result (λ turn.
+            shown_turn turn self.now ≡
+            client_waiting_for_agree (client_machine self.now) (server_command line.now)) }
+    {
+        match line {
+            ServerLine::Agree => {
+                Ok(self.stays_with(ClientAct::Begin, ClientStage::Begun(guid, true)))
+            }
+            ServerLine::Error(_) => {
+                Ok(self.stays_with(ClientAct::Begin, ClientStage::Begun(guid, false)))
+            }
+            ServerLine::Rejected(_) => self.next_mechanism(alloc),
+            ServerLine::DataOf(_) | ServerLine::Accepted(_) | ServerLine::Other => {
+                Ok(self.complain(alloc))
             }
         }
     }
@@ -273,8 +342,8 @@ impl<A: Allocator + Copy> Client<A> {
     /// The same while it waits for REJECTED, after CANCEL.
     fn on_reject(&self, alloc: A, line: &ServerLine<A>) -> Result<ClientTurn<A>, AllocError>
         ensures { IfOk result (λ turn.
-            shown_turn turn self.now.mechanisms.items ≡
-            client_waiting_for_reject (client_machine self.now).left (server_command line.now)) }
+            shown_turn turn self.now ≡
+            client_waiting_for_reject (client_machine self.now) (server_command line.now)) }
     {
         match line {
             ServerLine::Rejected(_) => self.next_mechanism(alloc),

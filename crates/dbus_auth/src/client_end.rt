@@ -74,7 +74,7 @@ impl<A: Allocator + Copy> ClientEnd<A> {
     /// The end of a client that has not started. It allocates nothing yet.
     pub fn new(alloc: A, client: Client<A>) -> Self
         requires { (client_machine client).state ≡ now.Fresh }
-        ensures { client_end_state result ≡ client_at_first (client_machine client).left }
+        ensures { client_end_state result ≡ client_at_first (client_machine client) }
     {
         ClientEnd {
             end: End::new(alloc, client),
@@ -107,7 +107,8 @@ impl<A: Allocator + Copy> ClientEnd<A> {
     /// again. The end must have started.
     ///
     /// A line with a fault closes the end: nothing is taken and nothing sent. An end that has begun
-    /// or is closed takes and sends nothing, so nothing after the line of OK is taken.
+    /// or is closed takes and sends nothing, so nothing after the line that it answers by BEGIN is
+    /// taken.
     ///
     /// Returns `AllocError` if an allocation failed. The end is unchanged then: pass the same piece
     /// again.
@@ -135,10 +136,18 @@ impl<A: Allocator + Copy> ClientEnd<A> {
         self.end.take(piece)
     }
 
-    /// The server's GUID, once the client has begun.
+    /// The GUID of the server, once it has accepted the client.
     pub fn guid(&self) -> Option<Guid>
         ensures { option_map (λ g. g.0) result ≡ (client_end_state self.now).machine.guid }
     {
         self.end.machine.guid()
+    }
+
+    /// Whether both ends agreed to pass Unix file descriptors, once the client has begun: see
+    /// [`Client::agreed`].
+    pub fn agreed(&self) -> bool
+        ensures { result ≡ (client_end_state self.now).machine.agreed }
+    {
+        self.end.machine.agreed()
     }
 }

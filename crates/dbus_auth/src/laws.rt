@@ -6,7 +6,7 @@
 
 ghost use Rattle.std.specs.Prelude.{List, ℕ, ◌≡◌, ◌↔◌, IsTrue};
 ghost use Rattle.std.specs.List.{AllByRecursion};
-ghost use Rattle.dbus_auth.specs.Machines.{ServerMachine, ClientMechanism, IsServer, IsMechanism};
+ghost use Rattle.dbus_auth.specs.Machines.{ServerMachine, ClientMachine, IsServer, IsMechanism};
 ghost use Rattle.dbus_auth.specs.World.{Event, run, at_first, server_at_first, Handshake, run_server, IsFinished, LooksAlike, LastIsOk};
 ghost use Rattle.dbus_auth.specs.ClientViews.{client_action, client_mechanism};
 ghost use Rattle.dbus_auth.specs.EndStepViews.{end_answer};
@@ -21,30 +21,36 @@ use std::alloc::Allocator;
 
 /// The two ends agree, in whatever order they are called, in whatever pieces they get their bytes,
 /// and whatever their callers send once they have begun. Of every server of `Server::new`, every
-/// client of `Client::new` and every list of events it says:
+/// client of `Client::new`, told to pass descriptors or not, and every list of events it says:
 ///
 /// - a server that has begun has a client that has begun;
 /// - a client that has begun has the server's GUID, and the server waits for BEGIN or has begun;
+/// - once the client has begun, both know the same of descriptors: that they agreed, if both were
+///   told to pass them, and else that they did not;
 /// - once the server has begun, what it has not taken of the bytes sent to it is all that the
 ///   client's caller sent after BEGIN; and once the client has begun, what it has not taken is all
 ///   that the server's caller sent;
-/// - the client's end sends at most two lines for each mechanism, and BEGIN.
+/// - the client's end sends at most two lines for each mechanism, NEGOTIATE_UNIX_FD if it was told
+///   to, and BEGIN.
 ///
 /// The transport has to neither lose, add nor reorder bytes.
 #[tactic(auto, using(crate::proofs::Handshake::handshake))]
 pub fn handshake_law()
-    ensures { (s : ServerMachine) (mechanisms : List ClientMechanism) (events : List Event) →
-        IsServer s → AllByRecursion IsMechanism mechanisms →
-        Handshake s mechanisms (run events (at_first s mechanisms)) }
+    ensures { (s : ServerMachine) (c : ClientMachine) (events : List Event) →
+        IsServer s → AllByRecursion IsMechanism c.left →
+        Handshake s c (run events (at_first s c)) }
 {}
 
 /// Whoever its peer is and whatever it sends, a server's end that has begun sent OK as its last
-/// line other than ERROR. And the lines that it sends and its last status do not depend on how the
-/// bytes are cut, if what a call leaves is passed again; some way to cut them comes to an end.
+/// line other than ERROR and, if it was told to pass descriptors, AGREE_UNIX_FD; and it reports
+/// that it agreed exactly if it sent AGREE_UNIX_FD after that OK. And the lines that it sends and
+/// its last status do not depend on how the bytes are cut, if what a call leaves is passed again;
+/// some way to cut them comes to an end.
 pub fn any_peer_law()
     ensures last_ok { (s : ServerMachine) (bytes ns : List ℕ) →
         (run_server (server_at_first s) bytes ns).after.status ≡ status.Begun →
-        LastIsOk s.guid (run_server (server_at_first s) bytes ns).said }
+        LastIsOk s (run_server (server_at_first s) bytes ns).after.machine.agreed
+        (run_server (server_at_first s) bytes ns).said }
     ensures any_cut { (s : ServerMachine) (bytes ns ms : List ℕ) →
         IsFinished (run_server (server_at_first s) bytes ns) →
         IsFinished (run_server (server_at_first s) bytes ms) →

@@ -18,8 +18,11 @@
 //!
 //! # This profile
 //!
-//! EXTERNAL and ANONYMOUS are the mechanisms. A server answers NEGOTIATE_UNIX_FD by ERROR, since no
-//! descriptors are passed. A line has at most 16,384 bytes with its CR LF.
+//! EXTERNAL and ANONYMOUS are the mechanisms. A line has at most 16,384 bytes with its CR LF. Unless
+//! told otherwise by [`Server::with_descriptors`], a server answers NEGOTIATE_UNIX_FD by ERROR; and
+//! a client sends it only if told to by [`Client::with_descriptors`]. [`ServerEnd::agreed`] and
+//! [`ClientEnd::agreed`] say what came of it. How descriptors then come with messages is up to the
+//! transport.
 //!
 //! All is from the D-Bus Specification, section "Authentication Protocol".
 #![tactic(auto)]

@@ -1,11 +1,11 @@
 //! The server's state machine. D-Bus Specification, "Authentication Protocol", "Authentication
 //! state diagrams", "Server states".
 
-ghost use Rattle.std.specs.Prelude.{◌≡◌, ◌++◌, ◌∷◌, [], ℕ, List, IfOk, OnOk, OnErr, map, codes, bytes_eq, ◌&&◌, if◌then◌else◌};
+ghost use Rattle.std.specs.Prelude.{◌≡◌, true, false, ◌++◌, ◌∷◌, [], ℕ, List, IfOk, OnOk, OnErr, map, codes, bytes_eq, ◌&&◌, if◌then◌else◌};
 ghost use Rattle.dbus_auth.specs.declared.states.ServerState.TheVariants as at;
-ghost use Rattle.dbus_auth.specs.Machines.{ServerMachine, IsServer, server_step, is_user, rejects, accepts, complains, is_empty, offers_external, server_step_at, waiting_for_auth, waiting_for_data, waiting_for_begin, by_mechanism};
+ghost use Rattle.dbus_auth.specs.Machines.{ServerMachine, IsServer, server_step, is_user, rejects, accepts, complains, negotiates, is_empty, offers_external, server_step_at, waiting_for_auth, waiting_for_data, waiting_for_begin, by_mechanism};
 ghost use Rattle.dbus_auth_lines.specs.Lines.{client_command, server_command};
-ghost use Rattle.dbus_auth.specs.ServerViews.{server_machine, server_action, shown_step, IsWaiting};
+ghost use Rattle.dbus_auth.specs.ServerViews.{server_machine, server_action, server_at, shown_step, IsWaiting};
 
 use crate::states::ServerState;
 use dbus_auth_lines::{ClientLine, Guid, ServerLine};
@@ -21,6 +21,16 @@ pub enum ServerAct<A: Allocator = Global> {
     Begin,
     /// The handshake failed. Nothing is sent, and the connection is to be closed.
     Disconnect,
+}
+
+/// The server's state, with whether it sent AGREE_UNIX_FD once it sent OK.
+#[derive(Clone, Copy, Drop)]
+pub enum ServerStage {
+    WaitingForAuth,
+    WaitingForData,
+    WaitingForBegin(bool),
+    Begun(bool),
+    Closed,
 }
 
 /// The server's state machine.
@@ -42,16 +52,18 @@ pub enum ServerAct<A: Allocator = Global> {
 /// | | anything else | ERROR | the same |
 /// | waiting for BEGIN | BEGIN | nothing | begun |
 /// | | CANCEL; ERROR | REJECTED | waiting for AUTH |
+/// | | NEGOTIATE_UNIX_FD, if it passes descriptors | AGREE_UNIX_FD | the same |
 /// | | anything else | ERROR | the same |
 ///
-/// D-Bus Specification, "Server states". That EXTERNAL without a response is asked for DATA, and
-/// that NEGOTIATE_UNIX_FD is answered by ERROR, are choices of this profile.
+/// D-Bus Specification, "Server states". That EXTERNAL without a response is asked for DATA is a
+/// choice of this profile.
 #[derive(Drop)]
 pub struct Server {
     guid: Guid,
     user: Option<u32>,
     anonymous: bool,
-    state: ServerState,
+    descriptors: bool,
+    stage: ServerStage,
 }
 
 impl Server {
@@ -59,14 +71,17 @@ impl Server {
     ///
     /// `user` is the client's user **as the transport reports it** (`SO_PEERCRED` of a Unix
     /// socket): EXTERNAL is offered if there is one, and lets in who names it in decimal or names
-    /// nobody. `anonymous` says whether ANONYMOUS is offered, which lets in everybody.
+    /// nobody. `anonymous` says whether ANONYMOUS is offered, which lets in everybody. It passes no
+    /// Unix file descriptors.
     pub fn new(guid: Guid, user: Option<u32>, anonymous: bool) -> Self
         ensures machine { server_machine result ≡
             record {
               guid = guid.0;
               user = user;
               anonymous = anonymous;
+              descriptors = false;
               state = at.WaitingForAuth;
+              agreed = false;
             } }
         // it is a server of the laws
         ensures server { IsServer (server_machine result) }
@@ -75,7 +90,21 @@ impl Server {
             guid,
             user,
             anonymous,
-            state: ServerState::WaitingForAuth,
+            descriptors: false,
+            stage: ServerStage::WaitingForAuth,
+        }
+    }
+
+    /// The same server, which passes Unix file descriptors or not. If it does, it answers
+    /// NEGOTIATE_UNIX_FD by AGREE_UNIX_FD once it has sent OK: for a transport that passes them, as
+    /// a Unix socket does. D-Bus Specification, "NEGOTIATE_UNIX_FD Command".
+    pub fn with_descriptors(self, descriptors: bool) -> Self
+        ensures { server_machine result ≡
+            record (server_machine self) { descriptors = descriptors } }
+    {
+        Server {
+            descriptors,
+            ..self
         }
     }
 
@@ -83,7 +112,24 @@ impl Server {
     pub fn state(&self) -> ServerState
         ensures { result ≡ (server_machine self.now).state }
     {
-        self.state
+        match self.stage {
+            ServerStage::WaitingForAuth => ServerState::WaitingForAuth,
+            ServerStage::WaitingForData => ServerState::WaitingForData,
+            ServerStage::WaitingForBegin(_) => ServerState::WaitingForBegin,
+            ServerStage::Begun(_) => ServerState::Begun,
+            ServerStage::Closed => ServerState::Closed,
+        }
+    }
+
+    /// Whether the server sent AGREE_UNIX_FD to the client that it accepted: messages of both sides
+    /// may then come with Unix file descriptors.
+    pub fn agreed(&self) -> bool
+        ensures { result ≡ (server_machine self.now).agreed }
+    {
+        match self.stage {
+            ServerStage::WaitingForBegin(agreed) | ServerStage::Begun(agreed) => agreed,
+            _ => false,
+        }
     }
 
     /// What the server does on a line, as the one row of its table says, and the state after it.
@@ -102,8 +148,7 @@ impl Server {
             (server_step (server_machine self.old) (client_command line)).action) }
         ensures next { OnOk result
             (server_machine self.new ≡
-            record (server_machine self.old)
-            { state = (server_step (server_machine self.old) (client_command line)).next }) }
+            (server_step (server_machine self.old) (client_command line)).next) }
         ensures err { OnErr result (server_machine self.new ≡ server_machine self.old) }
     {
         let (act, next) = self.step(alloc, &line)?;
@@ -117,24 +162,25 @@ impl Server {
         &self,
         alloc: A,
         line: &ClientLine<A>,
-    ) -> Result<(ServerAct<A>, ServerState), AllocError>
+    ) -> Result<(ServerAct<A>, ServerStage), AllocError>
         ensures { IfOk result (λ t.
-            shown_step t.0 t.1 ≡ server_step (server_machine self.now) (client_command line.now)) }
+            shown_step self.now t.0 t.1 ≡ server_step (server_machine self.now) (client_command line.now)) }
     {
-        match self.state() {
-            ServerState::WaitingForAuth => self.on_auth(alloc, line),
-            ServerState::WaitingForData => self.on_data(alloc, line),
-            ServerState::WaitingForBegin => self.on_begin(alloc, line),
-            ServerState::Begun => Ok((ServerAct::Disconnect, ServerState::Begun)),
-            ServerState::Closed => Ok((ServerAct::Disconnect, ServerState::Closed)),
+        match self.stage {
+            ServerStage::WaitingForAuth => self.on_auth(alloc, line),
+            ServerStage::WaitingForData => self.on_data(alloc, line),
+            ServerStage::WaitingForBegin(agreed) => self.on_begin(alloc, line, agreed),
+            ServerStage::Begun(_) | ServerStage::Closed => {
+                Ok((ServerAct::Disconnect, self.stage))
+            }
         }
     }
 
-    /// Goes to a state.
-    pub(crate) fn go_to(&mut self, state: ServerState)
-        ensures { server_machine self.new ≡ record (server_machine self.old) { state = state } }
+    /// Goes to a stage.
+    pub(crate) fn go_to(&mut self, stage: ServerStage)
+        ensures { server_machine self.new ≡ server_at self.old stage }
     {
-        self.state = state;
+        self.stage = stage;
     }
 
     /// What the server does on a line while it waits for AUTH, and the state after it.
@@ -142,19 +188,19 @@ impl Server {
         &self,
         alloc: A,
         line: &ClientLine<A>,
-    ) -> Result<(ServerAct<A>, ServerState), AllocError>
+    ) -> Result<(ServerAct<A>, ServerStage), AllocError>
         ensures { IfOk result (λ t.
-            shown_step t.0 t.1 ≡
+            shown_step self.now t.0 t.1 ≡
             waiting_for_auth (server_machine self.now) (client_command line.now)) }
     {
         match line {
             ClientLine::AuthBy { mech, response } => self.by_mechanism(alloc, mech, response),
             ClientLine::Auth | ClientLine::Error(_) => self.reject(alloc),
-            ClientLine::Begin => Ok((ServerAct::Disconnect, ServerState::Closed)),
+            ClientLine::Begin => Ok((ServerAct::Disconnect, ServerStage::Closed)),
             ClientLine::Cancel
             | ClientLine::DataOf(_)
             | ClientLine::Negotiate
-            | ClientLine::Other => Ok(complaint(alloc, ServerState::WaitingForAuth)),
+            | ClientLine::Other => Ok(self.complain(alloc)),
         }
     }
 
@@ -163,9 +209,9 @@ impl Server {
         &self,
         alloc: A,
         line: &ClientLine<A>,
-    ) -> Result<(ServerAct<A>, ServerState), AllocError>
+    ) -> Result<(ServerAct<A>, ServerStage), AllocError>
         ensures { IfOk result (λ t.
-            shown_step t.0 t.1 ≡
+            shown_step self.now t.0 t.1 ≡
             waiting_for_data (server_machine self.now) (client_command line.now)) }
     {
         match line {
@@ -177,32 +223,34 @@ impl Server {
                 }
             }
             ClientLine::Cancel | ClientLine::Error(_) => self.reject(alloc),
-            ClientLine::Begin => Ok((ServerAct::Disconnect, ServerState::Closed)),
+            ClientLine::Begin => Ok((ServerAct::Disconnect, ServerStage::Closed)),
             ClientLine::Auth
             | ClientLine::AuthBy { .. }
             | ClientLine::Negotiate
-            | ClientLine::Other => Ok(complaint(alloc, ServerState::WaitingForData)),
+            | ClientLine::Other => Ok(self.complain(alloc)),
         }
     }
 
-    /// The same while it waits for BEGIN.
+    /// The same while it waits for BEGIN, and has agreed or not.
     fn on_begin<A: Allocator + Copy>(
         &self,
         alloc: A,
         line: &ClientLine<A>,
-    ) -> Result<(ServerAct<A>, ServerState), AllocError>
+        agreed: bool,
+    ) -> Result<(ServerAct<A>, ServerStage), AllocError>
+        requires { agreed ≡ (server_machine self.now).agreed }
         ensures { IfOk result (λ t.
-            shown_step t.0 t.1 ≡
+            shown_step self.now t.0 t.1 ≡
             waiting_for_begin (server_machine self.now) (client_command line.now)) }
     {
         match line {
-            ClientLine::Begin => Ok((ServerAct::Begin, ServerState::Begun)),
+            ClientLine::Begin => Ok((ServerAct::Begin, ServerStage::Begun(agreed))),
             ClientLine::Cancel | ClientLine::Error(_) => self.reject(alloc),
+            ClientLine::Negotiate => Ok(self.negotiate(alloc)),
             ClientLine::Auth
             | ClientLine::AuthBy { .. }
             | ClientLine::DataOf(_)
-            | ClientLine::Negotiate
-            | ClientLine::Other => Ok(complaint(alloc, ServerState::WaitingForBegin)),
+            | ClientLine::Other => Ok(self.complain(alloc)),
         }
     }
 
@@ -212,15 +260,15 @@ impl Server {
         alloc: A,
         mech: &[u8],
         response: &[u8],
-    ) -> Result<(ServerAct<A>, ServerState), AllocError>
+    ) -> Result<(ServerAct<A>, ServerStage), AllocError>
         ensures { IfOk result (λ t.
-            shown_step t.0 t.1 ≡ by_mechanism (server_machine self.now) mech.now response.now) }
+            shown_step self.now t.0 t.1 ≡ by_mechanism (server_machine self.now) mech.now response.now) }
     {
         let wants_data = self.wants_data(mech, response);
         let knows_user = self.knows_user(alloc, mech, response)?;
         if wants_data {
             let nothing = ServerLine::DataOf(Vec::new(alloc));
-            Ok((ServerAct::Send(nothing), ServerState::WaitingForData))
+            Ok((ServerAct::Send(nothing), ServerStage::WaitingForData))
         } else if knows_user {
             Ok(self.accept())
         } else if self.lets_in(mech) {
@@ -264,12 +312,12 @@ impl Server {
     }
 
     /// The client is let in: OK.
-    fn accept<A: Allocator>(&self) -> (ServerAct<A>, ServerState)
-        ensures { shown_step result.0 result.1 ≡ accepts (server_machine self.now) }
+    fn accept<A: Allocator>(&self) -> (ServerAct<A>, ServerStage)
+        ensures { shown_step self.now result.0 result.1 ≡ accepts (server_machine self.now) }
     {
         (
             ServerAct::Send(ServerLine::Accepted(self.guid)),
-            ServerState::WaitingForBegin,
+            ServerStage::WaitingForBegin(false),
         )
     }
 
@@ -277,22 +325,39 @@ impl Server {
     fn reject<A: Allocator + Copy>(
         &self,
         alloc: A,
-    ) -> Result<(ServerAct<A>, ServerState), AllocError>
-        ensures { IfOk result (λ t. shown_step t.0 t.1 ≡ rejects (server_machine self.now)) }
+    ) -> Result<(ServerAct<A>, ServerStage), AllocError>
+        ensures { IfOk result (λ t. shown_step self.now t.0 t.1 ≡ rejects (server_machine self.now)) }
     {
         let words = offered(alloc, self.user.is_some(), self.anonymous)?;
         Ok((
             ServerAct::Send(ServerLine::Rejected(words)),
-            ServerState::WaitingForAuth,
+            ServerStage::WaitingForAuth,
         ))
     }
-}
 
-/// The line makes no sense in this state: ERROR, and the state stays.
-fn complaint<A: Allocator>(alloc: A, state: ServerState) -> (ServerAct<A>, ServerState)
-    ensures { shown_step result.0 result.1 ≡ complains state }
-{
-    (ServerAct::Send(ServerLine::Error(Vec::new(alloc))), state)
+    /// The client, which was let in, asks for descriptors.
+    fn negotiate<A: Allocator>(&self, alloc: A) -> (ServerAct<A>, ServerStage)
+        ensures { shown_step self.now result.0 result.1 ≡ negotiates (server_machine self.now) }
+    {
+        if self.descriptors {
+            (
+                ServerAct::Send(ServerLine::Agree),
+                ServerStage::WaitingForBegin(true),
+            )
+        } else {
+            self.complain(alloc)
+        }
+    }
+
+    /// The line makes no sense in this state: ERROR, and the state stays.
+    fn complain<A: Allocator>(&self, alloc: A) -> (ServerAct<A>, ServerStage)
+        ensures { shown_step self.now result.0 result.1 ≡ complains (server_machine self.now) }
+    {
+        (
+            ServerAct::Send(ServerLine::Error(Vec::new(alloc))),
+            self.stage,
+        )
+    }
 }
 
 /// Whether the response is the decimal text of the user.

@@ -97,4 +97,11 @@ impl<A: Allocator + Copy> ServerEnd<A> {
     {
         self.end.take(piece)
     }
+
+    /// Whether both ends agreed to pass Unix file descriptors: see [`Server::agreed`].
+    pub fn agreed(&self) -> bool
+        ensures { result ≡ (server_end_state self.now).machine.agreed }
+    {
+        self.end.machine.agreed()
+    }
 }

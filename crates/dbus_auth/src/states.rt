@@ -25,6 +25,8 @@ pub enum ClientState {
     WaitingForData,
     /// It said who it is, and waits for OK.
     WaitingForOk,
+    /// It was accepted, sent NEGOTIATE_UNIX_FD, and waits for AGREE_UNIX_FD.
+    WaitingForAgree,
     /// It sent CANCEL, and waits for REJECTED.
     WaitingForReject,
     /// It sent BEGIN: what follows are messages.

@@ -5,7 +5,7 @@ use Rattle.std.specs.declared.alloc.AllocError.{AllocError}
 use Rattle.hex.specs.Hex.{encode_lower}
 use Rattle.dbus_auth.specs.declared.end_step.Status.{Status}
 use Rattle.dbus_auth.specs.declared.end_step.Status.TheVariants as status
-use Rattle.dbus_c_auth.specs.Handshakes.{guid_in}
+use Rattle.dbus_c_auth.specs.Handshakes.{agreed_in, guid_in}
 use Rattle.dbus_c_auth.specs.declared.guid_text.TheConstants.{GUID_ROOM}
 use Rattle.dbus_c_auth.specs.declared.handshake.Handshake.{Handshake}
 use Rattle.dbus_c_auth.specs.declared.step.Step.{Step}
@@ -81,6 +81,11 @@ IsGuidTold (Some guid) answer old new = IsGuidWritten guid answer old new
 abbrev pub TellsGuidText : Option Handshake → ℕ → List ℕ → List ℕ → Type 0
 TellsGuidText None answer old new = (answer ≡ NO_HANDSHAKE) × (new ≡ old)
 TellsGuidText (Some h) answer old new = IsGuidTold (guid_in h) answer old new
+
+-- whether both ends agreed to pass descriptors, by the end that is kept
+abbrev pub agreed_told : Option Handshake → ℕ
+agreed_told None = NO_HANDSHAKE
+agreed_told (Some h) = if agreed_in h then WHOLE else NO_VALUE
 
 -- What is told by numbers of the first line of what one side of a handshake sends. D-Bus
 -- Specification, "Authentication Protocol", "Protocol Overview" and the section of each command.

@@ -2,7 +2,7 @@
 #![tactic(auto)]
 
 ghost use Rattle.std.specs.Prelude.{◌≡◌, None};
-ghost use Rattle.dbus_c.specs.Handshakes.{IsEndMade, TellsGuidText, TellsStep, fault_number, made_told, number_of, step_told};
+ghost use Rattle.dbus_c.specs.Handshakes.{IsEndMade, TellsGuidText, TellsStep, agreed_told, fault_number, made_told, number_of, step_told};
 ghost use Rattle.dbus_c_auth.specs.Handshakes.{client_made, server_made};
 ghost use Rattle.dbus_c_handle.specs.Checkers.{handshake_of};
 
@@ -85,10 +85,10 @@ pub extern "C" fn dbus_wire_handshake_take(
     }
 }
 
-/// Writes the server's GUID of a client that has begun, as 32 hexadecimal digits in lower case, to
-/// the start of `out`: [`WHOLE`]. Else `out` stays as it is: [`NO_VALUE`] if no client has begun,
-/// [`NO_ROOM`] if there is room for fewer, [`NO_HANDSHAKE`] if there is no end. D-Bus
-/// Specification, "OK Command".
+/// Writes the GUID of the server that accepted the client, as 32 hexadecimal digits in lower case,
+/// to the start of `out`: [`WHOLE`]. Else `out` stays as it is: [`NO_VALUE`] if none did or the end
+/// is a server's, [`NO_ROOM`] if there is room for fewer, [`NO_HANDSHAKE`] if there is no end.
+/// D-Bus Specification, "OK Command".
 #[unsafe(no_mangle)]
 pub extern "C" fn dbus_wire_handshake_guid(handshake: &mut WireHandle, out: &mut [u8]) -> u32
     ensures same { handshake.new.state ≡ handshake.old.state }
@@ -104,6 +104,21 @@ pub extern "C" fn dbus_wire_handshake_guid(handshake: &mut WireHandle, out: &mut
                 NO_ROOM
             }
         }
+    }
+}
+
+/// [`WHOLE`] if both ends agreed to pass Unix file descriptors, so that messages may come with some
+/// from then on; [`NO_VALUE`] if not, or not yet; [`NO_HANDSHAKE`] if there is no end. D-Bus
+/// Specification, "NEGOTIATE_UNIX_FD Command", "AGREE_UNIX_FD Command".
+#[unsafe(no_mangle)]
+pub extern "C" fn dbus_wire_handshake_agreed(handshake: &mut WireHandle) -> u32
+    ensures same { handshake.new.state ≡ handshake.old.state }
+    ensures told { result ≡ agreed_told (handshake_of handshake.old.state) }
+{
+    match handshake.agreed() {
+        None => NO_HANDSHAKE,
+        Some(true) => WHOLE,
+        Some(false) => NO_VALUE,
     }
 }
 

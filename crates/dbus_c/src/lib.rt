@@ -54,8 +54,8 @@ pub use flattening::{dbus_wire_flatten, dbus_wire_flatten_fields};
 pub use given_limits::{ANY_INDEX, INDEX_BELOW_COUNT, WireLimits, dbus_wire_specification_limits};
 pub use handshake_lines::{HandshakeLine, dbus_wire_client_line, dbus_wire_server_line};
 pub use handshakes::{
-    HandshakeStep, dbus_wire_client_new, dbus_wire_handshake_free, dbus_wire_handshake_guid,
-    dbus_wire_handshake_take, dbus_wire_server_new,
+    HandshakeStep, dbus_wire_client_new, dbus_wire_handshake_agreed, dbus_wire_handshake_free,
+    dbus_wire_handshake_guid, dbus_wire_handshake_take, dbus_wire_server_new,
 };
 pub use names::{dbus_wire_reason_name, names_are_texts};
 pub use parts::{TextPlace, WireParts, dbus_wire_parts_of};

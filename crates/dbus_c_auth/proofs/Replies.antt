@@ -11,7 +11,7 @@ use Rattle.dbus_auth_lines.specs.ServerCommands as server
 use Rattle.dbus_auth_lines.specs.Lines.{hex_word, server_line, client_line, ended, crlf, client_meaning, server_meaning}
 use Rattle.dbus_auth_lines.specs.Cut.{Cut, Ends, Bad, More, cut}
 use Rattle.dbus_auth_lines.proofs.PrintedWords.{length-hex_word}
-use Rattle.dbus_auth.specs.Machines.{ServerMachine, ServerStep, IsServer, server_step, server_step_at, by_mechanism, rejects, accepts, replies, is_user, is_empty, offers_external, external_words, ClientMachine, ClientMechanism, External, Anonymous, ClientStep, client_step, client_step_at, auth_line, next_of, IsMechanism}
+use Rattle.dbus_auth.specs.Machines.{ServerMachine, ServerStep, IsServer, server_step, server_step_at, by_mechanism, rejects, accepts, replies, is_user, is_empty, offers_external, external_words, ClientMachine, ClientMechanism, External, Anonymous, ClientStep, client_step, client_step_at, auth_line, next_among, IsMechanism}
 use Rattle.dbus_auth.specs.Ends.{EndState, ServerEndState, ClientEndState, EndOutcome, Turn, cuts, takes, server_sends, server_turn, server_takes, client_sends, client_turn, client_greets, client_starts, status_after}
 use Rattle.dbus_auth.proofs.Stages.{takes_by}
 use Rattle.dbus_c_auth.specs.Handshakes.{client_goes_on, client_goes_on_at}
@@ -22,8 +22,9 @@ use Rattle.dbus_auth.specs.declared.states.ClientState.TheVariants as now
 use Rattle.dbus_auth.specs.declared.end_step.Status.TheVariants as status
 use Rattle.dbus_c_auth.specs.declared.step.TheConstants.{REPLY_ROOM}
 
+-- a step sends little, and leaves a server of the laws
 abbrev pub Short : ServerStep → Type 0
-Short step = length (server_sends step.action) ≤ REPLY_ROOM
+Short step = (length (server_sends step.action) ≤ REPLY_ROOM) × IsServer step.next
 
 either : (b : Bool) (x y : ServerStep) → Short x → Short y → Short (if b then x else y)
 either true x y p q = p
@@ -40,46 +41,49 @@ rejected None false = lit≤ tt
 rejected (Some n) true = lit≤ tt
 rejected (Some n) false = lit≤ tt
 
-module _ (s : ServerMachine) (is : length s.guid ≡ 16) where
+module _ (s : ServerMachine) (is : IsServer s) where
+  server_is : (state : ServerState) (agreed : Bool) → IsServer (record s { state = state; agreed = agreed })
+  server_is state agreed = record { guid = is.guid; bytes = is.bytes; user = is.user }
+
   no : Short (rejects s)
-  no = rejected s.user s.anonymous
+  no = (rejected s.user s.anonymous, server_is at.WaitingForAuth false)
 
   yes : Short (accepts s)
-  yes = omega (arith, is, length-append (hex_word s.guid) crlf, length-hex_word s.guid)
+  yes = (omega (arith, is.guid, length-append (hex_word s.guid) crlf, length-hex_word s.guid), server_is at.WaitingForBegin false)
 
   named : (mech response : List ℕ) → Short (by_mechanism s mech response)
   named mech response =
       let external = bytes_eq mech (codes "EXTERNAL") in
       three (external && offers_external s.user && is_empty response) (external && is_user s.user response)
-      (bytes_eq mech (codes "ANONYMOUS") && s.anonymous) (replies (server.DataOf []) at.WaitingForData) (accepts s) (rejects s) (lit≤ tt) yes no
+      (bytes_eq mech (codes "ANONYMOUS") && s.anonymous) (replies s (server.DataOf []) at.WaitingForData) (accepts s) (rejects s) (lit≤ tt, server_is at.WaitingForData false) yes no
 
   short_at : (state : ServerState) (line : ClientCommand) → Short (server_step_at s state line)
   short_at at.WaitingForAuth (client.AuthBy mech response) = named mech response
   short_at at.WaitingForAuth client.Auth = no
   short_at at.WaitingForAuth (client.Error text) = no
-  short_at at.WaitingForAuth client.Begin = lit≤ tt
-  short_at at.WaitingForAuth client.Cancel = lit≤ tt
-  short_at at.WaitingForAuth (client.DataOf bytes) = lit≤ tt
-  short_at at.WaitingForAuth client.Negotiate = lit≤ tt
-  short_at at.WaitingForAuth client.Other = lit≤ tt
+  short_at at.WaitingForAuth client.Begin = (lit≤ tt, server_is at.Closed false)
+  short_at at.WaitingForAuth client.Cancel = (lit≤ tt, is)
+  short_at at.WaitingForAuth (client.DataOf bytes) = (lit≤ tt, is)
+  short_at at.WaitingForAuth client.Negotiate = (lit≤ tt, is)
+  short_at at.WaitingForAuth client.Other = (lit≤ tt, is)
   short_at at.WaitingForData (client.DataOf bytes) = either (is_empty bytes || is_user s.user bytes) (accepts s) (rejects s) yes no
   short_at at.WaitingForData client.Cancel = no
   short_at at.WaitingForData (client.Error text) = no
-  short_at at.WaitingForData client.Begin = lit≤ tt
-  short_at at.WaitingForData client.Auth = lit≤ tt
-  short_at at.WaitingForData (client.AuthBy mech response) = lit≤ tt
-  short_at at.WaitingForData client.Negotiate = lit≤ tt
-  short_at at.WaitingForData client.Other = lit≤ tt
-  short_at at.WaitingForBegin client.Begin = lit≤ tt
+  short_at at.WaitingForData client.Begin = (lit≤ tt, server_is at.Closed false)
+  short_at at.WaitingForData client.Auth = (lit≤ tt, is)
+  short_at at.WaitingForData (client.AuthBy mech response) = (lit≤ tt, is)
+  short_at at.WaitingForData client.Negotiate = (lit≤ tt, is)
+  short_at at.WaitingForData client.Other = (lit≤ tt, is)
+  short_at at.WaitingForBegin client.Begin = (lit≤ tt, server_is at.Begun s.agreed)
   short_at at.WaitingForBegin client.Cancel = no
   short_at at.WaitingForBegin (client.Error text) = no
-  short_at at.WaitingForBegin client.Auth = lit≤ tt
-  short_at at.WaitingForBegin (client.AuthBy mech response) = lit≤ tt
-  short_at at.WaitingForBegin (client.DataOf bytes) = lit≤ tt
-  short_at at.WaitingForBegin client.Negotiate = lit≤ tt
-  short_at at.WaitingForBegin client.Other = lit≤ tt
-  short_at at.Begun line = lit≤ tt
-  short_at at.Closed line = lit≤ tt
+  short_at at.WaitingForBegin client.Auth = (lit≤ tt, is)
+  short_at at.WaitingForBegin (client.AuthBy mech response) = (lit≤ tt, is)
+  short_at at.WaitingForBegin (client.DataOf bytes) = (lit≤ tt, is)
+  short_at at.WaitingForBegin client.Negotiate = either s.descriptors _ _ (lit≤ tt, server_is at.WaitingForBegin true) (lit≤ tt, is)
+  short_at at.WaitingForBegin client.Other = (lit≤ tt, is)
+  short_at at.Begun line = (lit≤ tt, is)
+  short_at at.Closed line = (lit≤ tt, is)
 
 -- ---- an end
 
@@ -99,10 +103,9 @@ module _ {M : Type 0} (turn : M → List ℕ → Turn M) (P : M → Type 0) (sho
   end_reply piece =
       takes_by turn (Reply P) e (record { fits = lit≤ tt; machine = is }) (record { fits = lit≤ tt; machine = is }) (λ skipped bs. at_cut skipped bs (cut (e.kept ++ bs))) piece
 
--- it leaves the server as it was made
 server_short : (s : ServerMachine) (line : List ℕ) → IsServer s → (length (server_turn s line).send ≤ REPLY_ROOM) × IsServer (server_turn s line).next
 unfolding server_step
-server_short s line is = (short_at s is.guid s.state (client_meaning line), record { guid = is.guid; bytes = is.bytes; user = is.user })
+server_short s line is = short_at s is s.state (client_meaning line)
 
 pub server_reply : (e : ServerEndState) → IsServer e.machine → (piece : List ℕ) → Reply IsServer (server_takes e piece)
 server_reply = end_reply server_turn IsServer server_short
@@ -120,27 +123,37 @@ auth_short (External (Some n)) h =
     omega (arith, length-append (hex_word (decimal n)) crlf, length-hex_word (decimal n), length-decimal-le 20 n (omega arith) (omega arith) small)
 auth_short (Anonymous trace) h = omega (arith, length-append (hex_word trace) crlf, length-hex_word trace, h.0)
 
-tries_next : (left : List ClientMechanism) → AllByRecursion IsMechanism left → Tries (next_of left)
-tries_next [] h = (lit≤ tt, tt)
-tries_next (m ∷ ms) h = (auth_short m h.0, h.1)
+tries_next : (descriptors : Bool) (left : List ClientMechanism) → AllByRecursion IsMechanism left → Tries (next_among descriptors left)
+tries_next descriptors [] h = (lit≤ tt, tt)
+tries_next descriptors (m ∷ ms) h = (auth_short m h.0, h.1)
+
+tries_either : (b : Bool) (x y : ClientStep) → Tries x → Tries y → Tries (if b then x else y)
+tries_either true x y p q = p
+tries_either false x y p q = q
 
 module _ (c : ClientMachine) (h : AllByRecursion IsMechanism c.left) where
   tries_at : (state : ClientState) (line : ServerCommand) → Tries (client_step_at c state line)
   tries_at now.WaitingForData (server.DataOf bytes) = (lit≤ tt, h)
-  tries_at now.WaitingForData (server.Accepted guid) = (lit≤ tt, h)
-  tries_at now.WaitingForData (server.Rejected words) = tries_next c.left h
+  tries_at now.WaitingForData (server.Accepted guid) = tries_either c.descriptors _ _ (lit≤ tt, h) (lit≤ tt, h)
+  tries_at now.WaitingForData (server.Rejected words) = tries_next c.descriptors c.left h
   tries_at now.WaitingForData (server.Error text) = (lit≤ tt, h)
   tries_at now.WaitingForData server.Agree = (lit≤ tt, h)
   tries_at now.WaitingForData server.Other = (lit≤ tt, h)
   tries_at now.WaitingForOk (server.DataOf bytes) = (lit≤ tt, h)
-  tries_at now.WaitingForOk (server.Accepted guid) = (lit≤ tt, h)
-  tries_at now.WaitingForOk (server.Rejected words) = tries_next c.left h
+  tries_at now.WaitingForOk (server.Accepted guid) = tries_either c.descriptors _ _ (lit≤ tt, h) (lit≤ tt, h)
+  tries_at now.WaitingForOk (server.Rejected words) = tries_next c.descriptors c.left h
   tries_at now.WaitingForOk (server.Error text) = (lit≤ tt, h)
   tries_at now.WaitingForOk server.Agree = (lit≤ tt, h)
   tries_at now.WaitingForOk server.Other = (lit≤ tt, h)
+  tries_at now.WaitingForAgree (server.DataOf bytes) = (lit≤ tt, h)
+  tries_at now.WaitingForAgree (server.Accepted guid) = (lit≤ tt, h)
+  tries_at now.WaitingForAgree (server.Rejected words) = tries_next c.descriptors c.left h
+  tries_at now.WaitingForAgree (server.Error text) = (lit≤ tt, h)
+  tries_at now.WaitingForAgree server.Agree = (lit≤ tt, h)
+  tries_at now.WaitingForAgree server.Other = (lit≤ tt, h)
   tries_at now.WaitingForReject (server.DataOf bytes) = (lit≤ tt, h)
   tries_at now.WaitingForReject (server.Accepted guid) = (lit≤ tt, h)
-  tries_at now.WaitingForReject (server.Rejected words) = tries_next c.left h
+  tries_at now.WaitingForReject (server.Rejected words) = tries_next c.descriptors c.left h
   tries_at now.WaitingForReject (server.Error text) = (lit≤ tt, h)
   tries_at now.WaitingForReject server.Agree = (lit≤ tt, h)
   tries_at now.WaitingForReject server.Other = (lit≤ tt, h)
@@ -156,23 +169,23 @@ client_short : (c : ClientMachine) (line : List ℕ) → CanTry c → (length (c
 unfolding client_step
 client_short c line h = let tries = tries_at c h c.state (server_meaning line) in (omega (arith, tries.0), tries.1)
 
-greets : (left : List ClientMechanism) → AllByRecursion IsMechanism left → length (client_greets (next_of left).action) ≤ REPLY_ROOM
-greets [] h = lit≤ tt
-greets (m ∷ ms) h = omega (arith, auth_short m h.0)
+greets : (descriptors : Bool) (left : List ClientMechanism) → AllByRecursion IsMechanism left → length (client_greets (next_among descriptors left).action) ≤ REPLY_ROOM
+greets descriptors [] h = lit≤ tt
+greets descriptors (m ∷ ms) h = omega (arith, auth_short m h.0)
 
 pub client_reply : (e : ClientEndState) → CanTry e.machine → (piece : List ℕ) (started : Bool) → Reply CanTry (client_goes_on_at e piece started)
 unfolding client_starts
 client_reply e h piece true = end_reply client_turn CanTry client_short e h piece
-client_reply e h piece false = record { fits = greets e.machine.left h; machine = (tries_next e.machine.left h).1 }
+client_reply e h piece false = record { fits = greets e.machine.descriptors e.machine.left h; machine = (tries_next e.machine.descriptors e.machine.left h).1 }
 
-greeted_as : (left : List ClientMechanism) → (if is_empty (client_greets (next_of left).action) then status.Closed else status.Talking) ≡ status_after (next_of left).action
-greeted_as [] = refl
-greeted_as (m ∷ ms) = refl
+greeted_as : (descriptors : Bool) (left : List ClientMechanism) → (if is_empty (client_greets (next_among descriptors left).action) then status.Closed else status.Talking) ≡ status_after (next_among descriptors left).action
+greeted_as descriptors [] = refl
+greeted_as descriptors (m ∷ ms) = refl
 
 -- an end takes nothing at its start; without a mechanism it sends nothing, and is closed
 pub starts_as : (e : ClientEndState) → (0 ≡ (client_starts e).taken) × ((if is_empty (client_starts e).send then status.Closed else status.Talking) ≡ (client_starts e).after.status)
 unfolding client_starts
-starts_as e = (refl, greeted_as e.machine.left)
+starts_as e = (refl, greeted_as e.machine.descriptors e.machine.left)
 
 -- an end that has not started starts
 pub first_call : (e e' : ClientEndState) (piece : List ℕ) → e ≡ e' → e.started ≡ false → client_starts e ≡ client_goes_on e' piece

@@ -6,12 +6,14 @@ use Rattle.hex.specs.declared.error.FromHexError.{FromHexError}
 use Rattle.dbus_auth.specs.Ends.{ClientEndState, EndOutcome, client_starts, client_takes, ServerEndState, server_takes}
 use Rattle.dbus_auth.specs.declared.end_step.Status.{Status}
 use Rattle.dbus_auth.specs.World.{server_at_first, client_at_first}
+use Rattle.dbus_auth.specs.Machines.{unaccepted}
 use Rattle.dbus_auth.specs.declared.states.ServerState.TheVariants as at
+use Rattle.dbus_auth.specs.declared.states.ClientState.TheVariants as now
 use Rattle.dbus_c_auth.specs.declared.step.Step.{Step}
 use Rattle.dbus_c_auth.specs.declared.step.TakeFault.{TakeFault}
 use Rattle.dbus_c_auth.specs.declared.step.TakeFault.TheVariants as fault
 use Rattle.dbus_c_auth.specs.declared.step.TheConstants.{REPLY_ROOM}
-use Rattle.dbus_c_auth.specs.Mechanisms.{user_reported, is_anonymous, asked_for}
+use Rattle.dbus_c_auth.specs.Mechanisms.{user_reported, is_anonymous, passes_descriptors, asked_for}
 use Rattle.dbus_c_auth.specs.declared.mechanisms.Mechanisms.{Mechanisms}
 use Rattle.dbus_c_auth.specs.declared.handshake.Handshake.{Handshake}
 use Rattle.dbus_c_auth.specs.declared.handshake.Handshake.TheVariants as end
@@ -58,12 +60,20 @@ client_goes_on e piece = client_goes_on_at e piece e.started
 
 -- the end of a server of this GUID that was handed nothing, and offers these mechanisms
 abbrev pub server_of : List ℕ → Mechanisms → ServerEndState
-server_of guid m = server_at_first (record { guid = guid; user = user_reported m; anonymous = is_anonymous m; state = at.WaitingForAuth })
+server_of guid m = server_at_first (record {
+  guid = guid;
+  user = user_reported m;
+  anonymous = is_anonymous m;
+  descriptors = passes_descriptors m;
+  state = at.WaitingForAuth;
+  agreed = false;
+})
 
 -- the end of a client that has not started, and asks for these mechanisms; there is none if the
 -- trace of ANONYMOUS is too long
 abbrev pub client_of : Mechanisms → List ℕ → Option ClientEndState
-client_of m trace = if nat_le (length trace) 255 then Some (client_at_first (asked_for m trace)) else None
+client_of m trace =
+    if nat_le (length trace) 255 then Some (client_at_first (unaccepted (passes_descriptors m) now.Fresh (asked_for m trace))) else None
 
 -- the same, as ends of handshakes: the server's GUID is given by its text
 abbrev pub server_made : List ℕ → Mechanisms → Option Handshake
@@ -87,10 +97,15 @@ abbrev pub stands_as : Handshake → Status
 stands_as (end.Server e) = e.status
 stands_as (end.Client e) = e.status
 
--- the server's GUID, of a client that has begun
+-- the server's GUID, of a client that it has accepted
 abbrev pub guid_in : Handshake → Option (List ℕ)
 guid_in (end.Server e) = None
 guid_in (end.Client e) = e.machine.guid
+
+-- whether both ends agreed to pass descriptors
+abbrev pub agreed_in : Handshake → Bool
+agreed_in (end.Server e) = e.machine.agreed
+agreed_in (end.Client e) = e.machine.agreed
 
 -- an end takes a piece, and what it sends is written to the room; or nothing is changed
 abbrev pub TakesIn : Handshake → Handshake → List ℕ → List ℕ → List ℕ → Result Step TakeFault → Type 0

@@ -15,6 +15,10 @@ user_reported m = if m.external == AS_USER then Some m.user else None
 abbrev pub is_anonymous : Mechanisms → Bool
 is_anonymous m = m.anonymous == 1
 
+-- of either: whether it passes Unix file descriptors, if the other one does
+abbrev pub passes_descriptors : Mechanisms → Bool
+passes_descriptors m = m.descriptors == 1
+
 -- of a client: EXTERNAL first, then ANONYMOUS with this trace
 abbrev pub external_of : Mechanisms → List ClientMechanism
 external_of m =

@@ -60,7 +60,10 @@ impl ClientSide {
         match Client::new(mechanisms.asked_for(alloc, trace)?) {
             Err(_) => Ok(None),
             Ok(client) => Ok(Some(ClientSide {
-                end: ClientEnd::new(alloc, client),
+                end: ClientEnd::new(
+                    alloc,
+                    client.with_descriptors(mechanisms.passes_descriptors()),
+                ),
                 started: false,
             })),
         }
@@ -85,11 +88,18 @@ impl ClientSide {
         Ok(step_in(&step, reply))
     }
 
-    /// The server's GUID, once the client has begun.
+    /// The GUID of the server, once it has accepted the client.
     pub fn guid(&self) -> Option<Guid>
         ensures { option_map (λ g. g.0) result ≡ self.now.machine.guid }
     {
         self.end.guid()
+    }
+
+    /// Whether both ends agreed to pass descriptors, as [`ClientEnd::agreed`] says.
+    pub fn agreed(&self) -> bool
+        ensures { result ≡ self.now.machine.agreed }
+    {
+        self.end.agreed()
     }
 
     /// Starts the end, or hands it the piece.

@@ -2,7 +2,7 @@
 #![tactic(auto)]
 
 ghost use Rattle.std.specs.Prelude.{◌≡◌, option_map};
-ghost use Rattle.dbus_c_auth.specs.Handshakes.{TakesIn, guid_in};
+ghost use Rattle.dbus_c_auth.specs.Handshakes.{TakesIn, agreed_in, guid_in};
 
 use crate::client_side::ClientSide;
 use crate::server_side::ServerSide;
@@ -33,13 +33,23 @@ impl Handshake {
         }
     }
 
-    /// The server's GUID, of a client that has begun.
+    /// The server's GUID, of a client that it has accepted.
     pub fn guid(&self) -> Option<Guid>
         ensures { option_map (λ g. g.0) result ≡ guid_in self.now }
     {
         match self {
             Handshake::Server(_) => None,
             Handshake::Client(client) => client.guid(),
+        }
+    }
+
+    /// Whether both ends agreed to pass descriptors.
+    pub fn agreed(&self) -> bool
+        ensures { result ≡ agreed_in self.now }
+    {
+        match self {
+            Handshake::Server(server) => server.agreed(),
+            Handshake::Client(client) => client.agreed(),
         }
     }
 }

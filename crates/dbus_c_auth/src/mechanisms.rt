@@ -4,7 +4,7 @@
 ghost use Rattle.std.specs.Prelude.{◌≡◌, ◌≤◌, ℕ, true, IfOk, length, map};
 ghost use Rattle.std.specs.List.{list_all};
 ghost use Rattle.dbus_auth.specs.ClientViews.{client_mechanism, is_short};
-ghost use Rattle.dbus_c_auth.specs.Mechanisms.{asked_for, user_reported, is_anonymous};
+ghost use Rattle.dbus_c_auth.specs.Mechanisms.{asked_for, passes_descriptors, user_reported, is_anonymous};
 
 use dbus_auth::Mechanism;
 use std::alloc::{AllocError, Global};
@@ -15,7 +15,7 @@ pub const AS_USER: u32 = 1;
 /// EXTERNAL, as the user that the transport reports to the server: the client names none.
 pub const AS_REPORTED: u32 = 2;
 
-/// Which mechanisms a server offers, or a client asks for.
+/// Which mechanisms a server offers, or a client asks for, and whether it passes descriptors.
 #[repr(C)]
 #[derive(Clone, Copy, Drop)]
 pub struct Mechanisms {
@@ -26,8 +26,9 @@ pub struct Mechanisms {
     pub user: u32,
     /// 1: ANONYMOUS. Any other number: no ANONYMOUS.
     pub anonymous: u32,
-    /// Nothing yet.
-    pub reserved: u32,
+    /// 1: Unix file descriptors. A server agrees to pass them, and a client asks for it. Any other
+    /// number: no descriptors.
+    pub descriptors: u32,
 }
 
 impl Mechanisms {
@@ -46,6 +47,13 @@ impl Mechanisms {
         ensures { result ≡ is_anonymous self.now }
     {
         self.anonymous == 1
+    }
+
+    /// Whether descriptors are passed, if the other end does.
+    pub(crate) fn passes_descriptors(&self) -> bool
+        ensures { result ≡ passes_descriptors self.now }
+    {
+        self.descriptors == 1
     }
 
     /// What a client asks for, with this trace of ANONYMOUS: EXTERNAL first.

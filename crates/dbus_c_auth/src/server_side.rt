@@ -39,10 +39,21 @@ impl ServerSide {
     pub fn new(alloc: Global, guid: Guid, mechanisms: &Mechanisms) -> Self
         ensures { result ≡ server_of guid.0 mechanisms.now }
     {
-        let server = Server::new(guid, mechanisms.user_reported(), mechanisms.is_anonymous());
+        let server = Server::new(
+            guid,
+            mechanisms.user_reported(),
+            mechanisms.is_anonymous(),
+        ).with_descriptors(mechanisms.passes_descriptors());
         ServerSide {
             end: ServerEnd::new(alloc, server),
         }
+    }
+
+    /// Whether both ends agreed to pass descriptors, as [`ServerEnd::agreed`] says.
+    pub fn agreed(&self) -> bool
+        ensures { result ≡ self.now.machine.agreed }
+    {
+        self.end.agreed()
     }
 
     /// Takes at most one line of the piece, as [`ServerEnd::take`] does, and writes what it sends

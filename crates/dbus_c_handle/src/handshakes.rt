@@ -8,8 +8,8 @@ use dbus_c_auth::{ClientSide, Handshake, Mechanisms, ServerSide, Step, TakeFault
 use std::alloc::{AllocError, Global};
 
 impl WireHandle {
-    ghost use Rattle.std.specs.Prelude.{◌≡◌, None, MatchResult, is_some};
-    ghost use Rattle.dbus_c_auth.specs.Handshakes.{client_made, server_made};
+    ghost use Rattle.std.specs.Prelude.{◌≡◌, None, MatchResult, is_some, option_map};
+    ghost use Rattle.dbus_c_auth.specs.Handshakes.{agreed_in, client_made, server_made};
     ghost use Rattle.dbus_c_handle.specs.Checkers.{Goes, TellsGuid, handshake_of, kept_as};
 
     /// Keeps the end of a new server, of the GUID that the text spells, which offers these
@@ -76,12 +76,20 @@ impl WireHandle {
         }
     }
 
-    /// The server's GUID, of a client that has begun; `None` if the handle keeps no end.
+    /// The server's GUID, of a client that it has accepted; `None` if the handle keeps no end.
     pub fn guid(&mut self) -> Option<Option<Guid>>
         ensures same { self.new.state ≡ self.old.state }
         ensures guid { TellsGuid (handshake_of self.old.state) result }
     {
         Some(self.kept()?.handshake()?.guid())
+    }
+
+    /// Whether both ends agreed to pass descriptors; `None` if the handle keeps no end.
+    pub fn agreed(&mut self) -> Option<bool>
+        ensures same { self.new.state ≡ self.old.state }
+        ensures agreed { result ≡ option_map agreed_in (handshake_of self.old.state) }
+    {
+        Some(self.kept()?.handshake()?.agreed())
     }
 }
 

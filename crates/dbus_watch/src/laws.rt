@@ -41,7 +41,7 @@ pub fn watch_law()
 pub fn server_law()
     ensures answers { (s : ServerMachine) (c : ClientCommand) (said : ServerCommand) →
         IsWaiting s.state → (server_step s c).action ≡ Sends said →
-        (server_step s c).next ≡ answered said s.state }
+        (server_step s c).next.state ≡ answered said s.state }
     ensures begins { (s : ServerMachine) (c : ClientCommand) →
         ((server_step s c).action ≡ Begins) ↔ ((c ≡ client.Begin) × (s.state ≡ at.WaitingForBegin)) }
 {}
