@@ -21,3 +21,4 @@ pub mod SumSteps
 pub mod LineSteps
 pub mod SameRuns
 pub mod Files
+pub mod BusNames

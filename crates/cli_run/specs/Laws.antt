@@ -2,6 +2,7 @@
 -- and of each command but `json` exactly one. And what a command does by its settings is what it
 -- does under limits alone, if they ask for no more.
 use Rattle.std.specs.Prelude.{◌≡◌, ℕ, Bool, true, false, List, [], ◌∷◌, ◌++◌, Option, ◌≢◌, ◌⊎◌, Some}
+use Rattle.std.specs.List.{AllByRecursion}
 use Rattle.dbus_value_model.specs.declared.fault.Fault.{Fault}
 use Rattle.dbus_stream.specs.Cut.{CutMessage}
 use Rattle.cli_options.specs.Limiting.{ask_more}
@@ -28,9 +29,10 @@ use Rattle.cli_report.specs.declared.ending.ExitStatus.TheVariants as status
 use Rattle.cli_run.specs.Running.{Runs, RunsWith, Writes}
 use Rattle.cli_run.specs.Going.{ShowsNone}
 use Rattle.cli_run.specs.Output.{AreAlike, IsExact, IsFirstOutput, IsFront, IsOutputOfAll, form_of, output_of}
+use Rattle.dbus_call_lines.specs.Listing.{AreNames}
 use Rattle.dbus_call_lines.specs.declared.wanted.Wanted.{Wanted}
 use Rattle.cli_run.specs.ByName.{CountsByName}
-use Rattle.cli_run.specs.CallListing.{ListsCalls}
+use Rattle.cli_run.specs.CallListing.{ListsCalls, all_named}
 use Rattle.cli_run.specs.CallSumming.{SumsCalls}
 use Rattle.cli_run.specs.Inputs.{Placed}
 use Rattle.cli_run.specs.LineListing.{AreLinesOf}
@@ -175,3 +177,7 @@ SomeLines = (wanted : WantedLines) (items : List Placed) → (lines : List (List
 abbrev pub OneSums : (R S W V E F : Type 0) → Type 0
 OneSums R S W V E F = (r : Reading R) (s : Reading S) (w : Writing W) (v : Writing V) (e : Writing E) (f : Writing F) (settings : Settings) (wanted : Wanted) (most more : ℕ) (end other : ExitStatus)
     → AreOfOneInput r s settings end other → AreOfSamePackets r s → SumsCalls r w e settings wanted most end → SumsCalls s v f settings wanted more other → EndAlike w v e f end other
+
+-- The names by which `calls` knows connections are bus names.
+abbrev pub TellsBusNames : Type 0
+TellsBusNames = (items : List Placed) → AllByRecursion (λ x. AreNames x.names) (all_named items)

@@ -123,10 +123,10 @@ fn list_message<W: Sink>(
     ensures stays { StaysIfShort (writing W.held W.failures first.old first.new)
         (gathered_bytes gathered.old) (gathered_bytes gathered.new) result }
 {
-    let Ok(_) = learn_names(lent, names) else {
+    let view = MessageView::of_validated(lent.bytes, lent.limits, lent.validated);
+    let Ok(_) = learn_names(&view, names) else {
         return Err(Cause::Memory);
     };
-    let view = MessageView::of_validated(lent.bytes, lent.limits, lent.validated);
     let mut lines = Lines {
         draft: Page {
             gathered,

@@ -2,7 +2,7 @@
 //! and it does nothing when it runs.
 #![tactic(auto)]
 
-ghost use Rattle.cli_run.specs.Laws.{OneCalls, OneCount, OneRun, OneSums, OneWithin, OneFront, OneOutput, PlainRuns, SomeLines, SomeOutput, WritesFile};
+ghost use Rattle.cli_run.specs.Laws.{OneCalls, OneCount, OneRun, OneSums, OneWithin, OneFront, OneOutput, PlainRuns, SomeLines, SomeOutput, TellsBusNames, WritesFile};
 
 use dbus_count::laws::one_table;
 use dbus_stream::{Sink, Source};
@@ -74,4 +74,10 @@ pub fn some_lines()
 /// The same of two runs that sum up calls.
 pub fn one_sums<R, S, W, V, E, F>()
     ensures { OneSums R S W V E F }
+{}
+
+/// The names by which `calls` knows connections are bus names, whatever the messages hold. So a
+/// terminal obeys nothing in its lines (`dbus_call_lines::laws::only_printed`).
+pub fn names_are_bus_names()
+    ensures { TellsBusNames }
 {}

@@ -1,15 +1,15 @@
 //! The messages of a source, listed in lines for a reader.
-ghost use Rattle.std.specs.Prelude.{◌≡◌, ◌^◌, ◌++◌, [], ◌∷◌, List, IfOk, OnOk, length, option_map};
+ghost use Rattle.std.specs.Prelude.{◌≡◌, ◌^◌, [], List, length};
 ghost use Rattle.dbus_value_model.specs.declared.order.Order.{Order};
 ghost use Rattle.dbus_message_model.specs.Messages.{MessageTree};
 ghost use Rattle.dbus_header.specs.MessageOutcomes.{IsWhole};
 ghost use Rattle.dbus_validate.specs.Validating.{IsValidatedWhole};
-ghost use Rattle.dbus_call_lines.specs.Listing.{Numbered, nth};
-ghost use Rattle.dbus_list.specs.Pairs.{KeepsCalls, TellsCall, told};
+ghost use Rattle.dbus_call_lines.specs.Listing.{Numbered};
+ghost use Rattle.dbus_list.specs.Pairs.{KeepsCalls};
 ghost use Rattle.dbus_list.specs.Told.{told_seen};
 ghost use Rattle.cli_report.specs.Devices.{reading, writing};
 ghost use Rattle.cli_report.specs.Gathering.{gathered_bytes};
-ghost use Rattle.cli_run.specs.CallListing.{StaysIfShort, number_and_time};
+ghost use Rattle.cli_run.specs.CallListing.{StaysIfShort};
 ghost use Rattle.cli_run.specs.LineLaws.{liner_adds_up};
 ghost use Rattle.cli_run.specs.Output.{is_spent};
 ghost use Rattle.cli_run.specs.LineListing.{LeavesLines, ListsLines, ListsOne, TakesLines, WritesLine, asked};
@@ -24,12 +24,12 @@ use crate::window::{is_spent, lets_through};
 use cli_options::{Settings, WantedLines, Window};
 use cli_report::{Cause, ExitStatus, OutputBuffer, Page, Unwritten, give_up, write_out};
 use dbus_call_lines::Place;
-use dbus_list::{Beside, CallTable, KnownCall, write_line};
+use dbus_list::{Beside, CallTable, write_line};
 use dbus_names::Names;
 use dbus_stream::{MOST_READS, Sink, Source};
 use dbus_validate::Whole;
 use dbus_view::MessageView;
-use std::alloc::{AllocError, Global};
+use std::alloc::Global;
 
 /// What is carried from a message that is listed or not to the next one.
 #[derive(Drop)]
@@ -125,43 +125,27 @@ fn list_one<W: Sink>(
     ensures stays { StaysIfShort (writing W.held W.failures first.old first.new)
         (gathered_bytes gathered.old) (gathered_bytes gathered.new) result }
 {
-    let Ok(answered) = answered_call(lent, &mut carried.calls) else {
+    let view = MessageView::of_validated(lent.bytes, lent.limits, lent.validated);
+    let place = Place {
+        number: lent.place.number,
+        time: lent.place.time,
+    };
+    let Ok(answered) = carried.calls.take(place, &view) else {
         return Err(Cause::Memory);
     };
-    let selected = selector.selects(lent, &carried.names);
-    let Ok(_) = learn_names(lent, &mut carried.names) else {
+    let selected = selector.selects(&view, &carried.names);
+    let Ok(_) = learn_names(&view, &mut carried.names) else {
         return Err(Cause::Memory);
     };
     if !selected {
         return Ok(());
     }
     if lets_through(&mut carried.window) {
-        let told = beside(lent, &answered, &carried.names);
+        let told = beside(&view, place.time, &answered, &carried.names);
         write_listed(selector.width, lent, told, gathered, first)
     } else {
         Ok(())
     }
-}
-
-// The call that the message answers, if it answers one of these. It is taken among them.
-fn answered_call(lent: &Lent<'_>, calls: &mut CallTable) -> Result<Option<KnownCall>, AllocError>
-    requires { IsValidatedWhole lent.now.limits lent.now.bytes.now lent.now.validated }
-    ensures keeps { (order : Order) (m : MessageTree) →
-        IsWhole lent.now.limits lent.now.bytes.now order m (length lent.now.bytes.now) →
-        (before : List Numbered) → KeepsCalls before calls.old →
-        OnOk result (KeepsCalls (before ++ nth (number_and_time lent.now.place) m ∷ []) calls.new) }
-    ensures answered { (order : Order) (m : MessageTree) →
-        IsWhole lent.now.limits lent.now.bytes.now order m (length lent.now.bytes.now) →
-        (before : List Numbered) → KeepsCalls before calls.old →
-        IfOk result (λ call. TellsCall before (nth (number_and_time lent.now.place) m)
-        (option_map (told lent.now.place.time) call)) }
-{
-    let view = MessageView::of_validated(lent.bytes, lent.limits, lent.validated);
-    let place = Place {
-        number: lent.place.number,
-        time: lent.place.time,
-    };
-    calls.take(place, &view)
 }
 
 // Writes or gathers the line of the message, of at most so many cells, which tells this beside it.

@@ -1,9 +1,7 @@
 //! Which messages are listed, and what their lines tell of connections.
-ghost use Rattle.std.specs.Prelude.{◌≡◌, ◌↔◌, IfOk, IsTrue, List, OnOk, length, option_and_then, option_map};
+ghost use Rattle.std.specs.Prelude.{◌≡◌, ◌↔◌, IfOk, IsTrue, List, OnOk, option_and_then, option_map};
 ghost use Rattle.dbus_value_model.specs.declared.order.Order.{Order};
 ghost use Rattle.dbus_message_model.specs.Messages.{MessageTree};
-ghost use Rattle.dbus_header.specs.MessageOutcomes.{IsWhole};
-ghost use Rattle.dbus_validate.specs.Validating.{IsValidatedWhole};
 ghost use Rattle.dbus_view.specs.Views.{Views};
 ghost use Rattle.dbus_calls.specs.Events.{destination_of, sender_of};
 ghost use Rattle.dbus_call_lines.specs.Names.{names_seen};
@@ -15,7 +13,6 @@ ghost use Rattle.cli_options.specs.Selections.{SelectsBy};
 ghost use Rattle.cli_run.specs.LineNames.{first_names, given_owners, known_beside, names_after, owners_for, told_beside};
 
 use crate::filtering::owners_of;
-use crate::place::Lent;
 use crate::selector::Selector;
 use cli_options::WantedLines;
 use dbus_call_lines::CallNames;
@@ -57,16 +54,13 @@ impl<'a> LineSelector<'a> {
         })
     }
 
-    /// Whether the message is listed, if these names are known before it.
-    pub(crate) fn selects(&self, lent: &Lent<'_>, names: &Names) -> bool
-        requires { IsValidatedWhole lent.now.limits lent.now.bytes.now lent.now.validated }
-        ensures { (order : Order) (m : MessageTree) →
-            IsWhole lent.now.limits lent.now.bytes.now order m (length lent.now.bytes.now) →
+    /// Whether the message of the view is listed, if these names are known before it.
+    pub(crate) fn selects(&self, view: &MessageView, names: &Names) -> bool
+        ensures { (order : Order) (m : MessageTree) → Views view.now order m →
             IsTrue result ↔ SelectsBy self.now.selector.selection.now
             (owners_for self.now.selector.selection.now (state_of names.now)) m }
     {
-        let view = MessageView::of_validated(lent.bytes, lent.limits, lent.validated);
-        self.selector.selects(&view, self.owners(names))
+        self.selector.selects(view, self.owners(names))
     }
 
     // The owners of names by which it selects.
@@ -90,35 +84,30 @@ pub(crate) fn first_names(alloc: Global, wanted: &WantedLines) -> Result<Names, 
     Ok(Names::new(alloc, owners_of(alloc, &wanted.selection.owners)?))
 }
 
-/// Learns what the message tells of names.
+/// Learns what the message of the view tells of names.
 ///
 /// `AllocError`: an allocation failed. Then the names are not to be used again.
-pub(crate) fn learn_names(lent: &Lent<'_>, names: &mut Names) -> Result<(), AllocError>
-    requires { IsValidatedWhole lent.now.limits lent.now.bytes.now lent.now.validated }
-    ensures { (order : Order) (m : MessageTree) →
-        IsWhole lent.now.limits lent.now.bytes.now order m (length lent.now.bytes.now) →
+pub(crate) fn learn_names(view: &MessageView, names: &mut Names) -> Result<(), AllocError>
+    ensures { (order : Order) (m : MessageTree) → Views view.now order m →
         OnOk result (state_of names.new ≡ names_after (state_of names.old) m) }
 {
-    let view = MessageView::of_validated(lent.bytes, lent.limits, lent.validated);
-    names.take(&view, &WellKnownNames)
+    names.take(view, &WellKnownNames)
 }
 
-/// What the line of the message tells beside it: the call that it answers, and the names by which
-/// connections are known.
+/// What the line of the message of the view tells beside it, which has this time: the call that it
+/// answers, and the names by which connections are known.
 pub(crate) fn beside<'b>(
-    lent: &Lent<'_>,
+    view: &MessageView,
+    time: Option<u64>,
     answered: &'b Option<KnownCall>,
     names: &'b Names,
 ) -> Beside<'b>
-    requires { IsValidatedWhole lent.now.limits lent.now.bytes.now lent.now.validated }
-    ensures { (order : Order) (m : MessageTree) →
-        IsWhole lent.now.limits lent.now.bytes.now order m (length lent.now.bytes.now) →
-        told_seen result ≡ told_beside (option_map (told lent.now.place.time) answered.now) (state_of names.now).names m }
+    ensures { (order : Order) (m : MessageTree) → Views view.now order m →
+        told_seen result ≡ told_beside (option_map (told time) answered.now) (state_of names.now).names m }
 {
-    let view = MessageView::of_validated(lent.bytes, lent.limits, lent.validated);
-    let known = known_names(&view, names);
+    let known = known_names(view, names);
     Beside {
-        answered: told_of(answered, lent.place.time),
+        answered: told_of(answered, time),
         sender: known.sender,
         destination: known.destination,
     }

@@ -15,7 +15,7 @@ use Rattle.cli_run.proofs.call_listing.list_message.Goals as goal
 pub returns-then-lines-clause-lists : goal.returns-then-lines-clause-lists
 returns-then-lines-clause-lists g c = λ order m whole wanted before keeps rising.
     let views = views_it c.args.lent.now.limits c.args.lent.now.bytes.now c.of_validated-view.result order m c.of_validated-view.ensures.viewed whole in
-    let same = c.known_names.ensures order m views ∙ ap (λ (os : NameState). known_beside os.names m) (c.in-Ok.ensures order m whole) in
+    let same = c.known_names.ensures order m views ∙ ap (λ (os : NameState). known_beside os.names m) (c.in-Ok.ensures order m views) in
     let at : Known → Numbered = λ k. named_nth (number_and_time c.args.lent.now.place) k m in
     let h = c.in-Ok-take.ensures.takes order m views wanted before keeps (subst (λ (k : Known). AreRising (before ++ at k ∷ [])) (sym same) rising) in
     let after = subst (λ (k : Known). ListsAfter before (at k) h.1) same h.2 in
@@ -27,7 +27,7 @@ returns-then-lines-clause-lists g c = λ order m whole wanted before keeps risin
 pub returns-else-lines-clause-lists : goal.returns-else-lines-clause-lists
 returns-else-lines-clause-lists g c = λ order m whole wanted before keeps rising.
     let views = views_it c.args.lent.now.limits c.args.lent.now.bytes.now c.of_validated-view.result order m c.of_validated-view.ensures.viewed whole in
-    let same = c.known_names.ensures order m views ∙ ap (λ (os : NameState). known_beside os.names m) (c.in-Ok.ensures order m whole) in
+    let same = c.known_names.ensures order m views ∙ ap (λ (os : NameState). known_beside os.names m) (c.in-Ok.ensures order m views) in
     let at : Known → Numbered = λ k. named_nth (number_and_time c.args.lent.now.place) k m in
     let h = c.in-Ok-take.ensures.takes order m views wanted before keeps (subst (λ (k : Known). AreRising (before ++ at k ∷ [])) (sym same) rising) in
     let after = subst (λ (k : Known). ListsAfter before (at k) h.1) same h.2 in
