@@ -127,13 +127,31 @@ packets_through kept p q a b (Ok n) (inl none) leaves h = (after_prepended kept 
 packets_through kept p q a b (Ok n) (inr none) leaves h = (after_prepended kept n p q a b (inr (none, leaves none)) h.0, are_prepended kept n p q a (inr none) h.1)
 packets_through kept p q a b (Err e) one leaves h = after_prepended kept 0 p q a b (inr (refl, leaves)) h
 
+-- none was taken
+after_none : (a : Option Packets) → PacketsAfter 0 a a
+after_none None = tt
+after_none (Some x) = λ i. ap x (let z : i ≡ 0 + i = omega arith in z)
+
+-- nothing was kept, and nothing is
+after_empty : (k l : ℕ) (p q : Option Packet) (a b : Option Packets) → k ≡ 0 → l ≡ 0 → PacketsAfter 0 a b → PacketsAfter 0 (prepend_packets k p a) (prepend_packets l q b)
+after_empty zero zero p q a b e f h = after_prepended 0 0 p q a b (inl refl) h
+after_empty zero (suc l) p q a b e f h = absurd (omega (arith, f))
+after_empty (suc k) l p q a b e f h = absurd (omega (arith, e))
+
+-- these, and then those
+after_both : (n m : ℕ) (a b c : Option Packets) → PacketsAfter n a b → PacketsAfter m b c → PacketsAfter (n + m) a c
+after_both n m None b c h k = tt
+after_both n m (Some x) None c h k = absurd h
+after_both n m (Some x) (Some y) None h k = k
+after_both n m (Some x) (Some y) (Some z) h k = λ i. k i ∙ h (m + i) ∙ ap x (let e : n + (m + i) ≡ n + m + i = omega arith in e)
+
 -- the calls for bytes that were kept or taken, of which each gave a byte but the last
 few_calls : (k0 k1 x y m n r : ℕ) → 0 < m + n → m ≤ r + 0 → (0 < m → m + k0 ≤ x + 1) → (0 < n → n + k1 ≤ y + 1) → k0 + r ≡ x + k1 → m + n + k0 ≤ (x + y) + 1
 few_calls k0 k1 x y m zero r some gave before after joined = let b = before (omega (arith, some)) in omega (arith, b)
 few_calls k0 k1 x y m (suc n) r some gave before after joined = let a = after (omega arith) in omega (arith, a, gave, joined)
 
-module _ {R : Type 0} (left : R → Option (List ℕ)) (calls : R → ℕ) where
-  pub took_nothing : (s : ReadAhead R) → Took left calls 0 s s []
+module _ {R : Type 0} (left : R → Option (List ℕ)) (calls : R → ℕ) (packets : R → Option Packets) (packet : R → Option Packet) where
+  pub took_nothing : (s : ReadAhead R) → Took left calls packets packet 0 s s []
   took_nothing s = record {
     read = [];
     consumed = Consumes-nil (left (source_of s));
@@ -143,9 +161,10 @@ module _ {R : Type 0} (left : R → Option (List ℕ)) (calls : R → ℕ) where
     gave = omega arith;
     few = λ some. absurd (omega (arith, some));
     answered = omega arith;
+    of_packets = after_none (packets_of packets packet s);
   }
 
-  pub took_kept : (old new : ReadAhead R) (front : List ℕ) → Rests old new → kept_of old ≡ front ++ kept_of new → Took left calls 0 old new front
+  pub took_kept : (old new : ReadAhead R) (front : List ℕ) → Rests old new → kept_of old ≡ front ++ kept_of new → Took left calls packets packet 0 old new front
   took_kept old new front rests joined = record {
     read = [];
     consumed = subst (λ (s : R). Consumes (left (source_of old)) (left s) []) (sym rests.source) (Consumes-nil (left (source_of old)));
@@ -155,14 +174,15 @@ module _ {R : Type 0} (left : R → Option (List ℕ)) (calls : R → ℕ) where
     gave = omega arith;
     few = λ some. absurd (omega (arith, some));
     answered = let same = rests.answered in omega (arith, same);
+    of_packets = (kept_given packets packet old new front (length front) rests.source joined refl).0;
   }
 
   -- nothing was kept, and a call of the device failed
   pub took_failed : (result : Result Bool DeviceFault) (old new : ReadAhead R) → IsErr result → kept_of old ≡ [] → kept_of new ≡ []
-      → Keeps (left (source_of old)) (left (source_of new)) → calls (source_of new) ≡ one_more (calls (source_of old)) → answered_of new ≡ 0
-      → Took left calls (idle_unless true result) old new []
-  took_failed (Ok more) old new failed none empty same called answered = absurd (IfOk-from_err {E = DeviceFault} (Ok more) (λ _. ⊥) failed)
-  took_failed (Err e) old new failed none empty same called answered = record {
+      → Keeps (left (source_of old)) (left (source_of new)) → calls (source_of new) ≡ one_more (calls (source_of old)) → answered_of new ≡ 0 → PacketsAfter 0 (packets (source_of old)) (packets (source_of new))
+      → Took left calls packets packet (idle_unless true result) old new []
+  took_failed (Ok more) old new failed none empty same called answered after = absurd (IfOk-from_err {E = DeviceFault} (Ok more) (λ _. ⊥) failed)
+  took_failed (Err e) old new failed none empty same called answered after = record {
     read = [];
     consumed = Consumes-kept _ _ _ _ (Consumes-nil (left (source_of old))) same;
     joined = append-nil (kept_of old) ∙ none ∙ sym empty;
@@ -171,10 +191,11 @@ module _ {R : Type 0} (left : R → Option (List ℕ)) (calls : R → ℕ) where
     gave = omega arith;
     few = λ some. let size = ap length none in omega (arith, size);
     answered = omega (arith, answered);
+    of_packets = after_empty _ _ (packet (source_of old)) (packet (source_of new)) _ _ (ap length none) (ap length empty) after;
   }
 
   -- a last call of the device may have given nothing
-  pub took_at_last : (old new : ReadAhead R) (bytes : List ℕ) → Took left calls 0 old new bytes → Took left calls 1 old new bytes
+  pub took_at_last : (old new : ReadAhead R) (bytes : List ℕ) → Took left calls packets packet 0 old new bytes → Took left calls packets packet 1 old new bytes
   took_at_last old new bytes t = record {
     read = t.read;
     consumed = t.consumed;
@@ -184,15 +205,16 @@ module _ {R : Type 0} (left : R → Option (List ℕ)) (calls : R → ℕ) where
     gave = let gave = t.gave in omega (arith, gave);
     few = t.few;
     answered = t.answered;
+    of_packets = t.of_packets;
   }
 
   -- it went on, so that each call gave a byte
-  pub went_on : (on said : Bool) (old new : ReadAhead R) → said ≡ on → Took left calls (idle_unless on (Ok said)) old new [] → Took left calls 0 old new []
-  went_on true said old new is t = subst (λ (b : Bool). Took left calls (idle_unless true (Ok b)) old new []) is t
-  went_on false said old new is t = subst (λ (b : Bool). Took left calls (idle_unless false (Ok b)) old new []) is t
+  pub went_on : (on said : Bool) (old new : ReadAhead R) → said ≡ on → Took left calls packets packet (idle_unless on (Ok said)) old new [] → Took left calls packets packet 0 old new []
+  went_on true said old new is t = subst (λ (b : Bool). Took left calls packets packet (idle_unless true (Ok b)) old new []) is t
+  went_on false said old new is t = subst (λ (b : Bool). Took left calls packets packet (idle_unless false (Ok b)) old new []) is t
 
   -- it went on or not
-  pub went : (on : Bool) (result : Result Bool DeviceFault) (old new : ReadAhead R) → Took left calls (idle_unless on result) old new [] → Took left calls 1 old new []
+  pub went : (on : Bool) (result : Result Bool DeviceFault) (old new : ReadAhead R) → Took left calls packets packet (idle_unless on result) old new [] → Took left calls packets packet 1 old new []
   went true (Ok true) old new t = took_at_last old new [] t
   went true (Ok false) old new t = t
   went false (Ok true) old new t = t
@@ -201,12 +223,12 @@ module _ {R : Type 0} (left : R → Option (List ℕ)) (calls : R → ℕ) where
   went false (Err e) old new t = t
 
   -- each call gave a byte, whatever is answered
-  pub took_either : (said : Bool) (old new : ReadAhead R) → Took left calls 0 old new [] → Took left calls (idle_unless false (Ok said)) old new []
+  pub took_either : (said : Bool) (old new : ReadAhead R) → Took left calls packets packet 0 old new [] → Took left calls packets packet (idle_unless false (Ok said)) old new []
   took_either true old new t = took_at_last old new [] t
   took_either false old new t = t
 
-  pub took_more : {idle : ℕ} (old mid new : ReadAhead R) (xs ys : List ℕ) → Took left calls 0 old mid xs → Took left calls idle mid new ys
-      → Took left calls idle old new (xs ++ ys)
+  pub took_more : {idle : ℕ} (old mid new : ReadAhead R) (xs ys : List ℕ) → Took left calls packets packet 0 old mid xs → Took left calls packets packet idle mid new ys
+      → Took left calls packets packet idle old new (xs ++ ys)
   took_more {idle = idle} old mid new xs ys a b = record {
     read = a.read ++ b.read;
     consumed = Consumes-trans (left (source_of old)) (left (source_of mid)) (left (source_of new)) a.read b.read a.consumed b.consumed;
@@ -219,4 +241,6 @@ module _ {R : Type 0} (left : R → Option (List ℕ)) (calls : R → ℕ) where
         (few_calls (length (kept_of old)) (length (kept_of mid)) (length xs) (length ys) a.count b.count (length a.read) some a.gave a.few b.few
         (sym (length-append (kept_of old) a.read) ∙ ap length a.joined ∙ length-append xs (kept_of mid)));
     answered = let x = a.answered in let y = b.answered in omega (arith, x, y);
+    of_packets = subst (λ (n : ℕ). PacketsAfter n (packets_of packets packet old) (packets_of packets packet new)) (sym (length-append xs ys))
+        (after_both (length xs) (length ys) (packets_of packets packet old) (packets_of packets packet mid) (packets_of packets packet new) a.of_packets b.of_packets);
   }

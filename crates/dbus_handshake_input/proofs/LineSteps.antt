@@ -4,6 +4,8 @@ use Rattle.std.specs.Prelude.{Vec}
 use Rattle.std.specs.Io.KnownBytes.{IsAtEnd}
 use Rattle.std.proofs.lemmas.List.{take_at, take_all, take-append-drop}
 use Rattle.std.proofs.Math.Seq.{take-append-add}
+use Rattle.dbus_device.specs.Packets.{Packets}
+use Rattle.dbus_device.specs.declared.packet.Packet.{Packet}
 use Rattle.dbus_auth_lines.specs.ClientCommands.{ClientCommand}
 use Rattle.dbus_auth_lines.specs.ClientCommands as client
 use Rattle.dbus_auth_lines.specs.ServerCommands.{ServerCommand}
@@ -135,39 +137,39 @@ cuts_none Z state piece given count after none is answers =
 -- ---- what was read of a line so far
 
 -- the bytes of an unfinished line were taken, and are in the cutter
-pub record HasPart {R : Type 0} (left : R → Option (List ℕ)) (calls : R → ℕ) (old new : ReadAhead R) (state : CutterState) (size : ℕ) : Type 0 where
+pub record HasPart {R : Type 0} (left : R → Option (List ℕ)) (calls : R → ℕ) (packets : R → Option Packets) (packet : R → Option Packet) (old new : ReadAhead R) (state : CutterState) (size : ℕ) : Type 0 where
   pub unfinished : IsUnfinished state.kept
   pub no_fault : state.fault ≡ None
   pub size_is : size ≡ length state.kept
-  pub took : Took left calls 0 old new state.kept
+  pub took : Took left calls packets packet 0 old new state.kept
 
-module _ {R : Type 0} (left : R → Option (List ℕ)) (calls : R → ℕ) where
-  pub took_same : {idle : ℕ} (old mid new : ReadAhead R) (bytes : List ℕ) → Took left calls 0 old mid bytes → Took left calls idle mid new [] → Took left calls idle old new bytes
-  took_same {idle = idle} old mid new bytes a b = subst (Took left calls idle old new) (append-nil bytes) (took_more left calls old mid new bytes [] a b)
+module _ {R : Type 0} (left : R → Option (List ℕ)) (calls : R → ℕ) (packets : R → Option Packets) (packet : R → Option Packet) where
+  pub took_same : {idle : ℕ} (old mid new : ReadAhead R) (bytes : List ℕ) → Took left calls packets packet 0 old mid bytes → Took left calls packets packet idle mid new [] → Took left calls packets packet idle old new bytes
+  took_same {idle = idle} old mid new bytes a b = subst (Took left calls packets packet idle old new) (append-nil bytes) (took_more left calls packets packet old mid new bytes [] a b)
 
-  pub took_front : (old new : ReadAhead R) (count : ℕ) → Rests old new → kept_of new ≡ drop count (kept_of old) → Took left calls 0 old new (take count (kept_of old))
+  pub took_front : (old new : ReadAhead R) (count : ℕ) → Rests old new → kept_of new ≡ drop count (kept_of old) → Took left calls packets packet 0 old new (take count (kept_of old))
   took_front old new count same rest =
-      took_kept left calls old new (take count (kept_of old)) same (sym (take-append-drop count (kept_of old)) ∙ ap (λ l. take count (kept_of old) ++ l) (sym rest))
+      took_kept left calls packets packet old new (take count (kept_of old)) same (sym (take-append-drop count (kept_of old)) ∙ ap (λ l. take count (kept_of old) ++ l) (sym rest))
 
-  pub part_begins : (s : ReadAhead R) (state : CutterState) → state ≡ record { kept = []; fault = None } → HasPart left calls s s state 0
-  part_begins s state e = subst (λ (t : CutterState). HasPart left calls s s t 0) (sym e) (record { unfinished = no_bytes; no_fault = refl; size_is = refl; took = took_nothing left calls s })
+  pub part_begins : (s : ReadAhead R) (state : CutterState) → state ≡ record { kept = []; fault = None } → HasPart left calls packets packet s s state 0
+  part_begins s state e = subst (λ (t : CutterState). HasPart left calls packets packet s s t 0) (sym e) (record { unfinished = no_bytes; no_fault = refl; size_is = refl; took = took_nothing left calls packets packet s })
 
-  pub part_ends : (Z : Type 0) (side : Side) (old mid new : ReadAhead R) (state : CutterState) (size : ℕ) → HasPart left calls old mid state size → Took left calls 1 mid new []
-      → kept_of new ≡ [] → IsAtEnd (left (source_of new)) → ReadsLine {Z = Z} left calls side old new (Err (Refused size Truncated))
+  pub part_ends : (Z : Type 0) (side : Side) (old mid new : ReadAhead R) (state : CutterState) (size : ℕ) → HasPart left calls packets packet old mid state size → Took left calls packets packet 1 mid new []
+      → kept_of new ≡ [] → IsAtEnd (left (source_of new)) → ReadsLine {Z = Z} left calls packets packet side old new (Err (Refused size Truncated))
   part_ends Z side old mid new state size h t none at_end =
       let all : state.kept ++ kept_of new ≡ state.kept = ap (λ l. state.kept ++ l) none ∙ append-nil state.kept in
       (state.kept, took_same old mid new state.kept h.took t, (subst IsUnfinished (sym all) h.unfinished, at_end, h.size_is ∙ ap length (sym all)))
 
-  pub part_faulty : (Z : Type 0) (side : Side) (old mid new : ReadAhead R) (state after : CutterState) (size : ℕ) (fault : LineFault) → HasPart left calls old mid state size
-      → Took left calls 0 mid new [] → Answers Z state (kept_of new) (Err fault) after → ReadsLine {Z = Z} left calls side old new (Err (refusal_of fault))
+  pub part_faulty : (Z : Type 0) (side : Side) (old mid new : ReadAhead R) (state after : CutterState) (size : ℕ) (fault : LineFault) → HasPart left calls packets packet old mid state size
+      → Took left calls packets packet 0 mid new [] → Answers Z state (kept_of new) (Err fault) after → ReadsLine {Z = Z} left calls packets packet side old new (Err (refusal_of fault))
   part_faulty Z side old mid new state after size fault h t answers =
       let b = some_beginning (state.kept ++ kept_of new) in by_beginning b.0 b.1 fault (answers h.no_fault b.0 b.1)
     where
-      took : Took left calls 1 old new state.kept
-      took = took_at_last left calls old new state.kept (took_same old mid new state.kept h.took t)
+      took : Took left calls packets packet 1 old new state.kept
+      took = took_at_last left calls packets packet old new state.kept (took_same old mid new state.kept h.took t)
 
       by_beginning : (b : Beginning) → BeginsAs (state.kept ++ kept_of new) b → (fault : LineFault) → Takes {Z = Z} state.kept (kept_of new) (Err fault) after b
-          → ReadsLine {Z = Z} left calls side old new (Err (refusal_of fault))
+          → ReadsLine {Z = Z} left calls packets packet side old new (Err (refusal_of fault))
       by_beginning b g line_fault.Memory e = (state.kept, took)
       by_beginning (Faulty TooLong) g line_fault.TooLong e = (state.kept, took, (g, refl))
       by_beginning (Faulty (BadByte at)) g (line_fault.BadByte place) e =
@@ -180,22 +182,22 @@ module _ {R : Type 0} (left : R → Option (List ℕ)) (calls : R → ℕ) where
       by_beginning Unfinished g line_fault.TooLong e = absurd (let w = e.0 in cc)
       by_beginning Unfinished g (line_fault.BadByte place) e = absurd (let w = e.0 in cc)
 
-  pub part_whole : (old mid more new : ReadAhead R) (state : CutterState) (line : List ℕ) (size count : ℕ) → HasPart left calls old mid state size → Took left calls 0 mid more []
-      → CutsLine state.kept (kept_of more) line count → Rests more new → kept_of new ≡ drop count (kept_of more) → Took left calls 0 old new (ended line)
+  pub part_whole : (old mid more new : ReadAhead R) (state : CutterState) (line : List ℕ) (size count : ℕ) → HasPart left calls packets packet old mid state size → Took left calls packets packet 0 mid more []
+      → CutsLine state.kept (kept_of more) line count → Rests more new → kept_of new ≡ drop count (kept_of more) → Took left calls packets packet 0 old new (ended line)
   part_whole old mid more new state line size count h t cuts same rest =
-      subst (Took left calls 0 old new) cuts.joined (took_more left calls old more new state.kept (take count (kept_of more)) (took_same old mid more state.kept h.took t)
+      subst (Took left calls packets packet 0 old new) cuts.joined (took_more left calls packets packet old more new state.kept (take count (kept_of more)) (took_same old mid more state.kept h.took t)
       (took_front more new count same rest))
 
-  pub part_goes_on : (old mid more new : ReadAhead R) (state after : CutterState) (size count : ℕ) → HasPart left calls old mid state size → Took left calls 0 mid more []
-      → CutsNone state.kept (kept_of more) count after → Rests more new → kept_of new ≡ drop count (kept_of more) → HasPart left calls old new after (size + count)
+  pub part_goes_on : (old mid more new : ReadAhead R) (state after : CutterState) (size count : ℕ) → HasPart left calls packets packet old mid state size → Took left calls packets packet 0 mid more []
+      → CutsNone state.kept (kept_of more) count after → Rests more new → kept_of new ≡ drop count (kept_of more) → HasPart left calls packets packet old new after (size + count)
   part_goes_on old mid more new state after size count h t cuts same rest =
       let size_is = h.size_is in
       let all = cuts.all in
       let front : take count (kept_of more) ≡ kept_of more = take_all count (kept_of more) (omega (arith, all)) in
-      subst (λ (s : CutterState). HasPart left calls old new s (size + count)) (sym cuts.state) (record {
+      subst (λ (s : CutterState). HasPart left calls packets packet old new s (size + count)) (sym cuts.state) (record {
         unfinished = cuts.unfinished;
         no_fault = refl;
         size_is = omega (arith, size_is, all, length-append state.kept (kept_of more));
-        took = subst (Took left calls 0 old new) (ap (λ l. state.kept ++ l) front)
-            (took_more left calls old more new state.kept (take count (kept_of more)) (took_same old mid more state.kept h.took t) (took_front more new count same rest));
+        took = subst (Took left calls packets packet 0 old new) (ap (λ l. state.kept ++ l) front)
+            (took_more left calls packets packet old more new state.kept (take count (kept_of more)) (took_same old mid more state.kept h.took t) (took_front more new count same rest));
       })

@@ -3,6 +3,8 @@ use Rattle.std.proofs.Common.{◌≡◌, inl, inr, ◌<◌, ◌≤◌, ◌+◌, 
 use Rattle.std.specs.List.{AllByRecursion, flat_map}
 use Rattle.std.specs.Io.KnownBytes.{Consumes, IsAtEnd, prepend_known}
 use Rattle.std.proofs.lemmas.List.{append_cancel_left}
+use Rattle.dbus_device.specs.Packets.{Packets, PacketsAfter}
+use Rattle.dbus_device.specs.declared.packet.Packet.{Packet}
 use Rattle.dbus_auth_lines.specs.ClientCommands as client
 use Rattle.dbus_auth_lines.specs.ServerCommands.{ServerCommand}
 use Rattle.dbus_auth_lines.specs.ServerCommands as server
@@ -10,8 +12,8 @@ use Rattle.dbus_auth_lines.specs.Cut.{IsLine, TooLong, BadByte, Beginning, Whole
 use Rattle.dbus_auth_lines.specs.LineForms.{IsServerLine}
 use Rattle.dbus_auth_lines.specs.Lines.{ended}
 use Rattle.dbus_auth_lines.proofs.FirstLines.{one_beginning, stays_settled}
-use Rattle.dbus_handshake_input.specs.Ahead.{source_of, kept_of, Took}
-use Rattle.dbus_handshake_input.specs.Alike.{FollowsAlike, IsOfInput, OneHandshake, OnePassing, left_in}
+use Rattle.dbus_handshake_input.specs.Ahead.{source_of, kept_of, packets_of, Took}
+use Rattle.dbus_handshake_input.specs.Alike.{GoesOnAlike, IsOfInput, OneHandshake, OnePassing, left_in}
 use Rattle.dbus_handshake_input.specs.Handshakes.{greeting, sent, GoesOn, IsCommand, IsBegin, HasOk, IsNoLine, MessagesFollow, BeginsNoMessage, AreAllLines, begun, accepted, BreaksAfter, first_byte, nothing, no_line, too_many}
 use Rattle.dbus_handshake_input.specs.Heard.{HeardLine, IsSize, Reads, heard}
 use Rattle.dbus_handshake_input.specs.Passing.{Passes}
@@ -318,10 +320,10 @@ end_of (Err Memory) = None
 end_of (Err Device) = None
 end_of (Err (Refused at why)) = Some (at, why)
 
-module _ {R : Type 0} (left : R → Option (List ℕ)) (calls : R → ℕ) (side : Side) (input : List ℕ) (r0 r1 : ReadAhead R) (known : left_in left r0 ≡ Some input) where
+module _ {R : Type 0} (left : R → Option (List ℕ)) (calls : R → ℕ) (packets : R → Option Packets) (packet : R → Option Packet) (side : Side) (input : List ℕ) (r0 r1 : ReadAhead R) (known : left_in left r0 ≡ Some input) where
   -- after these bytes of the input, this source has what follows them
   abbrev Follows : List ℕ → Type 0
-  Follows bytes = (rest : List ℕ) × (input ≡ bytes ++ rest) × (left_in left r1 ≡ Some rest)
+  Follows bytes = (rest : List ℕ) × (input ≡ bytes ++ rest) × (left_in left r1 ≡ Some rest) × PacketsAfter (length bytes) (packets_of packets packet r0) (packets_of packets packet r1)
 
   -- what a call said, and what its visitor heard
   record HasSaid {V : Type 0} (hears : V → List HeardLine → V → Type 0) (v0 v1 : V) (a : Result HandshakeSize HandshakeFault) : Type 0 where
@@ -331,14 +333,14 @@ module _ {R : Type 0} (left : R → Option (List ℕ)) (calls : R → ℕ) (side
     size : IfOk a (IsSize side lines)
     follows : IfOk a (λ x. Follows (sent side lines))
 
-  has_said : {V : Type 0} (hears : V → List HeardLine → V → Type 0) (v0 v1 : V) (a : Result HandshakeSize HandshakeFault) → IsOfInput a → Reads hears side left calls r0 r1 v0 v1 a → HasSaid hears v0 v1 a
+  has_said : {V : Type 0} (hears : V → List HeardLine → V → Type 0) (v0 v1 : V) (a : Result HandshakeSize HandshakeFault) → IsOfInput a → Reads hears side left calls packets packet r0 r1 v0 v1 a → HasSaid hears v0 v1 a
   has_said hears v0 v1 (Ok x) of r =
       let all = after_read (kept_of r0) (kept_of r1) r.1.read (sent side r.0) input (left (source_of r0)) (left (source_of r1)) r.1.consumed r.1.joined known in record {
         lines = r.0;
         said = said_all side (IsAtEnd (left (source_of r1))) all.0 (λ e. subst IsAtEnd all.1 e) r.0 input (sent side r.0 ++ kept_of r1) all.2 (kept_of r1) refl r.2;
         heard_are = r.3;
         size = r.4;
-        follows = (kept_of r1 ++ all.0, all.2 ∙ append_assoc (sent side r.0) (kept_of r1) all.0, ap (prepend_known (kept_of r1)) all.1);
+        follows = (kept_of r1 ++ all.0, all.2 ∙ append_assoc (sent side r.0) (kept_of r1) all.0, ap (prepend_known (kept_of r1)) all.1, r.1.of_packets);
       }
   has_said hears v0 v1 (Err Memory) of r = absurd of
   has_said hears v0 v1 (Err Device) of r = absurd of
@@ -365,20 +367,20 @@ one_answer side lines (Ok x) (Err Device) i j h k e = absurd j
 one_answer side lines (Err (Refused at why)) (Err Memory) i j h k e = absurd j
 one_answer side lines (Err (Refused at why)) (Err Device) i j h k e = absurd j
 
-module _ {R S : Type 0} (left : R → Option (List ℕ)) (calls : R → ℕ) (other_left : S → Option (List ℕ)) (other_calls : S → ℕ) where
+module _ {R S : Type 0} (left : R → Option (List ℕ)) (calls : R → ℕ) (packets : R → Option Packets) (packet : R → Option Packet) (other_left : S → Option (List ℕ)) (other_calls : S → ℕ) (other_packets : S → Option Packets) (other_packet : S → Option Packet) where
   follow_alike : (input bytes : List ℕ) (r0 r1 : ReadAhead R) (s0 s1 : ReadAhead S) (side : Side) (known : left_in left r0 ≡ Some input) (known_too : left_in other_left s0 ≡ Some input)
       (a b : Result HandshakeSize HandshakeFault) → a ≡ b
-      → IfOk a (λ x. Follows left calls side input r0 r1 known bytes) → IfOk b (λ x. Follows other_left other_calls side input s0 s1 known_too bytes)
-      → IfOk a (λ x. FollowsAlike left other_left input bytes r1 s1)
+      → IfOk a (λ x. Follows left calls packets packet side input r0 r1 known bytes) → IfOk b (λ x. Follows other_left other_calls other_packets other_packet side input s0 s1 known_too bytes)
+      → IfOk a (λ x. GoesOnAlike left calls packets packet other_left other_calls other_packets other_packet input bytes r0 r1 s0 s1)
   follow_alike input bytes r0 r1 s0 s1 side known known_too (Ok x) (Ok y) e h k =
-      (h.0, h.1, h.2, k.2 ∙ ap Some (append_cancel_left bytes k.0 h.0 (sym k.1 ∙ h.1)))
+      ((h.0, h.1, h.2, k.2 ∙ ap Some (append_cancel_left bytes k.0 h.0 (sym k.1 ∙ h.1))), h.3, k.3)
   follow_alike input bytes r0 r1 s0 s1 side known known_too (Err f) b e h k = tt
   follow_alike input bytes r0 r1 s0 s1 side known known_too (Ok x) (Err f) e h k = absurd cc
 
-  pub one_handshake : {V U : Type 0} (hears : V → List HeardLine → V → Type 0) (other_hears : U → List HeardLine → U → Type 0) → OneHandshake left calls other_left other_calls hears other_hears
+  pub one_handshake : {V U : Type 0} (hears : V → List HeardLine → V → Type 0) (other_hears : U → List HeardLine → U → Type 0) → OneHandshake left calls packets packet other_left other_calls other_packets other_packet hears other_hears
   one_handshake hears other_hears side input r0 r1 s0 s1 v0 v1 u0 u1 a b known known_too i j reads read =
-      let x = has_said left calls side input r0 r1 known hears v0 v1 a i reads in
-      let y = has_said other_left other_calls side input s0 s1 known_too other_hears u0 u1 b j read in
+      let x = has_said left calls packets packet side input r0 r1 known hears v0 v1 a i reads in
+      let y = has_said other_left other_calls other_packets other_packet side input s0 s1 known_too other_hears u0 u1 b j read in
       let one = one_said side x.lines y.lines input (end_of a) (end_of b) x.said y.said in
       let back = sym one.0 in
       let answer = one_answer side x.lines a b i j x.size (subst (λ (ls : List (List ℕ)). IfOk b (IsSize side ls)) back y.size) one.1 in (
@@ -387,7 +389,7 @@ module _ {R S : Type 0} (left : R → Option (List ℕ)) (calls : R → ℕ) (ot
         x.heard_are,
         subst (λ (ls : List (List ℕ)). other_hears u0 (heard side ls) u1) back y.heard_are,
         follow_alike input (sent side x.lines) r0 r1 s0 s1 side known known_too a b answer x.follows
-            (subst (λ (ls : List (List ℕ)). IfOk b (λ z. Follows other_left other_calls side input s0 s1 known_too (sent side ls))) back y.follows),
+            (subst (λ (ls : List (List ℕ)). IfOk b (λ z. Follows other_left other_calls other_packets other_packet side input s0 s1 known_too (sent side ls))) back y.follows),
       )
 
 -- ---- calls with no visitor
@@ -399,32 +401,32 @@ erased (Err e) = Err e
 abbrev Unheard : Unit {0} → List HeardLine → Unit {0} → Type 0
 Unheard old lines new = Unit {0}
 
-module _ {R : Type 0} (left : R → Option (List ℕ)) (calls : R → ℕ) (side : Side) (r0 r1 : ReadAhead R) where
-  as_read : (a : Result (Unit {0}) HandshakeFault) → IsOfInput a → Passes left calls side r0 r1 a
-      → (b : Result HandshakeSize HandshakeFault) × IsOfInput b × Reads Unheard side left calls r0 r1 tt tt b × (erased b ≡ a)
+module _ {R : Type 0} (left : R → Option (List ℕ)) (calls : R → ℕ) (packets : R → Option Packets) (packet : R → Option Packet) (side : Side) (r0 r1 : ReadAhead R) where
+  as_read : (a : Result (Unit {0}) HandshakeFault) → IsOfInput a → Passes left calls packets packet side r0 r1 a
+      → (b : Result HandshakeSize HandshakeFault) × IsOfInput b × Reads Unheard side left calls packets packet r0 r1 tt tt b × (erased b ≡ a)
   as_read (Ok x) of p =
       let lines = p.2.0 in
-      (Ok (record { lines = length lines; bytes = length (sent side lines) }), tt, (lines, subst (Took left calls 1 r0 r1) p.2.2 p.1, p.2.1, tt, (refl, refl)), refl)
+      (Ok (record { lines = length lines; bytes = length (sent side lines) }), tt, (lines, subst (Took left calls packets packet 1 r0 r1) p.2.2 p.1, p.2.1, tt, (refl, refl)), refl)
   as_read (Err Memory) of p = absurd of
   as_read (Err Device) of p = absurd of
   as_read (Err (Refused at why)) of p = (Err (Refused at why), tt, (p.0, p.1, (p.2.0, p.2.1, tt)), refl)
 
-  read_ok : (P : Type 0) (a : Result (Unit {0}) HandshakeFault) (of : IsOfInput a) (p : Passes left calls side r0 r1 a) → IfOk (as_read a of p).0 (λ x. P) → IfOk a (λ x. P)
+  read_ok : (P : Type 0) (a : Result (Unit {0}) HandshakeFault) (of : IsOfInput a) (p : Passes left calls packets packet side r0 r1 a) → IfOk (as_read a of p).0 (λ x. P) → IfOk a (λ x. P)
   unfolding as_read
   read_ok P (Ok x) of p h = h
   read_ok P (Err e) of p h = tt
 
-module _ {R S : Type 0} (left : R → Option (List ℕ)) (calls : R → ℕ) (other_left : S → Option (List ℕ)) (other_calls : S → ℕ) where
-  pub one_passing : OnePassing left calls other_left other_calls
+module _ {R S : Type 0} (left : R → Option (List ℕ)) (calls : R → ℕ) (packets : R → Option Packets) (packet : R → Option Packet) (other_left : S → Option (List ℕ)) (other_calls : S → ℕ) (other_packets : S → Option Packets) (other_packet : S → Option Packet) where
+  pub one_passing : OnePassing left calls packets packet other_left other_calls other_packets other_packet
   one_passing side input r0 r1 s0 s1 a b known known_too i j p q =
-      let x = as_read left calls side r0 r1 a i p in
-      let y = as_read other_left other_calls side s0 s1 b j q in
-      let one = one_handshake left calls other_left other_calls Unheard Unheard side input r0 r1 s0 s1 tt tt tt tt x.0 y.0 known known_too x.1 y.1 x.2 y.2 in
+      let x = as_read left calls packets packet side r0 r1 a i p in
+      let y = as_read other_left other_calls other_packets other_packet side s0 s1 b j q in
+      let one = one_handshake left calls packets packet other_left other_calls other_packets other_packet Unheard Unheard side input r0 r1 s0 s1 tt tt tt tt x.0 y.0 known known_too x.1 y.1 x.2 y.2 in
       let bytes = sent side one.0 in
-      let follows = read_ok left calls side r0 r1 (FollowsAlike left other_left input bytes r1 s1) a i p one.4 in
+      let follows = read_ok left calls packets packet side r0 r1 (GoesOnAlike left calls packets packet other_left other_calls other_packets other_packet input bytes r0 r1 s0 s1) a i p one.4 in
       (sym x.3 ∙ ap erased one.1 ∙ y.3, with_bytes bytes a follows)
     where
-      with_bytes : (bytes : List ℕ) (a : Result (Unit {0}) HandshakeFault) → IfOk a (λ x. FollowsAlike left other_left input bytes r1 s1)
-          → IfOk a (λ x. (l : List ℕ) × FollowsAlike left other_left input l r1 s1)
+      with_bytes : (bytes : List ℕ) (a : Result (Unit {0}) HandshakeFault) → IfOk a (λ x. GoesOnAlike left calls packets packet other_left other_calls other_packets other_packet input bytes r0 r1 s0 s1)
+          → IfOk a (λ x. (l : List ℕ) × GoesOnAlike left calls packets packet other_left other_calls other_packets other_packet input l r0 r1 s0 s1)
       with_bytes bytes (Ok x) h = (bytes, h)
       with_bytes bytes (Err e) h = tt

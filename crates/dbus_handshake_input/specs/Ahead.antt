@@ -4,7 +4,7 @@ use Rattle.std.specs.Io.KnownBytes.{Consumes, IsAtEnd}
 use Rattle.dbus_device.specs.Device.{one_more, RisesBy}
 use Rattle.dbus_device.specs.declared.device_fault.DeviceFault.{DeviceFault}
 use Rattle.dbus_device.specs.declared.packet.Packet.{Packet}
-use Rattle.dbus_device.specs.Packets.{Packets, prepend_packets}
+use Rattle.dbus_device.specs.Packets.{Packets, PacketsAfter, prepend_packets}
 use Rattle.dbus_handshake_input.specs.declared.read_ahead.ReadAhead.{ReadAhead}
 
 -- the device below
@@ -36,8 +36,8 @@ pub record Rests {R : Type 0} (old new : ReadAhead R) : Type 0 where
 
 -- These bytes were taken: what was kept and then read is these bytes and what is kept now. The
 -- device below was called for what was read, each time only once nothing was kept; at most so many
--- of these calls gave no byte.
-pub record Took {R : Type 0} (left : R → Option (List ℕ)) (calls : R → ℕ) (idle : ℕ) (old new : ReadAhead R) (bytes : List ℕ) : Type 0 where
+-- of these calls gave no byte. What is left is of the packets that it was of.
+pub record Took {R : Type 0} (left : R → Option (List ℕ)) (calls : R → ℕ) (packets : R → Option Packets) (packet : R → Option Packet) (idle : ℕ) (old new : ReadAhead R) (bytes : List ℕ) : Type 0 where
   pub read : List ℕ
   pub consumed : Consumes (left (source_of old)) (left (source_of new)) read
   pub joined : kept_of old ++ read ≡ bytes ++ kept_of new
@@ -47,6 +47,7 @@ pub record Took {R : Type 0} (left : R → Option (List ℕ)) (calls : R → ℕ
   -- a call for each byte that was taken, at most, and one more
   pub few : 0 < count → count + length (kept_of old) ≤ length bytes + 1
   pub answered : answered_of new ≤ answered_of old
+  pub of_packets : PacketsAfter (length bytes) (packets_of packets packet old) (packets_of packets packet new)
 
 -- a call of `read` into so much room was answered by bytes that were kept
 pub record IsAnswered {R : Type 0} (old new : ReadAhead R) (room : ℕ) : Type 0 where

@@ -2,6 +2,8 @@
 use Rattle.std.specs.Prelude.{ℕ, ◌≡◌, ◌↔◌, ◌++◌, Bool, true, false, List, Vec, Option, Result, Ok, Err, ◌+◌, ◌⊎◌, [], ◌∷◌, length}
 use Rattle.std.specs.Io.KnownBytes.{IsAtEnd}
 use Rattle.std.specs.List.{AllByRecursion}
+use Rattle.dbus_device.specs.Packets.{Packets}
+use Rattle.dbus_device.specs.declared.packet.Packet.{Packet}
 use Rattle.dbus_auth_lines.specs.ClientCommands.{ClientCommand}
 use Rattle.dbus_auth_lines.specs.ClientCommands as client
 use Rattle.dbus_auth_lines.specs.ServerCommands.{ServerCommand}
@@ -24,11 +26,11 @@ use Rattle.dbus_handshake_input.specs.declared.size.HandshakeSize.{HandshakeSize
 -- What is read of one line, and what a line says of the handshake.
 
 -- a line was taken with its CR LF, or what was read begins with none
-abbrev pub ReadsLine : {R Z : Type 0} → (R → Option (List ℕ)) → (R → ℕ) → (side : Side) → ReadAhead R → ReadAhead R → Result (Vec ℕ Z) HandshakeFault → Type 0
-ReadsLine left calls side old new (Ok line) = IsLine line.items × Took left calls 0 old new (ended line.items)
-ReadsLine left calls side old new (Err Memory) = (bytes : List ℕ) × Took left calls 1 old new bytes
-ReadsLine left calls side old new (Err Device) = (bytes : List ℕ) × Took left calls 1 old new bytes
-ReadsLine left calls side old new (Err (Refused at why)) = (bytes : List ℕ) × Took left calls 1 old new bytes
+abbrev pub ReadsLine : {R Z : Type 0} → (R → Option (List ℕ)) → (R → ℕ) → (R → Option Packets) → (R → Option Packet) → (side : Side) → ReadAhead R → ReadAhead R → Result (Vec ℕ Z) HandshakeFault → Type 0
+ReadsLine left calls packets packet side old new (Ok line) = IsLine line.items × Took left calls packets packet 0 old new (ended line.items)
+ReadsLine left calls packets packet side old new (Err Memory) = (bytes : List ℕ) × Took left calls packets packet 1 old new bytes
+ReadsLine left calls packets packet side old new (Err Device) = (bytes : List ℕ) × Took left calls packets packet 1 old new bytes
+ReadsLine left calls packets packet side old new (Err (Refused at why)) = (bytes : List ℕ) × Took left calls packets packet 1 old new bytes
     × IsNoLine side (bytes ++ kept_of new) (IsAtEnd (left (source_of new))) at why
 
 -- what a line says
@@ -108,10 +110,10 @@ module _ {V : Type 0} (hears : V → List HeardLine → V → Type 0) (side : Si
 
   -- a handshake of the side was taken, what is kept then follows it, and each of its lines was
   -- heard; or what was read begins with none, and each line before the place of that was heard
-  abbrev pub Reads : {R : Type 0} → (R → Option (List ℕ)) → (R → ℕ) → ReadAhead R → ReadAhead R → V → V → Result HandshakeSize HandshakeFault → Type 0
-  Reads left calls old new before after (Ok size) = (lines : List (List ℕ)) × Took left calls 1 old new (sent side lines)
+  abbrev pub Reads : {R : Type 0} → (R → Option (List ℕ)) → (R → ℕ) → (R → Option Packets) → (R → Option Packet) → ReadAhead R → ReadAhead R → V → V → Result HandshakeSize HandshakeFault → Type 0
+  Reads left calls packets packet old new before after (Ok size) = (lines : List (List ℕ)) × Took left calls packets packet 1 old new (sent side lines)
       × AreAllLines side lines (kept_of new) (IsAtEnd (left (source_of new))) × hears before (heard side lines) after × IsSize side lines size
-  Reads left calls old new before after (Err Memory) = (bytes : List ℕ) × Took left calls 1 old new bytes × HearsSome bytes before after
-  Reads left calls old new before after (Err Device) = (bytes : List ℕ) × Took left calls 1 old new bytes × HearsSome bytes before after
-  Reads left calls old new before after (Err (Refused at why)) = (bytes : List ℕ) × Took left calls 1 old new bytes
+  Reads left calls packets packet old new before after (Err Memory) = (bytes : List ℕ) × Took left calls packets packet 1 old new bytes × HearsSome bytes before after
+  Reads left calls packets packet old new before after (Err Device) = (bytes : List ℕ) × Took left calls packets packet 1 old new bytes × HearsSome bytes before after
+  Reads left calls packets packet old new before after (Err (Refused at why)) = (bytes : List ℕ) × Took left calls packets packet 1 old new bytes
       × ((lines : List (List ℕ)) × BreaksAfter side lines (bytes ++ kept_of new) (IsAtEnd (left (source_of new))) at why × hears before (heard side lines) after)

@@ -1,6 +1,8 @@
 -- What a call does that reads a handshake.
 use Rattle.std.specs.Prelude.{ℕ, ◌≡◌, ◌≢◌, ◌≤◌, ◌+◌, ◌⊎◌, ◌++◌, Bool, true, false, List, [], ◌∷◌, length, Option, Result, Ok, Err}
 use Rattle.std.specs.Io.KnownBytes.{IsAtEnd}
+use Rattle.dbus_device.specs.Packets.{Packets}
+use Rattle.dbus_device.specs.declared.packet.Packet.{Packet}
 use Rattle.dbus_device.specs.Device.{one_more}
 use Rattle.dbus_device.specs.declared.device_fault.DeviceFault.{DeviceFault}
 use Rattle.dbus_handshake_input.specs.Ahead.{source_of, kept_of, Took}
@@ -12,11 +14,11 @@ use Rattle.dbus_handshake_input.specs.declared.fault.HandshakeFault.TheVariants.
 
 -- a handshake of the side was taken, and what is kept then follows it; or what was read begins with
 -- none
-abbrev pub Passes : {R : Type 0} → (R → Option (List ℕ)) → (R → ℕ) → Side → ReadAhead R → ReadAhead R → Result (Unit {0}) HandshakeFault → Type 0
-Passes left calls side old new (Ok x) = (bytes : List ℕ) × Took left calls 1 old new bytes × IsHandshake side bytes (kept_of new) (IsAtEnd (left (source_of new)))
-Passes left calls side old new (Err Memory) = (bytes : List ℕ) × Took left calls 1 old new bytes
-Passes left calls side old new (Err Device) = (bytes : List ℕ) × Took left calls 1 old new bytes
-Passes left calls side old new (Err (Refused at why)) = (bytes : List ℕ) × Took left calls 1 old new bytes
+abbrev pub Passes : {R : Type 0} → (R → Option (List ℕ)) → (R → ℕ) → (R → Option Packets) → (R → Option Packet) → Side → ReadAhead R → ReadAhead R → Result (Unit {0}) HandshakeFault → Type 0
+Passes left calls packets packet side old new (Ok x) = (bytes : List ℕ) × Took left calls packets packet 1 old new bytes × IsHandshake side bytes (kept_of new) (IsAtEnd (left (source_of new)))
+Passes left calls packets packet side old new (Err Memory) = (bytes : List ℕ) × Took left calls packets packet 1 old new bytes
+Passes left calls packets packet side old new (Err Device) = (bytes : List ℕ) × Took left calls packets packet 1 old new bytes
+Passes left calls packets packet side old new (Err (Refused at why)) = (bytes : List ℕ) × Took left calls packets packet 1 old new bytes
     × IsNoHandshake side (bytes ++ kept_of new) (IsAtEnd (left (source_of new))) at why
 
 -- a read failed exactly if that is the answer
@@ -27,11 +29,11 @@ Counts old new (Err Device) = new ≡ one_more old
 Counts old new (Err (Refused at why)) = new ≡ old
 
 -- what comes before the lines of a side was taken; or what was read begins with something else
-abbrev pub Greets : {R : Type 0} → (R → Option (List ℕ)) → (R → ℕ) → Side → ReadAhead R → ReadAhead R → Result ℕ HandshakeFault → Type 0
-Greets left calls side old new (Ok count) = Took left calls 0 old new (greeting side) × (count ≡ length (greeting side))
-Greets left calls side old new (Err Memory) = ⊥
-Greets left calls side old new (Err Device) = Took left calls 1 old new []
-Greets left calls side old new (Err (Refused at why)) = Took left calls 1 old new [] × BreaksAfter side [] (kept_of new) (IsAtEnd (left (source_of new))) at why
+abbrev pub Greets : {R : Type 0} → (R → Option (List ℕ)) → (R → ℕ) → (R → Option Packets) → (R → Option Packet) → Side → ReadAhead R → ReadAhead R → Result ℕ HandshakeFault → Type 0
+Greets left calls packets packet side old new (Ok count) = Took left calls packets packet 0 old new (greeting side) × (count ≡ length (greeting side))
+Greets left calls packets packet side old new (Err Memory) = ⊥
+Greets left calls packets packet side old new (Err Device) = Took left calls packets packet 1 old new []
+Greets left calls packets packet side old new (Err (Refused at why)) = Took left calls packets packet 1 old new [] × BreaksAfter side [] (kept_of new) (IsAtEnd (left (source_of new))) at why
 
 -- the next byte, of which one is kept, begins no message
 pub record IsLineNext (kept : List ℕ) : Type 0 where

@@ -27,6 +27,8 @@ const MOST_LINES: usize = 1024;
 /// of the input. Each line is a command of its side, of at most 16,384 bytes with its CR LF. There
 /// are at most 1,024.
 ///
+/// Each byte that follows is still of the packet that the source says of it.
+///
 /// `Refused`: the bytes begin with no handshake of the side; the place counts from the first byte
 /// that was taken. `Device`: a read failed. `Memory`: an allocation failed. After each of them the
 /// bytes before the place that was reached are taken, and the call is not to be made again.
@@ -55,7 +57,7 @@ pub fn pass_handshake<A: Allocator + Copy, R: Source>(
     side: Side,
     input: &mut ReadAhead<R>,
 ) -> Result<(), HandshakeFault>
-    ensures passes { Passes R.left R.calls side input.old input.new result }
+    ensures passes { Passes R.left R.calls R.packets R.packet side input.old input.new result }
     ensures failed { Counts (R.failures (source_of input.old)) (R.failures (source_of input.new))
         result }
     ensures same_reference { R.reference (source_of input.new) ≡
@@ -78,7 +80,8 @@ pub fn read_handshake<A: Allocator + Copy, R: Source, V: LineVisitor>(
     input: &mut ReadAhead<R>,
     visitor: &mut V,
 ) -> Result<HandshakeSize, HandshakeFault>
-    ensures reads { Reads V.hears side R.left R.calls input.old input.new visitor.old visitor.new result }
+    ensures reads { Reads V.hears side R.left R.calls R.packets R.packet input.old input.new
+        visitor.old visitor.new result }
     ensures failed { Counts (R.failures (source_of input.old)) (R.failures (source_of input.new))
         result }
     ensures same_reference { R.reference (source_of input.new) ≡
@@ -123,7 +126,7 @@ pub fn read_handshake<A: Allocator + Copy, R: Source, V: LineVisitor>(
 
 // Takes what comes before the lines of a side, and returns how many bytes that is.
 fn greeted<R: Source>(side: Side, input: &mut ReadAhead<R>) -> Result<usize, HandshakeFault>
-    ensures greets { Greets R.left R.calls side input.old input.new result }
+    ensures greets { Greets R.left R.calls R.packets R.packet side input.old input.new result }
     ensures failed { Counts (R.failures (source_of input.old)) (R.failures (source_of input.new))
         result }
     ensures same_reference { R.reference (source_of input.new) ≡
@@ -150,7 +153,8 @@ fn greeted<R: Source>(side: Side, input: &mut ReadAhead<R>) -> Result<usize, Han
 // one that begins a message and no line.
 fn sees_messages<R: Source>(accepted: bool, input: &mut ReadAhead<R>) -> Result<bool, DeviceFault>
     ensures sees { SeesMessages R.left accepted input.new result }
-    ensures took { Took R.left R.calls (idle_unless false result) input.old input.new [] }
+    ensures took { Took R.left R.calls R.packets R.packet (idle_unless false result)
+        input.old input.new [] }
     ensures failed { ReadCounts (R.failures (source_of input.old))
         (R.failures (source_of input.new)) result }
     ensures same_reference { R.reference (source_of input.new) ≡

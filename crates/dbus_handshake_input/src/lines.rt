@@ -59,7 +59,7 @@ pub(crate) fn next_line<A: Allocator + Copy, R: Source>(
     side: Side,
     input: &mut ReadAhead<R>,
 ) -> Result<Vec<u8, A>, HandshakeFault>
-    ensures reads { ReadsLine R.left R.calls side input.old input.new result }
+    ensures reads { ReadsLine R.left R.calls R.packets R.packet side input.old input.new result }
     ensures failed { Counts (R.failures (source_of input.old)) (R.failures (source_of input.new))
         result }
     ensures same_reference { R.reference (source_of input.new) ≡

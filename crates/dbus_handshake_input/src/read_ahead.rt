@@ -55,7 +55,8 @@ impl<R: Source> ReadAhead<R> {
     // Reads once if nothing is kept. It is false at the end of the input.
     pub(crate) fn has_more(&mut self) -> Result<bool, DeviceFault>
         ensures more { HasMore R.left self.new result }
-        ensures took { Took R.left R.calls (idle_unless true result) self.old self.new [] }
+        ensures took { Took R.left R.calls R.packets R.packet (idle_unless true result)
+            self.old self.new [] }
         ensures failed { ReadCounts (R.failures (source_of self.old))
             (R.failures (source_of self.new)) result }
         ensures same_reference { R.reference (source_of self.new) ≡

@@ -14,6 +14,8 @@ use Rattle.dbus_value_model.specs.declared.fd_rule.FdRule.TheVariants.{Any, Belo
 use Rattle.dbus_value_model.specs.declared.limits.Limits.{Limits}
 use Rattle.dbus_value_model.specs.declared.order.Order.{Order}
 use Rattle.dbus_value_model.specs.declared.order.Order.TheVariants.{Little, Big}
+use Rattle.dbus_device.specs.Packets.{Packets}
+use Rattle.dbus_device.specs.declared.packet.Packet.{Packet}
 use Rattle.dbus_handshake_input.specs.declared.side.Side.{Side}
 use Rattle.dbus_handshake_input.specs.declared.side.Side.TheVariants.{Client, Server}
 use Rattle.dbus_rule.proofs.Unique.{one_rule}
@@ -326,12 +328,12 @@ same_asked words a b p q = same_named (subcommand_of wire_app words) a b p q
 
 -- The text of the lines of a handshake, by what its page gained.
 
-module _ {R W : Type 0} (left : R → Option (List ℕ)) (calls : R → ℕ) (held : W → Option (List ℕ)) (failures : W → ℕ) (side : Side) (r0 r1 : ReadAhead R) where
+module _ {R W : Type 0} (left : R → Option (List ℕ)) (calls : R → ℕ) (packets : R → Option Packets) (packet : R → Option Packet) (held : W → Option (List ℕ)) (failures : W → ℕ) (side : Side) (r0 r1 : ReadAhead R) where
   abbrev pub Heard : ShownLines (Page W) → List HeardLine → ShownLines (Page W) → Type 0
   Heard a lines b = Goes held failures a.0 (flat_map line_text lines) b.0
 
-  pub listed : (read : Result HandshakeSize HandshakeFault) (p0 p1 : ShownLines (Page W)) → Reads Heard side left calls r0 r1 p0 p1 read
-      → (text : List ℕ) × IsListed left calls r0 r1 side read text × Goes held failures p0.0 text p1.0
+  pub listed : (read : Result HandshakeSize HandshakeFault) (p0 p1 : ShownLines (Page W)) → Reads Heard side left calls packets packet r0 r1 p0 p1 read
+      → (text : List ℕ) × IsListed left calls packets packet r0 r1 side read text × Goes held failures p0.0 text p1.0
   listed (Ok size) p0 p1 r = (flat_map line_text (heard side r.0), (r.0, r.1, r.2, refl, r.4), r.3)
   listed (Err Memory) p0 p1 r = (
     flat_map line_text (heard side r.2.lines),
@@ -345,21 +347,21 @@ module _ {R W : Type 0} (left : R → Option (List ℕ)) (calls : R → ℕ) (he
   )
   listed (Err (Refused at why)) p0 p1 r = (flat_map line_text (heard side r.2.0), (r.0, r.1, (r.2.0, r.2.1, refl)), r.2.2)
 
-  pub puts_all : (size : HandshakeSize) (p0 p1 : ShownLines (Page W)) (p2 : Page W) → Reads Heard side left calls r0 r1 p0 p1 (Ok size) → Goes held failures p1.0 (size_line size) p2
-      → PutsLines left calls r0 r1 held failures p0.0 p2 side (Ok size)
+  pub puts_all : (size : HandshakeSize) (p0 p1 : ShownLines (Page W)) (p2 : Page W) → Reads Heard side left calls packets packet r0 r1 p0 p1 (Ok size) → Goes held failures p1.0 (size_line size) p2
+      → PutsLines left calls packets packet r0 r1 held failures p0.0 p2 side (Ok size)
   puts_all size p0 p1 p2 r after =
       let l = listed (Ok size) p0 p1 r in (l.0, l.1, joins held failures p0.0 p1.0 p2 l.0 (size_line size) l.2 after)
 
-  pub puts_some : (fault : HandshakeFault) (p0 p1 : ShownLines (Page W)) → Reads Heard side left calls r0 r1 p0 p1 (Err fault)
-      → PutsLines left calls r0 r1 held failures p0.0 p1.0 side (Err fault)
+  pub puts_some : (fault : HandshakeFault) (p0 p1 : ShownLines (Page W)) → Reads Heard side left calls packets packet r0 r1 p0 p1 (Err fault)
+      → PutsLines left calls packets packet r0 r1 held failures p0.0 p1.0 side (Err fault)
   puts_some fault p0 p1 r =
       let l = listed (Err fault) p0 p1 r in
       (l.0, l.1, subst (λ text. Goes held failures p0.0 text p1.0) (sym (append-nil l.0)) l.2)
 
   -- what was gathered is written after that
   pub written_out : (read : Result HandshakeSize HandshakeFault) (g : List ℕ) (w0 w1 w2 : W) (out : Result (Unit {0}) Unwritten)
-      → GathersLines left calls r0 r1 (writing held failures w0 w1) side [] g read (Ok tt) → Gathers held failures [] g [] w1 w2 out
-      → WritesLines left calls r0 r1 (writing held failures w0 w2) side read out
+      → GathersLines left calls packets packet r0 r1 (writing held failures w0 w1) side [] g read (Ok tt) → Gathers held failures [] g [] w1 w2 out
+      → WritesLines left calls packets packet r0 r1 (writing held failures w0 w2) side read out
   written_out read g w0 w1 w2 (Ok x) h after =
       let all = h.0 ++ last_line read in
       (h.0, h.1, subst (λ text. Passes held failures text [] [] w0 w2) (append-nil all) (passes_both held failures all [] [] g [] w0 w1 w2 h.2 after))

@@ -1,16 +1,17 @@
 -- Two runs of the program by words that name one way, over the same input, end alike.
-use Rattle.std.proofs.Common.{◌≡◌, ◌≢◌, ℕ, Bool, true, false, ◌&&◌, List, [], ◌∷◌, ◌++◌, None, Some, Option, Result, Ok, Err, IfOk, string_bytes, codes, refl, sym, ap, ◌∙◌, subst, arith, inl, inr, append-nil}
+use Rattle.std.proofs.Common.{◌≡◌, ◌≢◌, ◌⊎◌, ◌+◌, ℕ, Bool, true, false, ◌&&◌, List, [], ◌∷◌, ◌++◌, length, None, Some, Option, Result, Ok, Err, IfOk, string_bytes, codes, refl, sym, ap, ◌∙◌, subst, arith, inl, inr, append-nil}
+use Rattle.std.proofs.Math.Path.{fun_ext}
 use Rattle.std.specs.Io.KnownBytes.{Appends}
 use Rattle.std.specs.declared.alloc.Global.{Global}
 use Rattle.clap.specs.Words.{Row, Text, subcommand_of}
 use Rattle.clap.specs.Kinds.{IsAmong}
 use Rattle.clap.specs.declared.error.kind.ErrorKind.TheVariants.{DisplayHelp, DisplayVersion}
 use Rattle.dbus_device.specs.Device.{Wrote}
-use Rattle.dbus_device.specs.Packets.{Packets}
+use Rattle.dbus_device.specs.Packets.{Packets, PacketsAfter}
 use Rattle.dbus_device.specs.declared.packet.Packet.{Packet}
 use Rattle.dbus_value_model.proofs.Numbers.{IsBytes-rest}
 use Rattle.dbus_count.specs.Tables.{OneTable}
-use Rattle.dbus_handshake_input.specs.Alike.{FollowsAlike, IsOfInput}
+use Rattle.dbus_handshake_input.specs.Alike.{GoesOnAlike, IsOfInput}
 use Rattle.dbus_handshake_input.specs.declared.fault.HandshakeFault.{HandshakeFault}
 use Rattle.dbus_handshake_input.specs.declared.fault.HandshakeFault.TheVariants.{Memory as OutOfMemory, Device, Refused}
 use Rattle.dbus_handshake_input.specs.declared.fault.HandshakeReason.{HandshakeReason}
@@ -51,7 +52,7 @@ use Rattle.cli_run.specs.Output.{AreAlike, IsExact, form_of}
 use Rattle.cli_run.proofs.SameOutputs.{acts_as}
 use Rattle.cli_run.specs.VisitorLaws.{wrote_nothing}
 use Rattle.cli_run.proofs.SameRuns.{one_calls, one_count, one_run, one_sums}
-use Rattle.dbus_tool.specs.Alike.{AreOfSamePacketsFrom, AskAlike, IsOneWay, NameOneWay, OneProgram, RunAlike, TellAlike, TellsOneWay}
+use Rattle.dbus_tool.specs.Alike.{AskAlike, IsOneWay, NameOneWay, OneProgram, RunAlike, TellsOneWay}
 use Rattle.dbus_tool.specs.Handshaking.{TakesHandshake, TellsHandshake, ahead, handshake_line, EndsList, IsListed, Lengthens, Lists, WritesLines, last_line}
 use Rattle.dbus_tool.specs.Words.{Does, DoesBy, DoesCalls, DoesTask, Notes, RunsNoted, calls_wanted, table_form}
 use Rattle.dbus_tool.specs.declared.words.Task.{Task}
@@ -182,78 +183,91 @@ module _ {E F : Type 0} (e : Writing E) (f : Writing F) (end other : ExitStatus)
   lists_alike (Err why) (Ok other_size) same h k = absurd cc
 
 -- a list that was written
-module _ {R W E : Type 0} (left : R → Option (List ℕ)) (calls failures : R → ℕ) (old new : ReadAhead R) (w : Writing W) (e : Writing E) (side : Side) (end : ExitStatus) (done : end ≢ status.Failed) where
+module _ {R W E : Type 0} (left : R → Option (List ℕ)) (calls failures : R → ℕ) (packets : R → Option Packets) (packet : R → Option Packet) (old new : ReadAhead R) (w : Writing W) (e : Writing E) (side : Side) (end : ExitStatus) (done : end ≢ status.Failed) where
   record IsWritten : Type 0 where
     read : Result HandshakeSize HandshakeFault
     of : IsOfInput read
     text : List ℕ
-    listed : IsListed left calls old new side read text
+    listed : IsListed left calls packets packet old new side read text
     wrote : Wrote w.held w.failures w.old (text ++ last_line read) w.new
     ends : EndsList e read (Ok tt) end
 
-  written : Lists left calls failures old new w e side end → IsWritten
+  written : Lists left calls failures packets packet old new w e side end → IsWritten
   written h = by_put h.read h.put h.lines h.ends
     where
       of_read : (read : Result HandshakeSize HandshakeFault) → EndsList e read (Ok tt) end → IsOfInput read
       of_read (Ok size) ends = tt
       of_read (Err why) ends = fault_of_input e end done HandshakeSize why ends
 
-      by_put : (read : Result HandshakeSize HandshakeFault) (put : Result (Unit {0}) Unwritten) → WritesLines left calls old new w side read put → EndsList e read put end → IsWritten
+      by_put : (read : Result HandshakeSize HandshakeFault) (put : Result (Unit {0}) Unwritten) → WritesLines left calls packets packet old new w side read put → EndsList e read put end → IsWritten
       by_put read (Ok x) lines ends =
           record { read = read; of = of_read read ends; text = lines.0; listed = lines.1; wrote = wrote_gathered w.held w.failures w.old w.new (lines.0 ++ last_line read) lines.2; ends = ends }
       by_put read (Err u) lines ends = absurd (done ends.0)
 
 -- ---- two runs
 
+-- after as many bytes of the same packets what is left is of the same ones
+same_after : (n : ℕ) (a b c d : Option Packets) (all : Packets) → PacketsAfter n a c → PacketsAfter n b d → a ≡ Some all → b ≡ Some all → (rest : Packets) × (c ≡ Some rest) × (d ≡ Some rest)
+same_after n None b c d all h k e f = absurd cc
+same_after n (Some x) None c d all h k e f = absurd cc
+same_after n (Some x) (Some y) None d all h k e f = absurd h
+same_after n (Some x) (Some y) (Some c) None all h k e f = absurd k
+same_after n (Some x) (Some y) (Some c) (Some d) all h k e f =
+    let is : y ≡ x = let z : Some y ≡ Some x = f ∙ sym e in cc in
+    (c, refl, ap (λ (l : Packets). Some l) (fun_ext (λ i. k i ∙ ap (λ (l : Packets). l (n + i)) is ∙ sym (h i))))
+
 module _ {R S W V E F : Type 0} (one_table : OneTable) (left : R → Option (List ℕ)) (calls failures : R → ℕ) (packets : R → Option Packets) (packet : R → Option Packet) (other_left : S → Option (List ℕ)) (other_calls other_failures : S → ℕ)
     (other_packets : S → Option Packets) (other_packet : S → Option Packet) (r0 r1 : ReadAhead R)
     (s0 s1 : ReadAhead S) (w : Writing W) (v : Writing V) (e : Writing E) (f : Writing F) (end other : ExitStatus) (input : ReadAlike (ahead left calls failures packets packet r0 r1) (ahead other_left other_calls other_failures other_packets other_packet s0 s1))
     (done : end ≢ status.Failed) (other_done : other ≢ status.Failed) where
-  -- what follows in both sources is the same
+  -- both inputs are of the same packets
+  abbrev Same : ReadAhead R → ReadAhead S → Type 0
+  Same r s = AreOfSamePackets (ahead left calls failures packets packet r r1) (ahead other_left other_calls other_failures other_packets other_packet s s1)
+
+  -- what follows in both sources is the same, and of the same packets if the inputs are
   abbrev FromHere : ReadAhead R → ReadAhead S → Type 0
-  FromHere r s = ReadAlike (ahead left calls failures packets packet r r1) (ahead other_left other_calls other_failures other_packets other_packet s s1)
+  FromHere r s = ReadAlike (ahead left calls failures packets packet r r1) (ahead other_left other_calls other_failures other_packets other_packet s s1) × (Same r0 s0 → Same r s)
 
   taken_alike : (side : Option Side) (r : ReadAhead R) (s : ReadAhead S) (a b : Result (Unit {0}) HandshakeFault) → IsOfInput a → IsOfInput b
-      → TakesHandshake left calls failures side r0 r a → TakesHandshake other_left other_calls other_failures side s0 s b → (a ≡ b) × IfOk a (λ x. FromHere r s)
+      → TakesHandshake left calls failures packets packet side r0 r a → TakesHandshake other_left other_calls other_failures other_packets other_packet side s0 s b → (a ≡ b) × IfOk a (λ x. FromHere r s)
   taken_alike None r s (Ok x) (Ok y) of other_of h k =
-      (refl, subst (λ (t : ReadAhead S). FromHere r t) (sym k) (subst (λ (t : ReadAhead R). FromHere t s0) (sym h) input))
+      (refl, subst (λ (t : ReadAhead S). FromHere r t) (sym k) (subst (λ (t : ReadAhead R). FromHere t s0) (sym h) (input, λ same. same)))
   taken_alike None r s (Err why) b of other_of h k = absurd h
   taken_alike None r s (Ok x) (Err because) of other_of h k = absurd k
   taken_alike (Some side) r s a b of other_of h k =
-      let one = one_passing left calls other_left other_calls side input.0 r0 r s0 s a b input.2 input.3 of other_of h.0 k.0 in
+      let one = one_passing left calls packets packet other_left other_calls other_packets other_packet side input.0 r0 r s0 s a b input.2 input.3 of other_of h.0 k.0 in
       (one.0, begun a one.1)
     where
-      begun : (a : Result (Unit {0}) HandshakeFault) → IfOk a (λ x. (bytes : List ℕ) × FollowsAlike left other_left input.0 bytes r s) → IfOk a (λ x. FromHere r s)
-      begun (Ok x) g = (g.1.0, IsBytes-rest input.0 g.0 g.1.0 g.1.1 input.1, g.1.2, g.1.3)
+      begun : (a : Result (Unit {0}) HandshakeFault) → IfOk a (λ x. (bytes : List ℕ) × GoesOnAlike left calls packets packet other_left other_calls other_packets other_packet input.0 bytes r0 r s0 s) → IfOk a (λ x. FromHere r s)
+      begun (Ok x) (bytes, (follows, after, also)) = (
+        (follows.0, IsBytes-rest input.0 bytes follows.0 follows.1 input.1, follows.2, follows.3),
+        λ same.
+            let all = same_after (length bytes) _ _ _ _ same.all after also same.one same.same in
+            record { all = all.0; one = all.1; same = all.2 },
+      )
       begun (Err why) g = tt
 
-  -- both inputs are of the same packets from where the messages begin
-  abbrev SameFrom : Settings → Type 0
-  SameFrom settings = AreOfSamePacketsFrom left calls failures packets packet other_left other_calls other_failures other_packets other_packet r0 r1 s0 s1 end settings
-
   -- what is told of refused messages is the same
-  abbrev Told : Settings → Type 0
-  Told settings = TellAlike left calls failures packets packet other_left other_calls other_failures other_packets other_packet r0 r1 s0 s1 end settings
+  abbrev Told : Type 0
+  Told = Same r0 s0 ⊎ (end ≡ status.Done)
 
-  told_from : (settings : Settings) (r : ReadAhead R) (s : ReadAhead S) → TakesHandshake left calls failures settings.handshake r0 r (Ok tt) → TakesHandshake other_left other_calls other_failures settings.handshake s0 s (Ok tt)
-      → Told settings → AreToldAlike (ahead left calls failures packets packet r r1) (ahead other_left other_calls other_failures other_packets other_packet s s1) end
-  told_from settings r s h k told = elim told [ inl same ↦ inl (same r s h k) | inr all ↦ inr all ]
+  told_from : (r : ReadAhead R) (s : ReadAhead S) → FromHere r s → Told → AreToldAlike (ahead left calls failures packets packet r r1) (ahead other_left other_calls other_failures other_packets other_packet s s1) end
+  told_from r s here told = elim told [ inl same ↦ inl (here.1 same) | inr all ↦ inr all ]
 
   -- and so is what a command writes in this form
-  abbrev Runs : FileForm → Settings → Type 0
-  Runs form settings = RunAlike left calls failures packets packet other_left other_calls other_failures other_packets other_packet r0 r1 s0 s1 end form settings
+  abbrev Runs : FileForm → Type 0
+  Runs form = RunAlike left calls failures packets packet other_left other_calls other_failures other_packets other_packet r0 r1 s0 s1 end form
 
-  told_of : (form : FileForm) (settings : Settings) → Runs form settings → Told settings
-  told_of Raw settings run = run
-  told_of AsRead settings run = inl run
+  told_of : (form : FileForm) → Runs form → Told
+  told_of Raw run = run
+  told_of AsRead run = inl run
 
-  placed_alike : (form : FileForm) (settings : Settings) → Runs form settings → (r : ReadAhead R) (s : ReadAhead S) → TakesHandshake left calls failures settings.handshake r0 r (Ok tt)
-      → TakesHandshake other_left other_calls other_failures settings.handshake s0 s (Ok tt) → AreAlike form (packets_of packets packet r) (packets_of other_packets other_packet s)
-  placed_alike Raw settings run r s taken also = tt
-  placed_alike AsRead settings run r s taken also = let all = run r s taken also in (all.all, all.one, all.same)
+  placed_alike : (form : FileForm) → Runs form → (r : ReadAhead R) (s : ReadAhead S) → FromHere r s → AreAlike form (packets_of packets packet r) (packets_of other_packets other_packet s)
+  placed_alike Raw run r s here = tt
+  placed_alike AsRead run r s here = let all = here.1 run in (all.all, all.one, all.same)
 
   tasks_alike : (settings : Settings) (task copy : Task)
-      → ((r : ReadAhead R) (s : ReadAhead S) → TakesHandshake left calls failures settings.handshake r0 r (Ok tt) → TakesHandshake other_left other_calls other_failures settings.handshake s0 s (Ok tt)
+      → ((r : ReadAhead R) (s : ReadAhead S) → TakesHandshake left calls failures packets packet settings.handshake r0 r (Ok tt) → TakesHandshake other_left other_calls other_failures other_packets other_packet settings.handshake s0 s (Ok tt)
       → FromHere r s → DoesBy (ahead left calls failures packets packet r r1) w e settings task end → DoesBy (ahead other_left other_calls other_failures other_packets other_packet s s1) v f settings copy other
       → EndAlike w v e f end other)
       → DoesTask left calls failures packets packet r0 r1 w e settings task end → DoesTask other_left other_calls other_failures other_packets other_packet s0 s1 v f settings copy other → EndAlike w v e f end other
@@ -279,38 +293,38 @@ module _ {R S W V E F : Type 0} (one_table : OneTable) (left : R → Option (Lis
     ]
   ]
 
-  listed_alike : (side : Side) → Lists left calls failures r0 r1 w e side end → Lists other_left other_calls other_failures s0 s1 v f side other → EndAlike w v e f end other
+  listed_alike : (side : Side) → Lists left calls failures packets packet r0 r1 w e side end → Lists other_left other_calls other_failures other_packets other_packet s0 s1 v f side other → EndAlike w v e f end other
   listed_alike side lists listing =
-      let h = written left calls failures r0 r1 w e side end done lists in
-      let k = written other_left other_calls other_failures s0 s1 v f side other other_done listing in
-      let one = one_handshake left calls other_left other_calls Lengthens Lengthens side input.0 r0 r1 s0 s1 [] h.text [] k.text h.read k.read input.2 input.3 h.of k.of h.listed k.listed in
+      let h = written left calls failures packets packet r0 r1 w e side end done lists in
+      let k = written other_left other_calls other_failures other_packets other_packet s0 s1 v f side other other_done listing in
+      let one = one_handshake left calls packets packet other_left other_calls other_packets other_packet Lengthens Lengthens side input.0 r0 r1 s0 s1 [] h.text [] k.text h.read k.read input.2 input.3 h.of k.of h.listed k.listed in
       let texts : h.text ≡ k.text = one.2 ∙ sym one.3 in
       let all : h.text ++ last_line h.read ≡ k.text ++ last_line k.read = λ i. texts i ++ last_line (one.1 i) in
       let ends = lists_alike e f end other done other_done h.read k.read one.1 h.ends k.ends in
       record { status_is = ends.0; first = (h.text ++ last_line h.read, h.wrote, subst (λ l. Wrote v.held v.failures v.old l v.new) (sym all) k.wrote); second = ends.1 }
 
-  runs_alike : (c d : Command) (settings : Settings) → Runs (form_of c) settings → AreSameCommand c d → IsExact c → TellsOneWay settings end → DoesTask left calls failures packets packet r0 r1 w e settings (Run c) end
+  runs_alike : (c d : Command) (settings : Settings) → Runs (form_of c) → AreSameCommand c d → IsExact c → TellsOneWay settings end → DoesTask left calls failures packets packet r0 r1 w e settings (Run c) end
       → DoesTask other_left other_calls other_failures other_packets other_packet s0 s1 v f settings (Run d) other → EndAlike w v e f end other
   runs_alike c d settings run same exact off = tasks_alike settings (Run c) (Run d) (λ r s taken also here does doing.
       (one_run (ReadAhead R) (ReadAhead S) W V E F (ahead left calls failures packets packet r r1) (ahead other_left other_calls other_failures other_packets other_packet s s1) w v e f settings _ _ c d end other same
-      (record { input = here; told = told_from settings r s taken also (told_of (form_of c) settings run); explains = shows_none settings end off; done = done; other_done = other_done }) does doing).1 exact (placed_alike (form_of c) settings run r s taken also))
+      (record { input = here.0; told = told_from r s here (told_of (form_of c) run); explains = shows_none settings end off; done = done; other_done = other_done }) does doing).1 exact (placed_alike (form_of c) run r s here))
 
-  counts_alike : (settings : Settings) → SameFrom settings → TellsOneWay settings end → DoesTask left calls failures packets packet r0 r1 w e settings CountAll end
+  counts_alike : (settings : Settings) → Same r0 s0 → TellsOneWay settings end → DoesTask left calls failures packets packet r0 r1 w e settings CountAll end
       → DoesTask other_left other_calls other_failures other_packets other_packet s0 s1 v f settings CountAll other → EndAlike w v e f end other
   counts_alike settings same off = tasks_alike settings CountAll CountAll (λ r s taken also here does doing.
       (one_count (ReadAhead R) (ReadAhead S) W V E F one_table (ahead left calls failures packets packet r r1) (ahead other_left other_calls other_failures other_packets other_packet s s1) w v e f settings (table_form settings.as_json) _ _ end other
-      (record { input = here; told = inl (same r s taken also); explains = shows_none settings end off; done = done; other_done = other_done }) does doing).1 (same r s taken also))
+      (record { input = here.0; told = inl (here.1 same); explains = shows_none settings end off; done = done; other_done = other_done }) does doing).1 (here.1 same))
 
   either_alike : (r : Reading (ReadAhead R)) (s : Reading (ReadAhead S)) (settings : Settings) (by_member : Bool) (wanted : Wanted) → AreOfOneInput r s settings end other → AreOfSamePackets r s → DoesCalls r w e settings by_member wanted end
       → DoesCalls s v f settings by_member wanted other → EndAlike w v e f end other
   either_alike r s settings true wanted is same does doing = one_sums (ReadAhead R) (ReadAhead S) W V E F r s w v e f settings wanted _ _ end other is same does doing
   either_alike r s settings false wanted is same does doing = one_calls (ReadAhead R) (ReadAhead S) W V E F r s w v e f settings wanted _ _ end other is same does doing
 
-  called_alike : (settings : Settings) (wanted : WantedCalls) → SameFrom settings → TellsOneWay settings end → DoesTask left calls failures packets packet r0 r1 w e settings (ListAll wanted) end
+  called_alike : (settings : Settings) (wanted : WantedCalls) → Same r0 s0 → TellsOneWay settings end → DoesTask left calls failures packets packet r0 r1 w e settings (ListAll wanted) end
       → DoesTask other_left other_calls other_failures other_packets other_packet s0 s1 v f settings (ListAll wanted) other → EndAlike w v e f end other
   called_alike settings wanted same off = tasks_alike settings (ListAll wanted) (ListAll wanted) (λ r s taken also here does doing.
       either_alike (ahead left calls failures packets packet r r1) (ahead other_left other_calls other_failures other_packets other_packet s s1) settings wanted.by_member (calls_wanted settings.as_json wanted)
-      (record { input = here; told = inl (same r s taken also); explains = shows_none settings end off; done = done; other_done = other_done }) (same r s taken also) does doing)
+      (record { input = here.0; told = inl (here.1 same); explains = shows_none settings end off; done = done; other_done = other_done }) (here.1 same) does doing)
 
   alike : (a b : Asked) → AreSameAsked a b → IsOneWay end a → AskAlike left calls failures packets packet other_left other_calls other_failures other_packets other_packet r0 r1 s0 s1 end a → Does left calls failures packets packet r0 r1 w e (Ok a) end → Does other_left other_calls other_failures other_packets other_packet s0 s1 v f (Ok b) other → EndAlike w v e f end other
   alike (Messages c settings) (Messages d t) same one told does doing =

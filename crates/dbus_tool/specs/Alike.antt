@@ -1,5 +1,5 @@
 -- One law for the program: words that name something, and an input, have one output and one status.
-use Rattle.std.specs.Prelude.{◌≡◌, ◌≢◌, ◌⊎◌, ℕ, false, List, [], Option, Ok}
+use Rattle.std.specs.Prelude.{◌≡◌, ◌≢◌, ◌⊎◌, ℕ, false, List, [], Option}
 use Rattle.clap.specs.Words.{Text}
 use Rattle.clap.specs.Faults.{fault_of}
 use Rattle.dbus_device.specs.Packets.{Packets}
@@ -17,7 +17,7 @@ use Rattle.cli_report.specs.declared.ending.ExitStatus.{ExitStatus}
 use Rattle.cli_report.specs.declared.ending.ExitStatus.TheVariants as status
 use Rattle.cli_run.specs.Laws.{AreOfSamePackets, EndAlike, ReadAlike}
 use Rattle.cli_run.specs.Output.{IsExact, form_of}
-use Rattle.dbus_tool.specs.Handshaking.{TakesHandshake, ahead}
+use Rattle.dbus_tool.specs.Handshaking.{ahead}
 use Rattle.dbus_tool.specs.Words.{RunsWords}
 
 -- nothing that was read of a refused message is shown: it is not explained, and not told as JSON, or
@@ -43,29 +43,27 @@ pub record NameOneWay (words : List Text) (end : ExitStatus) : Type 0 where
 
 module _ {R S : Type 0} (left : R → Option (List ℕ)) (calls failures : R → ℕ) (packets : R → Option Packets) (packet : R → Option Packet) (other_left : S → Option (List ℕ)) (other_calls other_failures : S → ℕ)
     (other_packets : S → Option Packets) (other_packet : S → Option Packet) (r0 r1 : ReadAhead R) (s0 s1 : ReadAhead S) (end : ExitStatus) where
-  -- from where the messages begin, after the handshake if one comes first, both inputs are of the
-  -- same packets
-  abbrev pub AreOfSamePacketsFrom : Settings → Type 0
-  AreOfSamePacketsFrom settings = (r : ReadAhead R) (s : ReadAhead S) → TakesHandshake left calls failures settings.handshake r0 r (Ok tt) → TakesHandshake other_left other_calls other_failures settings.handshake s0 s (Ok tt)
-      → AreOfSamePackets (ahead left calls failures packets packet r r1) (ahead other_left other_calls other_failures other_packets other_packet s s1)
+  -- both inputs are of the same packets
+  abbrev pub SamePackets : Type 0
+  SamePackets = AreOfSamePackets (ahead left calls failures packets packet r0 r1) (ahead other_left other_calls other_failures other_packets other_packet s0 s1)
 
   -- the same is told of refused messages, with the packets of their faults: the packets are the
   -- same, or nothing is refused
-  abbrev pub TellAlike : Settings → Type 0
-  TellAlike settings = AreOfSamePacketsFrom settings ⊎ (end ≡ status.Done)
+  abbrev pub TellAlike : Type 0
+  TellAlike = SamePackets ⊎ (end ≡ status.Done)
 
   -- what a command writes in this form is the same: as they are read, messages have the times of
   -- packets
-  abbrev pub RunAlike : FileForm → Settings → Type 0
-  RunAlike Raw settings = TellAlike settings
-  RunAlike AsRead settings = AreOfSamePacketsFrom settings
+  abbrev pub RunAlike : FileForm → Type 0
+  RunAlike Raw = TellAlike
+  RunAlike AsRead = SamePackets
 
   -- what is asked for has one output: `count`, `list` and `calls` write times of packets too
   abbrev pub AskAlike : Asked → Type 0
-  AskAlike (Messages command settings) = RunAlike (form_of command) settings
-  AskAlike (Count settings) = AreOfSamePacketsFrom settings
-  AskAlike (Listing settings wanted) = AreOfSamePacketsFrom settings
-  AskAlike (Calls settings wanted) = AreOfSamePacketsFrom settings
+  AskAlike (Messages command settings) = RunAlike (form_of command)
+  AskAlike (Count settings) = SamePackets
+  AskAlike (Listing settings wanted) = SamePackets
+  AskAlike (Calls settings wanted) = SamePackets
   AskAlike (Handshake side) = Unit {0}
 
 -- two runs of the program by such words that read the same input, and did not fail, end alike

@@ -27,11 +27,11 @@ use Rattle.cli_report.specs.Gathering.{Gathers, Goes}
 use Rattle.cli_report.specs.declared.gathering.Unwritten.{Unwritten}
 use Rattle.cli_report.specs.declared.page.Page.{Page}
 
-module _ {R : Type 0} (left : R → Option (List ℕ)) (calls failures : R → ℕ) where
+module _ {R : Type 0} (left : R → Option (List ℕ)) (calls failures : R → ℕ) (packets : R → Option Packets) (packet : R → Option Packet) where
   -- the handshake of the side was taken, or what was read begins with none; the reads that failed
   -- count
   abbrev pub ReadsHandshake : Side → ReadAhead R → ReadAhead R → Result (Unit {0}) HandshakeFault → Type 0
-  ReadsHandshake side old new result = Passes left calls side old new result × Counts (failures (source_of old)) (failures (source_of new)) result
+  ReadsHandshake side old new result = Passes left calls packets packet side old new result × Counts (failures (source_of old)) (failures (source_of new)) result
 
   -- the same, if one is to come first
   abbrev pub TakesHandshake : Option Side → ReadAhead R → ReadAhead R → Result (Unit {0}) HandshakeFault → Type 0
@@ -76,11 +76,11 @@ abbrev pub last_line : Result HandshakeSize HandshakeFault → List ℕ
 last_line (Ok size) = size_line size
 last_line (Err fault) = []
 
-module _ {R : Type 0} (left : R → Option (List ℕ)) (calls : R → ℕ) (r0 r1 : ReadAhead R) where
+module _ {R : Type 0} (left : R → Option (List ℕ)) (calls : R → ℕ) (packets : R → Option Packets) (packet : R → Option Packet) (r0 r1 : ReadAhead R) where
   -- the handshake was read, or none, and this is the text of its lines, or of those before the
   -- place that was reached
   abbrev pub IsListed : Side → Result HandshakeSize HandshakeFault → List ℕ → Type 0
-  IsListed side read text = Reads Lengthens side left calls r0 r1 [] text read
+  IsListed side read text = Reads Lengthens side left calls packets packet r0 r1 [] text read
 
   -- it went to a page
   abbrev pub PutsLines : {W : Type 0} → (W → Option (List ℕ)) → (W → ℕ) → Page W → Page W → Side → Result HandshakeSize HandshakeFault → Type 0
@@ -102,9 +102,9 @@ EndsList e (Ok size) (Ok x) end = (end ≡ status.Done) × (e.new ≡ e.old)
 EndsList e (Err fault) (Ok x) end = TellsHandshake e.held e.failures e.old e.new fault end
 
 -- what `handshake` does
-pub record Lists {R W E : Type 0} (left : R → Option (List ℕ)) (calls failures : R → ℕ) (r0 r1 : ReadAhead R) (w : Writing W) (e : Writing E) (side : Side) (end : ExitStatus) : Type 0 where
+pub record Lists {R W E : Type 0} (left : R → Option (List ℕ)) (calls failures : R → ℕ) (packets : R → Option Packets) (packet : R → Option Packet) (r0 r1 : ReadAhead R) (w : Writing W) (e : Writing E) (side : Side) (end : ExitStatus) : Type 0 where
   pub read : Result HandshakeSize HandshakeFault
   pub put : Result (Unit {0}) Unwritten
-  pub lines : WritesLines left calls r0 r1 w side read put
+  pub lines : WritesLines left calls packets packet r0 r1 w side read put
   pub counts : Counts (failures (source_of r0)) (failures (source_of r1)) read
   pub ends : EndsList e read put end

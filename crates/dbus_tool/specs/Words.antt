@@ -99,8 +99,8 @@ module _ {R W E : Type 0} (left : R → Option (List ℕ)) (calls failures : R �
   -- or none was read, which was told
   abbrev pub DoesTask : Settings → Task → ExitStatus → Type 0
   DoesTask settings task end =
-      ((begun : ReadAhead R) × TakesHandshake left calls failures settings.handshake old begun (Ok tt) × DoesBy (ahead left calls failures packets packet begun new) w e settings task end)
-      ⊎ ((why : HandshakeFault) × TakesHandshake left calls failures settings.handshake old new (Err why) × (w.new ≡ w.old) × TellsHandshake e.held e.failures e.old e.new why end)
+      ((begun : ReadAhead R) × TakesHandshake left calls failures packets packet settings.handshake old begun (Ok tt) × DoesBy (ahead left calls failures packets packet begun new) w e settings task end)
+      ⊎ ((why : HandshakeFault) × TakesHandshake left calls failures packets packet settings.handshake old new (Err why) × (w.new ≡ w.old) × TellsHandshake e.held e.failures e.old e.new why end)
 
 module _ {R W E : Type 0} (left : R → Option (List ℕ)) (calls failures : R → ℕ) (packets : R → Option Packets) (packet : R → Option Packet) (old new : ReadAhead R) (w : Writing W) (e : Writing E) where
   -- a note is written before the task is done, if an owner is not known; or a write of it failed
@@ -117,7 +117,7 @@ module _ {R W E : Type 0} (left : R → Option (List ℕ)) (calls failures : R �
   Does (Ok (Listing settings wanted)) end = RunsNoted settings (selection_lacks_owner wanted.selection) (ListLines wanted) end
   Does (Ok (Count settings)) end = DoesTask left calls failures packets packet old new w e settings CountAll end
   Does (Ok (Calls settings wanted)) end = DoesTask left calls failures packets packet old new w e settings (ListAll wanted) end
-  Does (Ok (Handshake side)) end = Lists left calls failures old new w e side end
+  Does (Ok (Handshake side)) end = Lists left calls failures packets packet old new w e side end
   Does (Err Memory) end = (new ≡ old) × (w.new ≡ w.old) × StopsBy e.held e.failures e.old e.new cause.Memory end
   Does (Err (Help text)) end = (new ≡ old) × ShowsText w e (string_bytes text) end
   Does (Err (Version text)) end = (new ≡ old) × ShowsText w e (string_bytes text) end

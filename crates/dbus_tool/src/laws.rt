@@ -8,12 +8,12 @@ use dbus_count::laws::one_table;
 /// Two runs of the program by the same words, neither of which failed, that read the same input end
 /// with the same status, and their writers got the same bytes. The words name something, with or
 /// without a handshake. If a message is refused, or of `count` and `calls`, and of `swap` and
-/// `filter` without `--raw`, both inputs are of the same packets from where the messages begin: the
-/// line of a refusal has the packet of its fault, and the others have times. Left out are `json`,
-/// which may write a DOUBLE by other digits; `show --time`, as the input has other times if its
-/// packets are others; `--explain`, which shows bytes of a refused message as far as they happened
-/// to be read, and `--json` if one is refused; and words in which clap finds a fault, since it may
-/// report any of several.
+/// `filter` without `--raw`, both inputs are of the same packets: the line of a refusal has the
+/// packet of its fault, and the others have times. Left out are `json`, which may write a DOUBLE by
+/// other digits; `show --time`, as the input has other times if its packets are others;
+/// `--explain`, which shows bytes of a refused message as far as they happened to be read, and
+/// `--json` if one is refused; and words in which clap finds a fault, since it may report any of
+/// several.
 pub fn one_program<R, S, W, V, E, F>()
     ensures { OneProgram R S W V E F }
 {

@@ -21,7 +21,7 @@ pub(crate) fn write_lines<R: Source, W: Sink>(
     reader: &mut ReadAhead<R>,
     first: &mut W,
 ) -> (Result<HandshakeSize, HandshakeFault>, Result<(), Unwritten>)
-    ensures lines { WritesLines R.left R.calls reader.old reader.new
+    ensures lines { WritesLines R.left R.calls R.packets R.packet reader.old reader.new
         (writing W.held W.failures first.old first.new) side result.0
         result.1 }
     ensures failed { Counts (R.failures (source_of reader.old)) (R.failures (source_of reader.new))
@@ -43,7 +43,7 @@ fn gather_lines<R: Source, W: Sink>(
     gathered: &mut OutputBuffer,
     first: &mut W,
 ) -> (Result<HandshakeSize, HandshakeFault>, Result<(), Unwritten>)
-    ensures lines { GathersLines R.left R.calls reader.old reader.new
+    ensures lines { GathersLines R.left R.calls R.packets R.packet reader.old reader.new
         (writing W.held W.failures first.old first.new) side
         (gathered_bytes gathered.old) (gathered_bytes gathered.new) result.0 result.1 }
     ensures failed { Counts (R.failures (source_of reader.old)) (R.failures (source_of reader.new))
@@ -70,8 +70,8 @@ fn put_lines<R: Source, W: Sink>(
     reader: &mut ReadAhead<R>,
     shown: &mut ShownLines<Page<'_, W>>,
 ) -> Result<HandshakeSize, HandshakeFault>
-    ensures lines { PutsLines R.left R.calls reader.old reader.new W.held W.failures shown.old.0
-        shown.new.0 side result }
+    ensures lines { PutsLines R.left R.calls R.packets R.packet reader.old reader.new W.held W.failures
+        shown.old.0 shown.new.0 side result }
     ensures failed { Counts (R.failures (source_of reader.old)) (R.failures (source_of reader.new))
         result }
 {

@@ -210,7 +210,8 @@ fn take_handshake<R: Source>(
     side: Option<Side>,
     reader: &mut ReadAhead<R>,
 ) -> Result<(), HandshakeFault>
-    ensures { TakesHandshake R.left R.calls R.failures side reader.old reader.new result }
+    ensures { TakesHandshake R.left R.calls R.failures R.packets R.packet side reader.old reader.new
+        result }
 {
     match side {
         Some(side) => pass_handshake(alloc, side, reader),
@@ -249,7 +250,7 @@ fn list_handshake<R: Source, W: Sink, E: Sink>(
     first: &mut W,
     second: &mut E,
 ) -> ExitStatus
-    ensures { Lists R.left R.calls R.failures reader.old reader.new
+    ensures { Lists R.left R.calls R.failures R.packets R.packet reader.old reader.new
         (writing W.held W.failures first.old first.new)
         (writing E.held E.failures second.old second.new) side result }
 {

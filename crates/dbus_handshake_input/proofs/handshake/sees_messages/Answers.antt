@@ -5,7 +5,7 @@ use Rattle.dbus_handshake_input.proofs.HandshakeSteps.{sees_little, sees_other}
 use Rattle.dbus_handshake_input.proofs.handshake.sees_messages.Goals as goal
 
 pub returns-then-not-accepted-clause-took : goal.returns-then-not-accepted-clause-took
-returns-then-not-accepted-clause-took g c = took_nothing g.R.Source.left g.R.Source.calls c.args.input.now
+returns-then-not-accepted-clause-took g c = took_nothing g.R.Source.left g.R.Source.calls g.R.Source.packets g.R.Source.packet c.args.input.now
 
 pub returns-then-next-eq108-clause-sees : goal.returns-then-next-eq108-clause-sees
 returns-then-next-eq108-clause-sees g c =
@@ -13,7 +13,7 @@ returns-then-next-eq108-clause-sees g c =
 
 pub returns-then-next-eq108-clause-took : goal.returns-then-next-eq108-clause-took
 returns-then-next-eq108-clause-took g c =
-    took_either g.R.Source.left g.R.Source.calls _ c.args.input.now c.has_more.new.self (went_on g.R.Source.left g.R.Source.calls true _ _ _ c.if-not-branch.false c.in_ok-has_more.ensures.took)
+    took_either g.R.Source.left g.R.Source.calls g.R.Source.packets g.R.Source.packet _ c.args.input.now c.has_more.new.self (went_on g.R.Source.left g.R.Source.calls g.R.Source.packets g.R.Source.packet true _ _ _ c.if-not-branch.false c.in_ok-has_more.ensures.took)
 
 pub returns-else-next-eq108-clause-sees : goal.returns-else-next-eq108-clause-sees
 returns-else-next-eq108-clause-sees g c =
@@ -21,4 +21,4 @@ returns-else-next-eq108-clause-sees g c =
 
 pub returns-else-next-eq108-clause-took : goal.returns-else-next-eq108-clause-took
 returns-else-next-eq108-clause-took g c =
-    took_either g.R.Source.left g.R.Source.calls _ c.args.input.now c.has_more.new.self (went_on g.R.Source.left g.R.Source.calls true _ _ _ c.if-not-branch.false c.in_ok-has_more.ensures.took)
+    took_either g.R.Source.left g.R.Source.calls g.R.Source.packets g.R.Source.packet _ c.args.input.now c.has_more.new.self (went_on g.R.Source.left g.R.Source.calls g.R.Source.packets g.R.Source.packet true _ _ _ c.if-not-branch.false c.in_ok-has_more.ensures.took)

@@ -9,18 +9,18 @@ use Rattle.dbus_handshake_input.proofs.LineSteps.{Answers, CutsLine, CutsNone, c
 use Rattle.dbus_handshake_input.proofs.lines.next_line.Goals as goal
 
 pub pieces-init : goal.pieces-init
-pieces-init g c = (part_begins g.R.Source.left g.R.Source.calls c.args.input.now (cutter_state c.new-cutter.result) c.new-cutter.ensures, refl, refl)
+pieces-init g c = (part_begins g.R.Source.left g.R.Source.calls g.R.Source.packets g.R.Source.packet c.args.input.now (cutter_state c.new-cutter.result) c.new-cutter.ensures, refl, refl)
 
 pub returns-in-Ok-false-clause-reads : goal.returns-in-Ok-false-clause-reads
 returns-in-Ok-false-clause-reads g c =
     let more = subst (λ (b : Bool). HasMore g.R.Source.left c.has_more.new.self (Ok b)) c.in-Ok-false.field-0-test c.in-Ok-false.ensures.more in
-    part_ends g.R.Source.left g.R.Source.calls g.row.A.Denot c.args.side c.args.input.now c.pieces.input c.has_more.new.self (cutter_state c.pieces.cutter) c.pieces.size c.pieces.invariant.0
-    (went g.R.Source.left g.R.Source.calls true _ _ _ c.has_more.ensures.took) more.0 more.1
+    part_ends g.R.Source.left g.R.Source.calls g.R.Source.packets g.R.Source.packet g.row.A.Denot c.args.side c.args.input.now c.pieces.input c.has_more.new.self (cutter_state c.pieces.cutter) c.pieces.size c.pieces.invariant.0
+    (went g.R.Source.left g.R.Source.calls g.R.Source.packets g.R.Source.packet true _ _ _ c.has_more.ensures.took) more.0 more.1
 
 pub returns-in-Err-clause-reads : goal.returns-in-Err-clause-reads
 returns-in-Err-clause-reads g c = (
   (cutter_state c.pieces.cutter).kept,
-  took_same g.R.Source.left g.R.Source.calls c.args.input.now c.pieces.input c.has_more.new.self (cutter_state c.pieces.cutter).kept
+  took_same g.R.Source.left g.R.Source.calls g.R.Source.packets g.R.Source.packet c.args.input.now c.pieces.input c.has_more.new.self (cutter_state c.pieces.cutter).kept
       c.pieces.invariant.0.took c.in-Err.ensures.took,
 )
 
@@ -37,8 +37,8 @@ returns-in-Ok-default-Some-clause-reads g c =
     let cuts = cuts_line g.row.A.Denot (cutter_state c.pieces.cutter) c.kept.result.now h.field-0-1 h.line h.count (cutter_state c.take.new.self)
     c.pieces.invariant.0.no_fault h.field-0-1-is h.ensures.taken in (
       cuts.is_line,
-      part_whole g.R.Source.left g.R.Source.calls c.args.input.now c.pieces.input c.has_more.new.self c.pass.new.self (cutter_state c.pieces.cutter) h.line.items c.pieces.size h.count
-          c.pieces.invariant.0 (went_on g.R.Source.left g.R.Source.calls true _ _ _ c.in-Ok-true.field-0-test c.in-Ok-true.ensures.took)
+      part_whole g.R.Source.left g.R.Source.calls g.R.Source.packets g.R.Source.packet c.args.input.now c.pieces.input c.has_more.new.self c.pass.new.self (cutter_state c.pieces.cutter) h.line.items c.pieces.size h.count
+          c.pieces.invariant.0 (went_on g.R.Source.left g.R.Source.calls g.R.Source.packets g.R.Source.packet true _ _ _ c.in-Ok-true.field-0-test c.in-Ok-true.ensures.took)
           (subst (λ (l : List ℕ). CutsLine (cutter_state c.pieces.cutter).kept l h.line.items h.count) c.kept.ensures cuts) c.pass.ensures.rests c.pass.ensures.rest,
     )
 
@@ -80,8 +80,8 @@ pieces-preserved g c =
     let h = c.in-Ok-default-None in
     let cuts = cuts_none g.row.A.Denot (cutter_state c.pieces.cutter) c.kept.result.now h.field-0-1 h.count (cutter_state c.take.new.self) c.pieces.invariant.0.no_fault
     h.field-0-1-is h.ensures.taken in (
-      part_goes_on g.R.Source.left g.R.Source.calls c.args.input.now c.pieces.input c.has_more.new.self c.pass-in-Ok-default-None.new.self (cutter_state c.pieces.cutter)
-          (cutter_state c.take.new.self) c.pieces.size h.count c.pieces.invariant.0 (went_on g.R.Source.left g.R.Source.calls true _ _ _ c.in-Ok-true.field-0-test c.in-Ok-true.ensures.took)
+      part_goes_on g.R.Source.left g.R.Source.calls g.R.Source.packets g.R.Source.packet c.args.input.now c.pieces.input c.has_more.new.self c.pass-in-Ok-default-None.new.self (cutter_state c.pieces.cutter)
+          (cutter_state c.take.new.self) c.pieces.size h.count c.pieces.invariant.0 (went_on g.R.Source.left g.R.Source.calls g.R.Source.packets g.R.Source.packet true _ _ _ c.in-Ok-true.field-0-test c.in-Ok-true.ensures.took)
           (subst (λ (l : List ℕ). CutsNone (cutter_state c.pieces.cutter).kept l h.count (cutter_state c.take.new.self)) c.kept.ensures cuts)
           c.pass-in-Ok-default-None.ensures.rests c.pass-in-Ok-default-None.ensures.rest,
       ap g.R.Source.failures c.pass-in-Ok-default-None.ensures.rests.source ∙ c.in-Ok-true.ensures.failed ∙ c.pieces.invariant.1,
@@ -92,7 +92,7 @@ pub returns-in-Err-take-clause-reads : goal.returns-in-Err-take-clause-reads
 returns-in-Err-take-clause-reads g c =
     let state = cutter_state c.pieces.cutter in
     let fault = c.in-Err-take.fault in
-    subst (λ (f : HandshakeFault). ReadsLine {Z = g.row.A.Denot} g.R.Source.left g.R.Source.calls c.args.side c.args.input.now c.has_more.new.self (Err f)) (sym c.fault_of.ensures)
-    (part_faulty g.R.Source.left g.R.Source.calls g.row.A.Denot c.args.side c.args.input.now c.pieces.input c.has_more.new.self state (cutter_state c.take.new.self) c.pieces.size fault
-    c.pieces.invariant.0 (went_on g.R.Source.left g.R.Source.calls true _ _ _ c.in-Ok-true.field-0-test c.in-Ok-true.ensures.took)
+    subst (λ (f : HandshakeFault). ReadsLine {Z = g.row.A.Denot} g.R.Source.left g.R.Source.calls g.R.Source.packets g.R.Source.packet c.args.side c.args.input.now c.has_more.new.self (Err f)) (sym c.fault_of.ensures)
+    (part_faulty g.R.Source.left g.R.Source.calls g.R.Source.packets g.R.Source.packet g.row.A.Denot c.args.side c.args.input.now c.pieces.input c.has_more.new.self state (cutter_state c.take.new.self) c.pieces.size fault
+    c.pieces.invariant.0 (went_on g.R.Source.left g.R.Source.calls g.R.Source.packets g.R.Source.packet true _ _ _ c.in-Ok-true.field-0-test c.in-Ok-true.ensures.took)
     (subst (λ (l : List ℕ). Answers g.row.A.Denot state l (Err fault) (cutter_state c.take.new.self)) c.kept.ensures c.in-Err-take.ensures.taken))

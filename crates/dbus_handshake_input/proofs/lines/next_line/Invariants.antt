@@ -6,7 +6,7 @@ use Rattle.dbus_handshake_input.proofs.lines.next_line.Given as goal
 
 abbrev pub invariant-pieces : goal.invariant-pieces
 invariant-pieces g l =
-    HasPart g.R.Source.left g.R.Source.calls l.fn.input l.input (cutter_state l.cutter) l.size
+    HasPart g.R.Source.left g.R.Source.calls g.R.Source.packets g.R.Source.packet l.fn.input l.input (cutter_state l.cutter) l.size
     × (g.R.Source.failures (source_of l.input) ≡ g.R.Source.failures (source_of l.fn.input))
     × (g.R.Source.reference (source_of l.input) ≡ g.R.Source.reference (source_of l.fn.input))
 
