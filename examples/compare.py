@@ -123,7 +123,7 @@ def compare_filters(program, filter_program, folder):
 def error_to(call):
     """The line of the error that answers a call."""
     error = {name: call[name] for name in ("order", "sender") if name in call}
-    error |= {"type": "error", "flags": 0, "serial": 1, "error_name": "a.b", "reply_serial": call["serial"], "fields": [], "body": []}
+    error |= {"type": "error", "flags": 1, "serial": 1, "error_name": "a.b", "reply_serial": call["serial"], "fields": [], "body": []}
     return {"destination" if name == "sender" else name: value for name, value in error.items()}
 
 

@@ -20,30 +20,20 @@ static struct dbus_wire_text put(size_t *length, const char *text) {
     return place;
 }
 
-/* The error that answers a call: its parts are new, but for what they take from the call. */
-static struct dbus_wire_parts error_to(const struct dbus_wire_parts *call, struct dbus_wire_text name) {
-    struct dbus_wire_parts error = {0};
-    error.order = call->order;
-    error.kind = DBUS_WIRE_TYPE_ERROR;
-    error.serial = 1;
-    error.reply_serial = call->serial;
-    error.error_name = name;
-    error.destination = call->sender;
-    return error;
-}
-
 /* Builds what the words say of the message at the start of `bytes`, and writes it. Returns whether
  * it was built. */
 static int build(struct dbus_wire_parts parts, const char *what, const char *word) {
     static uint8_t out[1 << 20];
     struct dbus_wire_checked told;
+    struct dbus_wire_parts error = {0};
     size_t length = parts.length;
     uint32_t answer;
 
     if (strcmp(what, "error") == 0) {
         if (parts.kind != DBUS_WIRE_TYPE_METHOD_CALL) return 1;
-        parts = error_to(&parts, put(&length, word));
-        answer = dbus_wire_build(&parts, bytes, length, NULL, out, sizeof out, &told);
+        error.serial = 1;
+        error.error_name = put(&length, word);
+        answer = dbus_wire_reply_to(&error, bytes, length, NULL, out, sizeof out, &told);
     } else {
         if (strcmp(what, "serial") == 0) parts.serial = (uint32_t)strtoul(word, NULL, 10);
         if (strcmp(what, "destination") == 0) parts.destination = put(&length, word);

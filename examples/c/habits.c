@@ -38,7 +38,8 @@ static void nulls(void) {
     expect(dbus_wire_parts_of(NULL, 0, NULL, &parts, NULL) == DBUS_WIRE_PARTIAL, "no bytes are partial, by parts");
     expect(dbus_wire_flatten(NULL, 0, NULL, 0, NULL, 0, &count, NULL) == DBUS_WIRE_PARTIAL, "and by flatten");
     expect(dbus_wire_wanted(NULL, 0, NULL) == 0, "no bytes state no length");
-    expect(dbus_wire_swap(NULL, 0, NULL, 'l', NULL, 0, &told) == DBUS_WIRE_PARTIAL, "no bytes are partial, by swap");
+    expect(dbus_wire_read(NULL, 0, NULL, &parts, NULL, 0, &count, NULL) == DBUS_WIRE_PARTIAL, "and by both");
+    expect(dbus_wire_swap(NULL, 0, NULL, 'l', NULL, 0, NULL) == DBUS_WIRE_PARTIAL, "no bytes are partial, by swap");
     expect(dbus_wire_swap(SIGNAL, SIGNAL_LENGTH, NULL, 'B', NULL, 0, &told) == DBUS_WIRE_NO_ROOM, "no room");
     expect(dbus_wire_flatten(SIGNAL, SIGNAL_LENGTH, NULL, 0, NULL, 0, &count, NULL) == DBUS_WIRE_NO_ROOM, "nor for an item");
     expect(count == 1, "of which there is one");
@@ -93,8 +94,15 @@ static void answers(void) {
     expect(dbus_wire_parts_of(SIGNAL, SIGNAL_LENGTH, NULL, &parts, NULL) == DBUS_WIRE_WHOLE, "a signal has parts");
     expect(parts.length == SIGNAL_LENGTH && parts.kind == DBUS_WIRE_TYPE_SIGNAL && parts.flags == 0, "it is a signal");
     expect(parts.member.is_there && SIGNAL[parts.member.offset] == 'c', "its member is c");
-    expect(dbus_wire_flatten(SIGNAL, SIGNAL_LENGTH, NULL, 0, &item, 1, &count, NULL) == DBUS_WIRE_WHOLE, "it has a first value");
+    expect(dbus_wire_read(SIGNAL, SIGNAL_LENGTH, NULL, &parts, &item, 1, &count, &told) == DBUS_WIRE_WHOLE &&
+               told.length == parts.length,
+           "it has a first value");
     expect(item.code == 's' && item.length == 2 && memcmp(SIGNAL + item.offset, "hi", 2) == 0, "which is hi");
+    parts.kind = 0;
+    expect(dbus_wire_build(&parts, SIGNAL, SIGNAL_LENGTH, NULL, NULL, 0, NULL) == DBUS_WIRE_REFUSED &&
+               dbus_wire_rebuild(&parts, NULL, 0, NULL, NULL, 0, NULL) == DBUS_WIRE_PARTIAL &&
+               dbus_wire_reply_to(&parts, NULL, 0, NULL, NULL, 0, NULL) == DBUS_WIRE_PARTIAL,
+           "no type is 0, and no bytes are partial, by builders");
 }
 
 /* The reasons whose constants begin so, by the calls of their names and of their sentences. */

@@ -89,35 +89,6 @@ impl Error for BuildError {}
 ///
 /// So of the parts of a message at hand it makes that message only if its fields are in this order,
 /// and none is of another code; [`rebuild`] changes a message and keeps its fields.
-///
-/// This replies to a call with a dictionary:
-///
-/// ```
-/// use dbus_wire::{build, Body, Kind, Limits, Message, Order, Parts};
-/// use std::num::NonZeroU32;
-///
-/// # let get = Parts { path: Some("/"), member: Some("Get"), sender: Some(":1.7"), ..Parts::new(Kind::MethodCall, 5) };
-/// # let get = build(&get, &Limits::default())?;
-/// # let call = Message::parse(&get)?;
-/// let mut body = Body::new(Order::Little);
-/// body.array(8, |body| {
-///     body.begin_struct();
-///     body.text("Volume")?;
-///     body.signature("d")?;
-///     body.double(0.5);
-///     Ok(())
-/// })?;
-/// let reply = Parts {
-///     reply_serial: NonZeroU32::new(call.serial()),
-///     destination: call.sender(),
-///     signature: Some("a{sv}"),
-///     body: body.bytes(),
-///     ..Parts::new(Kind::MethodReturn, 1)
-/// };
-/// let bytes = build(&reply, &Limits::default())?;
-/// assert_eq!(Message::parse(&bytes)?.reply_serial(), NonZeroU32::new(5));
-/// # Ok::<(), Box<dyn std::error::Error>>(())
-/// ```
 pub fn build(parts: &Parts<'_>, limits: &Limits) -> Result<Vec<u8>, BuildError> {
     built(sys::dbus_wire_build, Vec::new(), parts, limits)
 }
@@ -140,6 +111,34 @@ pub fn build(parts: &Parts<'_>, limits: &Limits) -> Result<Vec<u8>, BuildError> 
 /// ```
 pub fn rebuild(message: &Message<'_>, parts: &Parts<'_>, limits: &Limits) -> Result<Vec<u8>, BuildError> {
     built(sys::dbus_wire_rebuild, message.bytes().to_vec(), parts, limits)
+}
+
+/// The bytes of the reply to a call: what [`build`] makes of the parts, but in the byte order of the
+/// call, with its serial as the reply serial, and with its sender, if it has one, as the destination.
+/// It is an error if the parts have an error name, and else a method return, and expects no reply
+/// itself. The body is spelled in the order of the call.
+///
+/// ```
+/// use dbus_wire::{build, reply_to, Body, Kind, Limits, Message, Parts};
+///
+/// # let get = Parts { path: Some("/"), member: Some("Get"), sender: Some(":1.7"), ..Parts::new(Kind::MethodCall, 5) };
+/// # let get = build(&get, &Limits::default())?;
+/// # let call = Message::parse(&get)?;
+/// let mut body = Body::new(call.order());
+/// body.array(8, |body| {
+///     body.begin_struct();
+///     body.text("Volume")?;
+///     body.signature("d")?;
+///     body.double(0.5);
+///     Ok(())
+/// })?;
+/// let parts = Parts { signature: Some("a{sv}"), body: body.bytes(), ..Parts::new(Kind::MethodReturn, 1) };
+/// let bytes = reply_to(&call, &parts, &Limits::default())?;
+/// assert_eq!(Message::parse(&bytes)?.destination(), call.sender());
+/// # Ok::<(), Box<dyn std::error::Error>>(())
+/// ```
+pub fn reply_to(call: &Message<'_>, parts: &Parts<'_>, limits: &Limits) -> Result<Vec<u8>, BuildError> {
+    built(sys::dbus_wire_reply_to, call.bytes().to_vec(), parts, limits)
 }
 
 // `sys::dbus_wire_build`, or another call that takes what it takes.

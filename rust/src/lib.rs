@@ -24,7 +24,7 @@
 //!   of its body, and [`Fields`] over its header fields; [`Message::flatten`] gives all values as
 //!   one row. They borrow the bytes, so no text is copied.
 //! * [`build`] makes a message of its [`Parts`], whose [`Body`] is spelled value by value;
-//!   [`rebuild`] changes one, and keeps its header fields in their places.
+//!   [`rebuild`] changes one, and keeps its header fields in their places; [`reply_to`] replies.
 //! * [`byteswap`] writes a message in the other byte order, and [`check_text`] checks names,
 //!   signatures and other texts.
 //! * A match [`Rule`], or a [`RuleSet`] of many, says which messages a program wants, and keeps who
@@ -65,7 +65,7 @@ mod value;
 mod watch;
 
 pub use body::{Body, TooLong};
-pub use build::{build, rebuild, BuildError, Parts};
+pub use build::{build, rebuild, reply_to, BuildError, Parts};
 pub use check::{check, wanted, Answer, Order};
 pub use checker::{Checker, OutOfMemory, Taken};
 pub use fault::{Fault, ParseError, Reason, RuleReason};

@@ -367,6 +367,15 @@ extern "C" {
         room: usize,
         told: *mut dbus_wire_checked,
     ) -> u32;
+    pub fn dbus_wire_reply_to(
+        parts: *const dbus_wire_parts,
+        bytes: *const u8,
+        length: usize,
+        limits: *const dbus_wire_limits,
+        out: *mut u8,
+        room: usize,
+        told: *mut dbus_wire_checked,
+    ) -> u32;
     pub fn dbus_wire_put_number(out: *mut u8, room: usize, writer: *mut dbus_wire_writer, width: u32, bits: u64) -> u32;
     pub fn dbus_wire_put_text(out: *mut u8, room: usize, writer: *mut dbus_wire_writer, text: *const u8, length: usize) -> u32;
     pub fn dbus_wire_put_signature(

@@ -1,9 +1,10 @@
 //! What the calls say of messages that are made here, and of the captures in `samples/`.
 
+use std::num::NonZeroU32;
 use std::thread;
 
 use dbus_wire::{
-    build, byteswap, check, check_text, client_line, server_line, wanted, Answer, BuildError, Checker, Client, Command,
+    build, byteswap, check, check_text, client_line, reply_to, server_line, wanted, Answer, BuildError, Checker, Client, Command,
     Descriptors, External, Fault, HandshakeError, Kind, Limits, Line, LineFault, Message, NotPassed, Order, OwnerError,
     ParseError, Parts, Passage, Reason, Rule, RuleError, RuleReason, RuleSet, Server, SharedRules, Status, SwapError, Taken,
     TextFault, TextKind, Value, Values, Watch,
@@ -304,6 +305,19 @@ fn what_is_built_of_parts_has_them() {
             let built = Message::parse(&bytes).unwrap();
             assert_eq!((built.parts(), built.bytes().len()), (parts, bytes.len()));
             assert_eq!(format!("{:?}", built.body()), format!("{:?}", message.body()));
+        }
+    }
+}
+
+#[test]
+fn a_reply_goes_to_the_caller() {
+    for call in CAPTURES.into_iter().flat_map(messages) {
+        for (error_name, kind) in [(None, Kind::MethodReturn), (Some("a.b"), Kind::Error)] {
+            let given = Parts { error_name, sender: Some(":1.99"), ..Parts::new(Kind::Signal, 9) };
+            let bytes = reply_to(&call, &given, &Limits::default()).unwrap();
+            let (reply_serial, destination) = (NonZeroU32::new(call.serial()), call.sender());
+            let parts = Parts { kind, order: call.order(), flags: 1, reply_serial, destination, ..given };
+            assert_eq!(Message::parse(&bytes).unwrap().parts(), parts);
         }
     }
 }

@@ -15,6 +15,9 @@ use Rattle.dbus_c_build.specs.declared.placed.ByteRange.{ByteRange}
 use Rattle.dbus_c_build.specs.declared.placed.PlacedParts.{PlacedParts}
 use Rattle.dbus_c_build.specs.declared.placed_fault.PlacedFault.{PlacedFault}
 use Rattle.dbus_c_build.specs.declared.placed_fault.PlacedFault.TheVariants as refusals
+use Rattle.dbus_message_model.specs.declared.flag.TheConstants.{NO_REPLY_EXPECTED}
+use Rattle.dbus_message_model.specs.declared.message_type.TheConstants.{METHOD_RETURN, ERROR}
+use Rattle.dbus_c.specs.Parting as parting
 use Rattle.dbus_c.specs.Checking.{Tells, whole_told, nothing_told, fault_told}
 use Rattle.dbus_c.specs.Reasons.{reason_number}
 use Rattle.dbus_c.specs.declared.answers.TheConstants.{WHOLE, REFUSED, NO_MEMORY, NO_ROOM}
@@ -102,6 +105,32 @@ pub data Builds (limits : Limits) (b : List ℕ) (k : Kept) (w : WireParts) (ans
 pub data Rebuilds (limits : Limits) (b : List ℕ) (w : WireParts) (answer : ℕ) (told : Checked) (old new : List ℕ) : Type 0 where
   rebuilt : (order : Order) (m : MessageTree) (n : ℕ) → IsWhole limits b order m n → Builds limits b (FieldsOf order m) w answer told old new → Rebuilds limits b w answer told old new
   no_message : BeginsWithNone limits b → Tells limits b answer told → new ≡ old → Rebuilds limits b w answer told old new
+
+-- the parts of a reply to a call, both in numbers: from whom the call was for, to whom it came from
+abbrev pub reply_parts : (call parts : WireParts) → WireParts
+reply_parts call parts = record {
+  length = parts.length;
+  body = parts.body;
+  order = call.order;
+  kind = if nat_eq parts.error_name.is_there 0 then METHOD_RETURN else ERROR;
+  flags = NO_REPLY_EXPECTED;
+  serial = parts.serial;
+  reply_serial = call.serial;
+  unix_fds = parts.unix_fds;
+  path = parts.path;
+  interface = parts.interface;
+  member = parts.member;
+  error_name = parts.error_name;
+  destination = call.sender;
+  sender = parts.sender;
+  signature = parts.signature;
+}
+
+-- The reply to the message that the bytes begin with is built. If they begin with none, that is
+-- told of them.
+pub data Replies (limits : Limits) (b : List ℕ) (w : WireParts) (answer : ℕ) (told : Checked) (old new : List ℕ) : Type 0 where
+  replied : (call : WireParts) → parting.HasParts limits b call → Builds limits b Nothing (reply_parts call w) answer told old new → Replies limits b w answer told old new
+  no_call : BeginsWithNone limits b → Tells limits b answer told → new ≡ old → Replies limits b w answer told old new
 
 -- of parts that are those of the message that the bytes begin with it comes back, byte for byte;
 -- they are not refused

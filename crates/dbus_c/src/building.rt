@@ -5,7 +5,7 @@ ghost use Rattle.std.specs.Prelude.{◌≡◌, ◌<◌, ◌≤◌, ◌++◌, len
 ghost use Rattle.dbus_value_model.specs.declared.fault.Reason.TheVariants.{MessageTooLong, Signature};
 ghost use Rattle.dbus_value_model.specs.declared.order.Order.{Order};
 ghost use Rattle.dbus_message_model.specs.Messages.{order_byte};
-ghost use Rattle.dbus_c.specs.Building.{AreNoParts, Builds, ComesBack, Keeps, KeepsOrder, Kept, Nothing, Rebuilds, StandFor, field_told, place_given, refusal_told};
+ghost use Rattle.dbus_c.specs.Building.{AreNoParts, Builds, ComesBack, Keeps, KeepsOrder, Kept, Nothing, Rebuilds, Replies, StandFor, field_told, place_given, refusal_told, reply_parts};
 ghost use Rattle.dbus_c.specs.Checking.{whole_told};
 ghost use Rattle.dbus_c.specs.GivenLimits.{limits_of};
 ghost use Rattle.dbus_c.specs.Parting.{HasParts};
@@ -13,10 +13,12 @@ ghost use Rattle.dbus_c.specs.Parting.{HasParts};
 use crate::answers::{NO_MEMORY, NO_ROOM, REFUSED, WHOLE};
 use crate::checking::{Checked, fault_told, first_validated, nothing_told};
 use crate::given_limits::{WireLimits, given_limits};
-use crate::parts::{TextPlace, WireParts, order_byte};
+use crate::parts::{TextPlace, WireParts, order_byte, parts_in};
 use crate::reasons::reason_number;
 use dbus_c_build::{ByteRange, Given, PlacedFault, PlacedParts, build};
 use dbus_message_model::field_code::SIGNATURE;
+use dbus_message_model::flag::NO_REPLY_EXPECTED;
+use dbus_message_model::message_type::{ERROR, METHOD_RETURN};
 use dbus_message_model::order_named;
 use dbus_value_model::{Order, Reason};
 use std::alloc::Global;
@@ -89,6 +91,60 @@ pub extern "C" fn dbus_wire_rebuild(
             build_given(alloc, parts, &given, out, told)
         }
         Err(answer) => answer,
+    }
+}
+
+/// Writes the reply to the call that the bytes begin with to the start of `out`, which is what
+/// [`dbus_wire_build`] writes of these parts with others in place of five: an ERROR if the parts
+/// have an error name, else a METHOD_RETURN, with NO_REPLY_EXPECTED, in the byte order of the call,
+/// whose serial is the REPLY_SERIAL, and whose SENDER, if it has one, the DESTINATION. The places
+/// are among `bytes`: the texts and the body come after the call. The message that the bytes begin
+/// with may have any type.
+///
+/// It returns what [`dbus_wire_build`] does. If the bytes begin with no message within the limits,
+/// it returns what [`crate::dbus_wire_check`] does, and `out` stays as it was. D-Bus Specification,
+/// "Message Types".
+#[unsafe(no_mangle)]
+pub extern "C" fn dbus_wire_reply_to(
+    alloc: Global,
+    parts: &WireParts,
+    bytes: &[u8],
+    limits: &WireLimits,
+    out: &mut [u8],
+    told: &mut Checked,
+) -> u32
+    ensures { Replies (limits_of limits.now) bytes.now parts.now result told.new out.old out.new }
+{
+    match first_validated(bytes, limits, told) {
+        Ok(validated) => {
+            let given = Given {
+                bytes,
+                limits: given_limits(limits),
+                kept: None,
+            };
+            let reply = reply_parts(parts_in(&validated), parts);
+            build_given(alloc, &reply, &given, out, told)
+        }
+        Err(answer) => answer,
+    }
+}
+
+// The parts of a reply to the call of these parts.
+fn reply_parts(call: WireParts, parts: &WireParts) -> WireParts
+    ensures { result ≡ reply_parts call parts.now }
+{
+    let kind = if parts.error_name.is_there == 0 {
+        METHOD_RETURN
+    } else {
+        ERROR
+    };
+    WireParts {
+        order: call.order,
+        kind: u32::from(kind),
+        flags: u32::from(NO_REPLY_EXPECTED),
+        reply_serial: call.serial,
+        destination: call.sender,
+        ..*parts
     }
 }
 

@@ -12,7 +12,7 @@
 //! [`dbus_wire_client_line`] and [`dbus_wire_server_line`] give the lines of one between others, of
 //! which [`dbus_wire_watch_client`] and [`dbus_wire_watch_server`] say what to pass on;
 //! [`dbus_wire_build`] builds a message of its parts, whose body [`dbus_wire_put_number`] and its
-//! like spell, and [`dbus_wire_rebuild`] changes one.
+//! like spell, [`dbus_wire_rebuild`] changes one, and [`dbus_wire_reply_to`] replies to one.
 //!
 //! `include/dbus_wire.h` declares them, and says which allocate and what a caller owes;
 //! `examples/c` has callers.
@@ -44,7 +44,7 @@ pub use answers::{
     NO_CHECKER, NO_HANDSHAKE, NO_KIND, NO_MEMORY, NO_ROOM, NO_RULE, NO_VALUE, PARTIAL, REFUSED,
     SHARED, WAITS, WHOLE,
 };
-pub use building::{dbus_wire_build, dbus_wire_rebuild};
+pub use building::{dbus_wire_build, dbus_wire_rebuild, dbus_wire_reply_to};
 pub use checkers::{
     Taken, dbus_wire_checker_free, dbus_wire_checker_new, dbus_wire_checker_restart,
     dbus_wire_checker_take,

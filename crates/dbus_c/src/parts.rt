@@ -23,7 +23,7 @@ use dbus_value_model::Order;
 
 /// The place of a text, such as that of a header field, in the caller's bytes.
 #[repr(C)]
-#[derive(Drop)]
+#[derive(Clone, Copy)]
 pub struct TextPlace {
     /// Its offset, in bytes from the first, or 0 if there is no such text.
     pub offset: u64,
@@ -35,7 +35,7 @@ pub struct TextPlace {
 
 /// The parts of a message. D-Bus Specification, "Message Format" and "Header Fields".
 #[repr(C)]
-#[derive(Drop)]
+#[derive(Clone, Copy)]
 pub struct WireParts {
     /// The number of bytes that it has.
     pub length: u64,
