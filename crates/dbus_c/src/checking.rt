@@ -6,7 +6,7 @@ ghost use Rattle.dbus_header.specs.MessageOutcomes.{IsWhole};
 ghost use Rattle.dbus_message_model.specs.Messages.{MessageTree};
 ghost use Rattle.dbus_value_model.specs.declared.limits.Limits.{Limits};
 ghost use Rattle.dbus_value_model.specs.declared.order.Order.{Order};
-ghost use Rattle.dbus_c.specs.Checking.{IsExact, Tells, fault_told, nothing_told, whole_told};
+ghost use Rattle.dbus_c.specs.Checking.{IsChecked, fault_told, nothing_told, whole_told};
 ghost use Rattle.dbus_c.specs.GivenLimits.{limits_of};
 ghost use Rattle.dbus_c.specs.Outcomes.{IsFirstView, answer_of};
 ghost use Rattle.dbus_validate.specs.Validating.{IsValidated};
@@ -89,8 +89,7 @@ pub(crate) fn fault_told(fault: Fault) -> Checked
 /// Protocol".
 #[unsafe(no_mangle)]
 pub extern "C" fn dbus_wire_check(bytes: &[u8], limits: &WireLimits, out: &mut Checked) -> u32
-    ensures tells { Tells (limits_of limits.now) bytes.now result out.new }
-    ensures exact { IsExact (limits_of limits.now) bytes.now result out.new }
+    ensures { IsChecked (limits_of limits.now) bytes.now result out.new }
 {
     match first_validated(bytes, limits, out) {
         Ok(_) => WHOLE,
@@ -105,8 +104,7 @@ pub(crate) fn first_validated(
     limits: &WireLimits,
     told: &mut Checked,
 ) -> Result<Validated, u32>
-    ensures tells { Tells (limits_of limits.now) bytes.now (answer_of result) told.new }
-    ensures exact { IsExact (limits_of limits.now) bytes.now (answer_of result) told.new }
+    ensures checked { IsChecked (limits_of limits.now) bytes.now (answer_of result) told.new }
     ensures validated { IfOk result (λ v. IsValidated (limits_of limits.now) bytes.now v) }
     ensures none { IfErr result (λ answer. WHOLE < answer) }
     ensures most { IfErr result (λ answer. answer ≤ REFUSED) }
@@ -124,8 +122,7 @@ pub(crate) fn first_validated(
 // What a checker returns for the bytes.
 #[inline(never)]
 fn check_all(bytes: &[u8], limits: Limits, out: &mut Checked) -> u32
-    ensures tells { Tells limits bytes.now result out.new }
-    ensures exact { IsExact limits bytes.now result out.new }
+    ensures { IsChecked limits bytes.now result out.new }
 {
     let mut checker = Checker::within(limits);
     match checker.take(bytes) {

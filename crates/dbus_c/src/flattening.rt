@@ -2,7 +2,7 @@
 #![tactic(auto)]
 
 ghost use Rattle.std.specs.Prelude.{◌≡◌, ◌↔◌, ◌≤◌, ◌+◌, ℕ, List, length};
-ghost use Rattle.dbus_c.specs.Checking.{IsExact, Tells};
+ghost use Rattle.dbus_c.specs.Checking.{IsChecked};
 ghost use Rattle.dbus_c.specs.Parting.{IsPartFlat, start_of, values_of};
 ghost use Rattle.dbus_c.specs.GivenLimits.{limits_of};
 ghost use Rattle.dbus_c.specs.Outcomes.{IsTold, with_room};
@@ -48,8 +48,7 @@ pub extern "C" fn dbus_wire_flatten(
     count: &mut u64,
     told: &mut Checked,
 ) -> u32
-    ensures tells { Tells (limits_of limits.now) bytes.now (with_room result) told.new }
-    ensures exact { IsExact (limits_of limits.now) bytes.now (with_room result) told.new }
+    ensures checked { IsChecked (limits_of limits.now) bytes.now (with_room result) told.new }
     ensures flat { IsTold result → IsPartFlat Body (limits_of limits.now) bytes.now first items.old items.new count.new }
     ensures room { IsTold result → (result ≡ WHOLE) ↔ (count.new ≤ first + length items.old) }
     ensures unchanged { (IsTold result → ⊥) → (items.new ≡ items.old) × (count.new ≡ count.old) }
@@ -80,8 +79,7 @@ pub extern "C" fn dbus_wire_flatten_fields(
     count: &mut u64,
     told: &mut Checked,
 ) -> u32
-    ensures tells { Tells (limits_of limits.now) bytes.now (with_room result) told.new }
-    ensures exact { IsExact (limits_of limits.now) bytes.now (with_room result) told.new }
+    ensures checked { IsChecked (limits_of limits.now) bytes.now (with_room result) told.new }
     ensures flat { IsTold result → IsPartFlat Fields (limits_of limits.now) bytes.now first items.old items.new count.new }
     ensures room { IsTold result → (result ≡ WHOLE) ↔ (count.new ≤ first + length items.old) }
     ensures unchanged { (IsTold result → ⊥) → (items.new ≡ items.old) × (count.new ≡ count.old) }

@@ -2,7 +2,7 @@
 #![tactic(auto)]
 
 ghost use Rattle.std.specs.Prelude.{◌≡◌, ◌≢◌, List, ℕ, true};
-ghost use Rattle.dbus_c.specs.Checking.{IsExact, Tells};
+ghost use Rattle.dbus_c.specs.Checking.{IsChecked};
 ghost use Rattle.dbus_c.specs.GivenLimits.{limits_of};
 ghost use Rattle.dbus_c.specs.Parting.{HasFields, HasParts, IsOwnPlace, IsPlaceOf, number_of};
 ghost use Rattle.dbus_validate.specs.Seen.{AreNoted, ArePlaced};
@@ -83,8 +83,7 @@ pub extern "C" fn dbus_wire_parts_of(
     out: &mut WireParts,
     told: &mut Checked,
 ) -> u32
-    ensures tells { Tells (limits_of limits.now) bytes.now result told.new }
-    ensures exact { IsExact (limits_of limits.now) bytes.now result told.new }
+    ensures checked { IsChecked (limits_of limits.now) bytes.now result told.new }
     ensures parts { result ≡ WHOLE → HasParts (limits_of limits.now) bytes.now out.new }
     ensures unchanged { result ≢ WHOLE → out.new ≡ out.old }
 {

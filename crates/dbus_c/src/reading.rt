@@ -2,7 +2,7 @@
 #![tactic(auto)]
 
 ghost use Rattle.std.specs.Prelude.{◌≡◌, ◌↔◌, ◌≤◌, length};
-ghost use Rattle.dbus_c.specs.Checking.{IsExact, Tells};
+ghost use Rattle.dbus_c.specs.Checking.{IsChecked};
 ghost use Rattle.dbus_c.specs.GivenLimits.{limits_of};
 ghost use Rattle.dbus_c.specs.Outcomes.{IsTold, with_room};
 ghost use Rattle.dbus_c.specs.Parting.{HasParts, IsPartFlat};
@@ -32,8 +32,7 @@ pub extern "C" fn dbus_wire_read(
     count: &mut u64,
     told: &mut Checked,
 ) -> u32
-    ensures tells { Tells (limits_of limits.now) bytes.now (with_room result) told.new }
-    ensures exact { IsExact (limits_of limits.now) bytes.now (with_room result) told.new }
+    ensures checked { IsChecked (limits_of limits.now) bytes.now (with_room result) told.new }
     ensures parts { IsTold result → HasParts (limits_of limits.now) bytes.now parts.new }
     ensures flat { IsTold result → IsPartFlat Body (limits_of limits.now) bytes.now 0 items.old items.new count.new }
     ensures room { IsTold result → (result ≡ WHOLE) ↔ (count.new ≤ length items.old) }

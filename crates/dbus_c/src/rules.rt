@@ -2,7 +2,7 @@
 #![tactic(auto)]
 
 ghost use Rattle.std.specs.Prelude.{◌≡◌, MatchOption, None, true, false};
-ghost use Rattle.dbus_c.specs.Checking.{IsExact, Tells};
+ghost use Rattle.dbus_c.specs.Checking.{IsChecked};
 ghost use Rattle.dbus_c.specs.GivenLimits.{limits_of};
 ghost use Rattle.dbus_c.specs.Outcomes.{with_memory, with_room};
 ghost use Rattle.dbus_c.specs.Rules.{IsOwner, TellsAll, TellsMatching, TellsOwner, TellsRule, TellsRuleText, TellsSharing, removal_told, rule_fault_told};
@@ -160,8 +160,7 @@ pub extern "C" fn dbus_wire_rules_matching(
     told: &mut Checked,
 ) -> u32
     ensures same { rules.new.state ≡ rules.old.state }
-    ensures tells { Tells (limits_of limits.now) bytes.now (with_room (with_memory result)) told.new }
-    ensures exact { IsExact (limits_of limits.now) bytes.now (with_room (with_memory result)) told.new }
+    ensures checked { IsChecked (limits_of limits.now) bytes.now (with_room (with_memory result)) told.new }
     ensures matching { TellsMatching (rules_of rules.old.state) (owners_of rules.old.state) (limits_of limits.now) bytes.now result
         ids.old ids.new count.old count.new }
 {

@@ -3,7 +3,7 @@
 
 ghost use Rattle.std.specs.Prelude.{◌≡◌, ◌≤◌, ◌++◌, drop, length};
 ghost use Rattle.dbus_c.specs.GivenLimits.{limits_of};
-ghost use Rattle.dbus_c.specs.Checking.{IsExact, Tells};
+ghost use Rattle.dbus_c.specs.Checking.{IsChecked};
 ghost use Rattle.dbus_c.specs.Outcomes.{Swaps, order_named, with_room};
 ghost use Rattle.dbus_header.specs.MessageOutcomes.{IsWhole};
 ghost use Rattle.dbus_validate.specs.Validating.{IsValidated};
@@ -33,8 +33,7 @@ pub extern "C" fn dbus_wire_swap(
     out: &mut [u8],
     told: &mut Checked,
 ) -> u32
-    ensures tells { Tells (limits_of limits.now) bytes.now (with_room result) told.new }
-    ensures exact { IsExact (limits_of limits.now) bytes.now (with_room result) told.new }
+    ensures checked { IsChecked (limits_of limits.now) bytes.now (with_room result) told.new }
     ensures swaps { Swaps (limits_of limits.now) bytes.now (order_named order) result out.old out.new }
 {
     match first_validated(bytes, limits, told) {

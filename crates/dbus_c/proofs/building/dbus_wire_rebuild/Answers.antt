@@ -28,4 +28,4 @@ returns-in-Ok-clause-same c = λ has.
 
 pub returns-in-Err-clause-rebuilds : goal.returns-in-Err-clause-rebuilds
 returns-in-Err-clause-rebuilds c =
-    no_message (λ order m n whole. let is = (c.in-Err.ensures.exact.whole order m n whole).0 in omega (arith, is, c.in-Err.ensures.none)) c.in-Err.ensures.tells refl
+    no_message (λ order m n whole. let is = (c.in-Err.ensures.checked.exact.whole order m n whole).0 in omega (arith, is, c.in-Err.ensures.none)) c.in-Err.ensures.checked.tells refl

@@ -16,4 +16,4 @@ returns-in-Ok c =
     replied c.parts_in.result (c.parts_in.ensures (limits_of c.args.limits.now) b c.in-Ok.ensures.validated) of_call
 
 pub returns-in-Err : goal.returns-in-Err
-returns-in-Err c = no_call (λ order m n whole. let is = (c.in-Err.ensures.exact.whole order m n whole).0 in omega (arith, is, c.in-Err.ensures.none)) c.in-Err.ensures.tells refl
+returns-in-Err c = no_call (λ order m n whole. let is = (c.in-Err.ensures.checked.exact.whole order m n whole).0 in omega (arith, is, c.in-Err.ensures.none)) c.in-Err.ensures.checked.tells refl

@@ -2,10 +2,10 @@ use Rattle.std.proofs.Common.{refl, subst}
 use Rattle.dbus_value_model.specs.declared.limits.Limits.{Limits}
 use Rattle.dbus_header.specs.MessageOutcomes.{IsWhole}
 use Rattle.dbus_validate.specs.Validating.{IsValidated}
-use Rattle.dbus_c.specs.Checking.{Tells}
+use Rattle.dbus_c.specs.Checking.{IsChecked}
 use Rattle.dbus_c.specs.GivenLimits.{limits_of}
 use Rattle.dbus_c.proofs.Outcomes.{none_told}
-use Rattle.dbus_c.proofs.Telling.{some_there, done_told, done_exact}
+use Rattle.dbus_c.proofs.Telling.{some_there, done_checked}
 use Rattle.dbus_c.proofs.checking.first_validated.Goals as goal
 
 pub whole_told-requires : goal.whole_told-requires
@@ -17,26 +17,17 @@ whole_told-requires c =
 pub returns-in-Some-clause-validated : goal.returns-in-Some-clause-validated
 returns-in-Some-clause-validated c = subst (λ (l : Limits). IsValidated l c.args.bytes.now c.in-Some.validated) c.given_limits-within.ensures c.in-Some.ensures.validated
 
-pub returns-in-Some-clause-tells : goal.returns-in-Some-clause-tells
-returns-in-Some-clause-tells c =
+pub returns-in-Some-clause-checked : goal.returns-in-Some-clause-checked
+returns-in-Some-clause-checked c =
     let limits = limits_of c.args.limits.now in
     let b = c.args.bytes.now in
     let validated = c.in-Some.validated in
     let is = c.in-Some.ensures.validated in
     let whole = subst (λ (l : Limits). IsWhole l b validated.order is.message validated.length) c.given_limits-within.ensures is.whole in
-    done_told limits b validated.length c.whole_told.result (validated.order, is.message, whole) c.whole_told.ensures
+    done_checked limits b validated.length c.whole_told.result (validated.order, is.message, whole) c.whole_told.ensures
 
-pub returns-in-Some-clause-exact : goal.returns-in-Some-clause-exact
-returns-in-Some-clause-exact c =
-    let limits = limits_of c.args.limits.now in
-    let b = c.args.bytes.now in
-    let validated = c.in-Some.validated in
-    let is = c.in-Some.ensures.validated in
-    let whole = subst (λ (l : Limits). IsWhole l b validated.order is.message validated.length) c.given_limits-within.ensures is.whole in
-    done_exact limits b validated.length c.whole_told.result (validated.order, is.message, whole) c.whole_told.ensures
-
-pub returns-in-None-clause-tells : goal.returns-in-None-clause-tells
-returns-in-None-clause-tells c = subst (λ (l : Limits). Tells l c.args.bytes.now c.check_all.result c.check_all.new.out) c.given_limits-within.ensures c.check_all.ensures.tells
+pub returns-in-None-clause-checked : goal.returns-in-None-clause-checked
+returns-in-None-clause-checked c = subst (λ (l : Limits). IsChecked l c.args.bytes.now c.check_all.result c.check_all.new.out) c.given_limits-within.ensures c.check_all.ensures
 
 pub returns-in-None-clause-none : goal.returns-in-None-clause-none
 returns-in-None-clause-none c =

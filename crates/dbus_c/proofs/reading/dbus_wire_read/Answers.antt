@@ -1,20 +1,16 @@
 use Rattle.std.proofs.Common.{ℕ, subst, sym}
-use Rattle.dbus_c.specs.Checking.{IsExact, Tells}
+use Rattle.dbus_c.specs.Checking.{IsChecked}
 use Rattle.dbus_c.specs.GivenLimits.{limits_of}
 use Rattle.dbus_c.proofs.Outcomes.{not_told, with_room_same}
 use Rattle.dbus_c.proofs.reading.dbus_wire_read.Goals as goal
 
-pub returns-in-Ok-clause-tells : goal.returns-in-Ok-clause-tells
-returns-in-Ok-clause-tells c =
-    subst (λ (n : ℕ). Tells (limits_of c.args.limits.now) c.args.bytes.now n c.first_validated.new.told) (sym c.flatten_part.ensures.told) c.in-Ok.ensures.tells
+pub returns-in-Ok-clause-checked : goal.returns-in-Ok-clause-checked
+returns-in-Ok-clause-checked c =
+    subst (λ (n : ℕ). IsChecked (limits_of c.args.limits.now) c.args.bytes.now n c.first_validated.new.told) (sym c.flatten_part.ensures.told) c.in-Ok.ensures.checked
 
-pub returns-in-Err-clause-tells : goal.returns-in-Err-clause-tells
-returns-in-Err-clause-tells c =
-    subst (λ (n : ℕ). Tells (limits_of c.args.limits.now) c.args.bytes.now n c.first_validated.new.told) (sym (with_room_same c.in-Err.answer c.in-Err.ensures.most)) c.in-Err.ensures.tells
-
-pub returns-in-Err-clause-exact : goal.returns-in-Err-clause-exact
-returns-in-Err-clause-exact c =
-    subst (λ (n : ℕ). IsExact (limits_of c.args.limits.now) c.args.bytes.now n c.first_validated.new.told) (sym (with_room_same c.in-Err.answer c.in-Err.ensures.most)) c.in-Err.ensures.exact
+pub returns-in-Err-clause-checked : goal.returns-in-Err-clause-checked
+returns-in-Err-clause-checked c =
+    subst (λ (n : ℕ). IsChecked (limits_of c.args.limits.now) c.args.bytes.now n c.first_validated.new.told) (sym (with_room_same c.in-Err.answer c.in-Err.ensures.most)) c.in-Err.ensures.checked
 
 pub returns-in-Err-clause-parts : goal.returns-in-Err-clause-parts
 returns-in-Err-clause-parts c = λ told. absurd (not_told c.in-Err.answer c.in-Err.ensures.most c.in-Err.ensures.none told)

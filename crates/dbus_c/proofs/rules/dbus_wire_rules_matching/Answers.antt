@@ -1,7 +1,7 @@
 use Rattle.std.proofs.Common.{◌≡◌, ℕ, List, length, ap, subst, sym, ◌∙◌}
 use Rattle.dbus_rule_set.specs.declared.handle.RuleHandle.{RuleHandle}
 use Rattle.dbus_c_handle.specs.Rules.{owners_of, rules_of}
-use Rattle.dbus_c.specs.Checking.{IsExact, Tells}
+use Rattle.dbus_c.specs.Checking.{IsChecked}
 use Rattle.dbus_c.specs.GivenLimits.{limits_of}
 use Rattle.dbus_c.specs.Outcomes.{with_room}
 use Rattle.dbus_c.specs.Rules.{TellsAll, TellsMatching}
@@ -9,17 +9,11 @@ use Rattle.dbus_c.proofs.Outcomes.{not_told, with_memory_same, with_room_same}
 use Rattle.dbus_c.proofs.RuleTelling.{all_told, found_told, nothing_found}
 use Rattle.dbus_c.proofs.rules.dbus_wire_rules_matching.Goals as goal
 
-pub returns-in-Err-clause-tells : goal.returns-in-Err-clause-tells
-returns-in-Err-clause-tells c =
+pub returns-in-Err-clause-checked : goal.returns-in-Err-clause-checked
+returns-in-Err-clause-checked c =
     let answer = c.in-Err.answer in
     let same = ap with_room (with_memory_same answer c.in-Err.ensures.most) ∙ with_room_same answer c.in-Err.ensures.most in
-    subst (λ (n : ℕ). Tells (limits_of c.args.limits.now) c.args.bytes.now n c.first_validated.new.told) (sym same) c.in-Err.ensures.tells
-
-pub returns-in-Err-clause-exact : goal.returns-in-Err-clause-exact
-returns-in-Err-clause-exact c =
-    let answer = c.in-Err.answer in
-    let same = ap with_room (with_memory_same answer c.in-Err.ensures.most) ∙ with_room_same answer c.in-Err.ensures.most in
-    subst (λ (n : ℕ). IsExact (limits_of c.args.limits.now) c.args.bytes.now n c.first_validated.new.told) (sym same) c.in-Err.ensures.exact
+    subst (λ (n : ℕ). IsChecked (limits_of c.args.limits.now) c.args.bytes.now n c.first_validated.new.told) (sym same) c.in-Err.ensures.checked
 
 pub returns-in-Err-clause-matching : goal.returns-in-Err-clause-matching
 returns-in-Err-clause-matching c =
@@ -45,14 +39,8 @@ returns-clause-matching c =
     subst (λ (n : ℕ). TellsMatching rules owners limits c.args.bytes.now answer ids new count n) (sym counted)
     (found_told rules owners limits c.args.bytes.now ids count c.first_view-view.result c.first_view-view.ensures.viewed found c.in-Ok-matching.ensures.found answer new told)
 
-pub returns-clause-tells : goal.returns-clause-tells
-returns-clause-tells c =
+pub returns-clause-checked : goal.returns-clause-checked
+returns-clause-checked c =
     let all = all_told _ c.tell_all.result _ _ c.tell_all.ensures in
     let same = ap with_room all.1 ∙ all.0 in
-    subst (λ (n : ℕ). Tells (limits_of c.args.limits.now) c.args.bytes.now n c.first_validated.new.told) (sym same) c.in-Ok.ensures.tells
-
-pub returns-clause-exact : goal.returns-clause-exact
-returns-clause-exact c =
-    let all = all_told _ c.tell_all.result _ _ c.tell_all.ensures in
-    let same = ap with_room all.1 ∙ all.0 in
-    subst (λ (n : ℕ). IsExact (limits_of c.args.limits.now) c.args.bytes.now n c.first_validated.new.told) (sym same) c.in-Ok.ensures.exact
+    subst (λ (n : ℕ). IsChecked (limits_of c.args.limits.now) c.args.bytes.now n c.first_validated.new.told) (sym same) c.in-Ok.ensures.checked

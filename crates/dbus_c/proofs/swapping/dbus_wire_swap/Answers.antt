@@ -4,7 +4,7 @@ use Rattle.dbus_value_model.specs.declared.order.Order.{Order}
 use Rattle.dbus_message_model.specs.Messages.{message_bytes}
 use Rattle.dbus_header.specs.MessageOutcomes.{IsWhole}
 use Rattle.dbus_validate.specs.Validating.{IsValidated}
-use Rattle.dbus_c.specs.Checking.{IsExact, Tells}
+use Rattle.dbus_c.specs.Checking.{IsChecked}
 use Rattle.dbus_c.specs.GivenLimits.{limits_of}
 use Rattle.dbus_c.specs.Outcomes.{order_named}
 use Rattle.dbus_c.proofs.Outcomes.{with_room_same}
@@ -31,15 +31,11 @@ returns-else-out-validated-clause-swaps c =
     let written = c.write_in.ensures is.message whole ∙ ap (λ (o : Order). message_bytes o is.message ++ drop validated.length c.args.out.now) c.order_of.ensures in
     all_written limits c.args.bytes.now (order_named c.args.order) c.args.out.now validated.order is.message validated.length is.whole c.write_in.new.out (omega arith) written
 
-pub returns-in-Err-clause-tells : goal.returns-in-Err-clause-tells
-returns-in-Err-clause-tells c =
-    subst (λ (n : ℕ). Tells (limits_of c.args.limits.now) c.args.bytes.now n c.first_validated.new.told) (sym (with_room_same c.in-Err.answer c.in-Err.ensures.most)) c.in-Err.ensures.tells
-
-pub returns-in-Err-clause-exact : goal.returns-in-Err-clause-exact
-returns-in-Err-clause-exact c =
-    subst (λ (n : ℕ). IsExact (limits_of c.args.limits.now) c.args.bytes.now n c.first_validated.new.told) (sym (with_room_same c.in-Err.answer c.in-Err.ensures.most)) c.in-Err.ensures.exact
+pub returns-in-Err-clause-checked : goal.returns-in-Err-clause-checked
+returns-in-Err-clause-checked c =
+    subst (λ (n : ℕ). IsChecked (limits_of c.args.limits.now) c.args.bytes.now n c.first_validated.new.told) (sym (with_room_same c.in-Err.answer c.in-Err.ensures.most)) c.in-Err.ensures.checked
 
 pub returns-in-Err-clause-swaps : goal.returns-in-Err-clause-swaps
 returns-in-Err-clause-swaps c =
     none_written (limits_of c.args.limits.now) c.args.bytes.now (order_named c.args.order) c.args.out.now
-    (λ order m n whole. let is = (c.in-Err.ensures.exact.whole order m n whole).0 in omega (arith, is, c.in-Err.ensures.none)) c.in-Err.answer
+    (λ order m n whole. let is = (c.in-Err.ensures.checked.exact.whole order m n whole).0 in omega (arith, is, c.in-Err.ensures.none)) c.in-Err.answer
