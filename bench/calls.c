@@ -96,7 +96,7 @@ static void measure(const char *name, int (*call)(void)) {
 static void add(const char *text) {
     struct dbus_wire_rule_id id;
     struct dbus_wire_rule_refused told;
-    if (dbus_wire_rules_add(&rules, (const uint8_t *)text, strlen(text), &id, &told) != DBUS_WIRE_OK) {
+    if (dbus_wire_rules_add(&rules, text, strlen(text), &id, &told) != DBUS_WIRE_OK) {
         fprintf(stderr, "no rule: %s\n", text);
         exit(1);
     }

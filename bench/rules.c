@@ -25,7 +25,7 @@ static void add(const char *form, long number) {
     struct dbus_wire_rule_refused told;
     char text[256];
     snprintf(text, sizeof text, form, number);
-    if (dbus_wire_rules_add(&rules, (const uint8_t *)text, strlen(text), &id, &told) != DBUS_WIRE_OK) {
+    if (dbus_wire_rules_add(&rules, text, strlen(text), &id, &told) != DBUS_WIRE_OK) {
         fprintf(stderr, "no rule: %s\n", text);
         exit(1);
     }
@@ -50,7 +50,7 @@ int main(int count_of_words, char **words) {
     double start, added, best;
     if (count == 0) return 2;
     length = fread(bytes, 1, sizeof bytes, stdin);
-    if (dbus_wire_rules_owner(&rules, (const uint8_t *)words[2], strlen(words[2]), (const uint8_t *)":1.7", 4) != DBUS_WIRE_WHOLE) return 1;
+    if (dbus_wire_rules_owner(&rules, words[2], strlen(words[2]), ":1.7", 4) != DBUS_WIRE_WHOLE) return 1;
     start = now();
     for (i = 0; i < count; i++) add(i < MATCHES ? words[3] : words[4], FIRST + i);
     added = (now() - start) / (double)count;

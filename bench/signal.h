@@ -35,12 +35,12 @@ static const char *const INVALIDATED[] = {"ExecStart", "ExecStop", "ExecMainStat
 static uint8_t spelled[SIGNAL_ROOM];
 
 static int put_text(struct dbus_wire_writer *body, const char *text) {
-    return dbus_wire_put_text(spelled, sizeof spelled, body, (const uint8_t *)text, strlen(text)) == DBUS_WIRE_OK;
+    return dbus_wire_put_text(spelled, sizeof spelled, body, text, strlen(text)) == DBUS_WIRE_OK;
 }
 
 static int put_changed(struct dbus_wire_writer *body, const struct changed *it) {
     return dbus_wire_begin_struct(spelled, sizeof spelled, body) == DBUS_WIRE_OK && put_text(body, it->name)
-        && dbus_wire_put_signature(spelled, sizeof spelled, body, (const uint8_t *)it->type, 1) == DBUS_WIRE_OK
+        && dbus_wire_put_signature(spelled, sizeof spelled, body, it->type, 1) == DBUS_WIRE_OK
         && (it->text ? put_text(body, it->text)
                      : dbus_wire_put_number(spelled, sizeof spelled, body, *it->type == 't' ? 8 : 4, it->number) == DBUS_WIRE_OK);
 }

@@ -56,7 +56,7 @@ static uint32_t take(struct dbus_wire_handshake *end, struct pipe *in, size_t mo
 
 static void make_server(struct dbus_wire_handshake *server, uint32_t user) {
     struct dbus_wire_mechanisms mechanisms = {DBUS_WIRE_EXTERNAL_AS_USER, user, 0, 0};
-    if (dbus_wire_server_new((const uint8_t *)guid, strlen(guid), &mechanisms, server) != DBUS_WIRE_OK) fail("no server");
+    if (dbus_wire_server_new(guid, strlen(guid), &mechanisms, server) != DBUS_WIRE_OK) fail("no server");
 }
 
 static void make_client(struct dbus_wire_handshake *client, uint32_t external) {

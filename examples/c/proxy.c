@@ -86,7 +86,7 @@ static void deny(const struct peer *client, const struct dbus_wire_parts *call) 
     error.reply_serial = call->serial;
     error.error_name.length = strlen(name);
     error.error_name.is_there = 1;
-    if (dbus_wire_build(&error, (const uint8_t *)name, strlen(name), &limits, out, sizeof out, &told) != DBUS_WIRE_OK)
+    if (dbus_wire_build(&error, name, strlen(name), &limits, out, sizeof out, &told) != DBUS_WIRE_OK)
         fail("no error is built");
     write_all(client, out, (size_t)told.length);
 }
@@ -137,7 +137,7 @@ static void serve(int socket_of_client, const char *path) {
     bus.socket = socket(AF_UNIX, SOCK_STREAM, 0);
     if (getsockopt(client.socket, SOL_SOCKET, SO_PEERCRED, &caller, &size) != 0 || caller.uid != getuid()) fail("another user");
     if (bus.socket < 0 || connect(bus.socket, (struct sockaddr *)&address, sizeof address) != 0) fail("no bus");
-    if (dbus_wire_server_new((const uint8_t *)guid, strlen(guid), &own_user, &server) != DBUS_WIRE_OK) fail("no server");
+    if (dbus_wire_server_new(guid, strlen(guid), &own_user, &server) != DBUS_WIRE_OK) fail("no server");
     if (dbus_wire_client_new(&own_user, NULL, 0, &asking) != DBUS_WIRE_OK) fail("no client");
     shake(&asking, &bus);
     shake(&server, &client);
@@ -154,7 +154,7 @@ static void serve(int socket_of_client, const char *path) {
 static void add_rule(const char *text) {
     struct dbus_wire_rule_id id;
     struct dbus_wire_rule_refused told;
-    uint32_t answer = dbus_wire_rules_add(&rules, (const uint8_t *)text, strlen(text), &id, &told);
+    uint32_t answer = dbus_wire_rules_add(&rules, text, strlen(text), &id, &told);
     if (answer == DBUS_WIRE_REFUSED) {
         fprintf(stderr, "%s, at %llu: %s\n", text, (unsigned long long)told.offset, dbus_wire_rule_reason_text(told.reason));
         exit(2);

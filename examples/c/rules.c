@@ -10,7 +10,7 @@
 static uint32_t add(struct dbus_wire_rules *rules, const char *text, size_t length, struct dbus_wire_rule_id *id) {
     struct dbus_wire_rule_refused told;
     uint8_t name[32];
-    uint32_t answer = dbus_wire_rules_add(rules, (const uint8_t *)text, length, id, &told);
+    uint32_t answer = dbus_wire_rules_add(rules, text, length, id, &told);
     if (answer == DBUS_WIRE_REFUSED) {
         dbus_wire_rule_reason_name(told.reason, name, sizeof name);
         fprintf(stderr, "rule refused at %llu: %s\n", (unsigned long long)told.offset, (const char *)name);
@@ -36,7 +36,7 @@ static int add_again(struct dbus_wire_rules *rules, struct dbus_wire_rule_id *id
 static uint32_t note(struct dbus_wire_rules *rules, const char *word) {
     const char *sign = strchr(word, '=');
     if (sign == NULL) return DBUS_WIRE_REFUSED;
-    return dbus_wire_rules_owner(rules, (const uint8_t *)word, (size_t)(sign - word), (const uint8_t *)sign + 1, strlen(sign + 1));
+    return dbus_wire_rules_owner(rules, word, (size_t)(sign - word), sign + 1, strlen(sign + 1));
 }
 
 int main(int count_of_words, char **words) {

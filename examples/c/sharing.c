@@ -19,7 +19,7 @@ static size_t length;
 
 static uint32_t add(struct dbus_wire_rules *rules, const char *text, struct dbus_wire_rule_id *id) {
     struct dbus_wire_rule_refused told;
-    return dbus_wire_rules_add(rules, (const uint8_t *)text, strlen(text), id, &told);
+    return dbus_wire_rules_add(rules, text, strlen(text), id, &told);
 }
 
 /* A thread's rules, how often they match, and the last answer. */
@@ -76,12 +76,12 @@ static void on_shared(struct dbus_wire_rules *rules, struct dbus_wire_rules *oth
     uint8_t one[256], two[256];
     uint64_t first = 0, second = 0;
     uint32_t answer;
-    expect(dbus_wire_rules_add(rules, (const uint8_t *)"=", 1, &none, &told) == DBUS_WIRE_SHARED, "no text is added to shared rules");
+    expect(dbus_wire_rules_add(rules, "=", 1, &none, &told) == DBUS_WIRE_SHARED, "no text is added to shared rules");
     expect(none.kind == 1 && none.hash == 2 && none.number == 3 && told.offset == 4 && told.reason == 5, "nothing is told of it");
     expect(add(other, "member='A'", &none) == DBUS_WIRE_SHARED, "no rule is added to shared rules");
     expect(dbus_wire_rules_remove(rules, id) == DBUS_WIRE_SHARED && dbus_wire_rules_remove(other, &none) == DBUS_WIRE_SHARED,
            "none is removed");
-    expect(dbus_wire_rules_owner(rules, (const uint8_t *)"org.a.B", 7, NULL, 0) == DBUS_WIRE_SHARED, "no owner is noted");
+    expect(dbus_wire_rules_owner(rules, "org.a.B", 7, NULL, 0) == DBUS_WIRE_SHARED, "no owner is noted");
     answer = dbus_wire_rules_text(rules, id, one, sizeof one, &first);
     if (answer == DBUS_WIRE_NO_MEMORY) out_of_memory();
     if (dbus_wire_rules_text(other, id, two, sizeof two, &second) == DBUS_WIRE_NO_MEMORY) out_of_memory();

@@ -12,12 +12,12 @@ static uint8_t bytes[1 << 16];
 static struct dbus_wire_writer body = {0, 'l', 0};
 
 static int put_text(const char *text) {
-    return dbus_wire_put_text(bytes, sizeof bytes, &body, (const uint8_t *)text, strlen(text)) == DBUS_WIRE_OK;
+    return dbus_wire_put_text(bytes, sizeof bytes, &body, text, strlen(text)) == DBUS_WIRE_OK;
 }
 
 /* What stands before the value in a variant of this type. */
 static int begin_variant(const char *type) {
-    return dbus_wire_put_signature(bytes, sizeof bytes, &body, (const uint8_t *)type, strlen(type)) == DBUS_WIRE_OK;
+    return dbus_wire_put_signature(bytes, sizeof bytes, &body, type, strlen(type)) == DBUS_WIRE_OK;
 }
 
 /* A dict entry of `a{sv}`. */

@@ -13,7 +13,7 @@ struct side {
     uint8_t bytes[1 << 16];
 };
 
-typedef uint32_t look(struct dbus_wire_watch *, const uint8_t *, size_t, struct dbus_wire_line *);
+typedef uint32_t look(struct dbus_wire_watch *, const void *, size_t, struct dbus_wire_line *);
 
 static void read_all(struct side *side, const char *name, const char *path) {
     FILE *file = fopen(path, "rb");

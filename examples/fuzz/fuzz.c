@@ -75,7 +75,7 @@ static void add_value(struct seen *seen, uint32_t code, uint64_t number, const u
         for (at = 0; at < length; at++) add(seen, bytes[at]);
 }
 
-typedef uint32_t flatten_call(const uint8_t *, size_t, const struct dbus_wire_limits *, size_t, struct dbus_wire_flat_item *, size_t,
+typedef uint32_t flatten_call(const void *, size_t, const struct dbus_wire_limits *, size_t, struct dbus_wire_flat_item *, size_t,
                               uint64_t *, struct dbus_wire_checked *);
 
 /* Goes over all items of a part of a message. Each has a place among the bytes, and what is within

@@ -43,6 +43,8 @@ fn declared(text: &str) -> (String, String) {
     };
     let kind = match words.concat().trim_end_matches('*') {
         "uint8_t" => "u8",
+        // Bytes that are read.
+        "void" if pointer == "*const " => "u8",
         "uint16_t" => "u16",
         "uint32_t" => "u32",
         "uint64_t" => "u64",
