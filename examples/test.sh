@@ -98,6 +98,32 @@ if command -v dbus-send > /dev/null; then
 	wait "$server"
 fi
 rm -rf "$sockets"
+# A service at a bus, which the words run, sends the values and descriptors of each call back: to a caller in C, and to gdbus and busctl, if they are
+# there; busctl sends no descriptors.
+"$CC" $sanitized -D_GNU_SOURCE -o "$built/descriptors" "$here/c/descriptors.c" -L"$built" -ldbus_wire
+try_echo() {
+	sockets=$(mktemp -d)
+	bus=$(dbus-daemon --session --fork --print-pid --address="unix:path=$sockets/bus")
+	"$@" "$sockets/bus" & echo=$!
+	trap 'kill "$bus" "$echo"' EXIT
+	for round in $(seq 100); do
+		if $run "$built/descriptors" call "$sockets/bus" "$here/test.sh" > "$built/said" 2> "$built/told"; then break; fi
+		sleep 0.1
+	done
+	cmp "$here/test.sh" "$built/said"
+	if command -v gdbus > /dev/null; then
+		gdbus call --address "unix:path=$sockets/bus" --dest org.example.Echo --object-path / --method org.example.Echo.Echo "handle 0" < "$here/test.sh" > "$built/said"
+		grep -q 'handle' "$built/said"
+	fi
+	if command -v busctl > /dev/null; then
+		busctl --address="unix:path=$sockets/bus" call org.example.Echo / org.example.Echo Echo su back 7 > "$built/said"
+		grep -qx 'su "back" 7' "$built/said"
+	fi
+	kill "$bus" "$echo"
+	trap - EXIT
+	rm -rf "$sockets"
+}
+if command -v dbus-daemon > /dev/null; then try_echo $run "$built/descriptors" serve; fi
 # A checker for which there is no memory is not made.
 for nth in 1 2; do
 	status=0
@@ -172,6 +198,7 @@ elif command -v cargo > /dev/null; then
 	cargo test --quiet --offline --manifest-path "$here/../rust/Cargo.toml"
 	cargo build --quiet --offline --release --examples --manifest-path "$here/../rust/Cargo.toml"
 	rust=$built/rust/release/examples
+	if command -v dbus-daemon > /dev/null; then try_echo "$rust/descriptors"; fi
 	listers=$listers,$rust/list swappers=$swappers,$rust/swap filters=$filters,$rust/filter
 	set -- "$@" "$rust/check"
 else

@@ -54,13 +54,13 @@ static uint32_t take(struct dbus_wire_handshake *end, struct pipe *in, size_t mo
     return answer;
 }
 
-static void make_server(struct dbus_wire_handshake *server, uint32_t user) {
-    struct dbus_wire_mechanisms mechanisms = {DBUS_WIRE_EXTERNAL_AS_USER, user, 0, 0};
+static void make_server(struct dbus_wire_handshake *server, uint32_t user, uint32_t descriptors) {
+    struct dbus_wire_mechanisms mechanisms = {DBUS_WIRE_EXTERNAL_AS_USER, user, 0, descriptors};
     if (dbus_wire_server_new(guid, strlen(guid), &mechanisms, server) != DBUS_WIRE_OK) fail("no server");
 }
 
-static void make_client(struct dbus_wire_handshake *client, uint32_t external) {
-    struct dbus_wire_mechanisms mechanisms = {external, (uint32_t)getuid(), 1, 0};
+static void make_client(struct dbus_wire_handshake *client, uint32_t external, uint32_t descriptors) {
+    struct dbus_wire_mechanisms mechanisms = {external, (uint32_t)getuid(), 1, descriptors};
     if (dbus_wire_client_new(&mechanisms, NULL, 0, client) != DBUS_WIRE_OK) fail("no client");
 }
 
@@ -70,15 +70,17 @@ static void print_guid(struct dbus_wire_handshake *client) {
     printf("begun with %.*s\n", (int)sizeof text, (const char *)text);
 }
 
-/* Both ends; each caller sends bytes of its own after its handshake, which the other end leaves. */
-static void shake_in_pieces(size_t most, uint32_t external) {
+/* Both ends, which pass descriptors or not; each caller sends bytes of its own after its handshake,
+ * which the other end leaves. */
+static void shake_in_pieces(size_t most, uint32_t external, uint32_t asks, uint32_t agrees) {
+    uint32_t agreed = asks && agrees ? DBUS_WIRE_OK : DBUS_WIRE_NO_VALUE;
     struct dbus_wire_handshake client = {0}, server = {0};
     struct pipe to_client = {{0}, 0}, to_server = {{0}, 0};
     uint32_t at_client = DBUS_WIRE_PARTIAL, at_server = DBUS_WIRE_PARTIAL;
     struct dbus_wire_handshake_step step;
     int round;
-    make_client(&client, external);
-    make_server(&server, (uint32_t)getuid());
+    make_client(&client, external, asks);
+    make_server(&server, (uint32_t)getuid(), agrees);
     for (round = 0; at_server == DBUS_WIRE_PARTIAL && round < 10000; round++) {
         if (at_client == DBUS_WIRE_PARTIAL && (at_client = take(&client, &to_client, most, &to_server)) == DBUS_WIRE_OK)
             append(&to_server, hello, 5);
@@ -86,6 +88,7 @@ static void shake_in_pieces(size_t most, uint32_t external) {
     }
     if (at_client != DBUS_WIRE_OK || at_server != DBUS_WIRE_OK) fail("they do not agree");
     if (to_server.length != 5 || memcmp(to_server.bytes, hello, 5) != 0 || to_client.length != 0) fail("a message's byte was taken");
+    if (dbus_wire_handshake_agreed(&client) != agreed || dbus_wire_handshake_agreed(&server) != agreed) fail("of descriptors");
     print_guid(&client);
     dbus_wire_handshake_free(&client);
     dbus_wire_handshake_free(&server);
@@ -138,7 +141,7 @@ static void be_client(const char *path) {
     struct sockaddr_un address = address_of(path);
     int peer = socket(AF_UNIX, SOCK_STREAM, 0);
     if (peer < 0 || connect(peer, (struct sockaddr *)&address, sizeof address) != 0) fail("connect");
-    make_client(&client, DBUS_WIRE_EXTERNAL_AS_USER);
+    make_client(&client, DBUS_WIRE_EXTERNAL_AS_USER, 0);
     shake(&client, peer, &in);
     print_guid(&client);
     dbus_wire_handshake_free(&client);
@@ -156,7 +159,7 @@ static void be_server(const char *path) {
     int door = socket(AF_UNIX, SOCK_STREAM, 0), peer;
     if (door < 0 || bind(door, (struct sockaddr *)&address, sizeof address) != 0 || listen(door, 1) != 0) fail("listen");
     if ((peer = accept(door, NULL, NULL)) < 0 || getsockopt(peer, SOL_SOCKET, SO_PEERCRED, &caller, &size) != 0) fail("accept");
-    make_server(&server, (uint32_t)caller.uid);
+    make_server(&server, (uint32_t)caller.uid, 0);
     shake(&server, peer, &in);
     dbus_wire_handshake_free(&server);
     print_message(peer, &in);
@@ -166,8 +169,11 @@ static void be_server(const char *path) {
 
 int main(int argc, char **argv) {
     if (argc == 3 && strcmp(argv[1], "pieces") == 0) {
-        shake_in_pieces((size_t)atol(argv[2]), DBUS_WIRE_EXTERNAL_AS_USER);
-        shake_in_pieces((size_t)atol(argv[2]), DBUS_WIRE_EXTERNAL_AS_REPORTED);
+        uint32_t ends;
+        for (ends = 0; ends < 4; ends++) {
+            shake_in_pieces((size_t)atol(argv[2]), DBUS_WIRE_EXTERNAL_AS_USER, ends & 1, ends >> 1);
+            shake_in_pieces((size_t)atol(argv[2]), DBUS_WIRE_EXTERNAL_AS_REPORTED, ends & 1, ends >> 1);
+        }
     } else if (argc == 3 && strcmp(argv[1], "client") == 0) {
         be_client(argv[2]);
     } else if (argc == 3 && strcmp(argv[1], "server") == 0) {

@@ -82,7 +82,7 @@ class _Handshake:
         with self._lock:
             answer = library.dbus_wire_handshake_agreed(byref(self._handle))
         _raise_if_failed(answer)
-        return answer == OK
+        return bool(answer == OK)
 
     def close(self) -> None:
         """Frees the end. Once more does nothing; ValueError is raised by its other calls from then

@@ -111,6 +111,31 @@ class AtABus(unittest.TestCase):
                 self.assertIsInstance(entries["Load"].value, float)
                 self.assertEqual(asked(service, incoming, 8, "Set", "v", Variant("d", 1.0)), f"{DBUS}.Error.UnknownMethod")
 
+    def test_descriptors(self):
+        listening = self.listen()
+        self.example("descriptors.py", self.bus)
+        service, _ = listening.accept()
+        with service:
+            service.settimeout(20)
+            server = Server(GUID, os.getuid(), descriptors=True)
+            server.shake_hands(service)
+            self.assertTrue(server.agreed)
+            with service.makefile("rb") as file:
+                incoming = messages(file)
+                hello, request = next(incoming), next(incoming)
+                self.assertEqual((hello.member, request.body), ("Hello", ["org.example.Echo", 0]))
+                service.sendall(bytes(reply_to(hello, 1, "s", ":1.1")))
+                read, write = os.pipe()
+                call = build(MessageType.METHOD_CALL, 7, "ah", [1, 0], member="Echo", path="/", sender=":1.7", unix_fds=2)
+                socket.send_fds(service, [bytes(call)], [read, write])
+                data, fds, _, _ = socket.recv_fds(service, 4096, 16)
+                [reply] = messages(data)
+                self.assertEqual((reply.reply_serial, reply.body, reply.unix_fds, len(fds)), (7, [[1, 0]], 2, 2))
+                os.write(fds[1], b"through both")
+                self.assertEqual(os.read(fds[0], 100), b"through both")
+                for fd in (read, write, *fds):
+                    os.close(fd)
+
     def test_proxy(self):
         listening = self.listen()
 
