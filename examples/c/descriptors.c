@@ -95,7 +95,7 @@ static void receive(struct bus *bus) {
 static struct dbus_wire_parts next(struct bus *bus) {
     struct dbus_wire_parts parts;
     uint32_t answer;
-    while ((answer = dbus_wire_parts_of(bus->bytes, bus->length, &limits, &parts)) == DBUS_WIRE_PARTIAL) receive(bus);
+    while ((answer = dbus_wire_parts_of(bus->bytes, bus->length, &limits, &parts, NULL)) == DBUS_WIRE_PARTIAL) receive(bus);
     if (answer != DBUS_WIRE_WHOLE || parts.unix_fds > bus->count) fail("no message");
     return parts;
 }
@@ -180,7 +180,7 @@ static void open_bus(struct bus *bus, const char *path) {
 /* The body of RequestName, "su". */
 static uint64_t put_name(uint8_t *bytes, size_t room, const char *name) {
     struct dbus_wire_writer body = {0, 'l', 0};
-    if (dbus_wire_put_text(bytes, room, &body, (const uint8_t *)name, strlen(name)) != DBUS_WIRE_OK) fail("no room");
+    if (dbus_wire_put_text(bytes, room, &body, name, strlen(name)) != DBUS_WIRE_OK) fail("no room");
     if (dbus_wire_put_number(bytes, room, &body, 4, 0) != DBUS_WIRE_OK) fail("no room");
     return body.length;
 }
@@ -216,7 +216,7 @@ static void ask(struct bus *bus, const char *path) {
     ssize_t count;
     if (own < 0) fail("open");
     reply = call(bus, "org.example.Echo", "Echo", "h", bytes, 4, &own, 1);
-    if (dbus_wire_flatten(bus->bytes, bus->length, &limits, 0, &item, 1, &items) != DBUS_WIRE_WHOLE || item.code != 'h')
+    if (dbus_wire_flatten(bus->bytes, bus->length, &limits, 0, &item, 1, &items, NULL) != DBUS_WIRE_WHOLE || item.code != 'h')
         fail("no descriptor");
     while ((count = read(bus->fds[item.number], piece, sizeof piece)) > 0)
         if (fwrite(piece, 1, (size_t)count, stdout) != (size_t)count) fail("write");
