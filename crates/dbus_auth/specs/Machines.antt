@@ -175,6 +175,7 @@ next_among descriptors (m ∷ ms) = record { action = Sends (auth_line m); next 
 abbrev pub next_of : ClientMachine → ClientStep
 next_of c = next_among c.descriptors c.left
 
+-- it sends a line, and no server has accepted it
 abbrev pub asks : ClientMachine → ClientCommand → ClientState → ClientStep
 asks c line state = record { action = Sends line; next = unaccepted c.descriptors state c.left }
 

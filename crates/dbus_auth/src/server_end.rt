@@ -99,6 +99,21 @@ impl<A: Allocator + Copy> ServerEnd<A> {
     }
 
     /// Whether both ends agreed to pass Unix file descriptors: see [`Server::agreed`].
+    ///
+    /// ```rust
+    /// use dbus_auth::{Guid, Server, ServerEnd};
+    /// use std::io::Write;
+    ///
+    /// let server = Server::new(Guid([7; 16]), Some(1000), false).with_descriptors(true);
+    /// let mut end = ServerEnd::new(alloc, server);
+    /// let mut rest = b"\0AUTH EXTERNAL 31303030\r\nNEGOTIATE_UNIX_FD\r\n".as_slice();
+    /// for _ in 0..2 {
+    ///     let step = end.take(rest)?;
+    ///     rt.stdout().write_all(&step.send)?;
+    ///     rest = rest.get(step.taken..).unwrap_or(&[]);
+    /// }
+    /// println!(rt; "{}", end.agreed())?;
+    /// ```
     pub fn agreed(&self) -> bool
         ensures { result ≡ (server_end_state self.now).machine.agreed }
     {
