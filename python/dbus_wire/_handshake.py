@@ -65,16 +65,21 @@ class _Handshake:
         Raises ConnectionError if the handshake fails or the connection ends before it does, and
         what the socket raises.
         """
-        step = self.take()
+        step = self._answer(connection, b"")
         while step.status == Status.TALKING:
-            connection.sendall(step.reply)
             # A byte at a time: the last line may have the first message behind it.
             if not (piece := connection.recv(1)):
                 raise ConnectionError("the connection ended in the handshake")
-            step = self.take(piece)
-        connection.sendall(step.reply)
+            step = self._answer(connection, piece)
         if step.status == Status.CLOSED:
             raise ConnectionError("the handshake failed")
+
+    def _answer(self, connection: socket.socket, piece: bytes) -> Step:
+        step = self.take(piece)
+        # After BEGIN a client may be gone, to which nothing can be sent, no bytes either.
+        if step.reply:
+            connection.sendall(step.reply)
+        return step
 
     @property
     def agreed(self) -> bool:

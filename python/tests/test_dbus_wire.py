@@ -586,6 +586,15 @@ class Handshakes(unittest.TestCase):
             with there.makefile("rb") as file:
                 self.assertEqual(next(messages(file)).body, [":1.2"])
 
+    def test_hands_are_shaken_with_a_client_that_left(self):
+        here, there = socket.socketpair()
+        with there, Server(self.GUID, 7) as server:
+            with here:
+                server.take(b"\0AUTH EXTERNAL 37\r\n")
+                here.sendall(b"BEGIN\r\n" + SESSION)
+            server.shake_hands(there)
+            self.assertEqual(server.take(b"l").status, Status.BEGUN)
+
     def test_hands_that_are_not_shaken(self):
         for ending, text in ((b"REJECTED\r\n", "the handshake failed"), (b"REJ", "the connection ended in the handshake")):
             here, there = socket.socketpair()

@@ -136,6 +136,23 @@ class AtABus(unittest.TestCase):
                 for fd in (read, write, *fds):
                     os.close(fd)
 
+    def test_clients_that_ask_for_descriptors(self):
+        listening, address = self.listen(), f"unix:path={self.bus}"
+        for words, member in (
+            (("dbus-send", f"--peer={address}", "--type=signal", "/a", "b.c.Seen"), "Seen"),
+            (("gdbus", "call", "--address", address, "--dest", "a.b", "--object-path", "/", "--method", "a.b.C"), "Hello"),
+            (("busctl", f"--address={address}", "call", "a.b", "/", "a.b", "C"), "Hello"),
+        ):
+            for descriptors in (True, False) if shutil.which(words[0]) else ():
+                with self.subTest(words[0], descriptors=descriptors):
+                    self.start(*words)
+                    client, _ = listening.accept()
+                    with client, Server(GUID, os.getuid(), descriptors=descriptors) as server:
+                        client.settimeout(20)
+                        server.shake_hands(client)
+                        with client.makefile("rb") as file:
+                            self.assertEqual((server.agreed, next(messages(file)).member), (descriptors, member))
+
     def test_proxy(self):
         listening = self.listen()
 
