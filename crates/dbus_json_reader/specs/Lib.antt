@@ -1,3 +1,4 @@
 pub mod JsonMembers
+pub mod JsonMessages
 pub mod JsonNumbers
 pub mod JsonValues
