@@ -15,8 +15,10 @@ use Rattle.dbus_value_text.specs.Forms.{AreFieldTexts}
 use Rattle.dbus_json.specs.JsonValues.{plain, member, object, listed}
 use Rattle.dbus_json.specs.JsonMessages.{IsKnown, IsOther, place_members, end_text}
 use Rattle.dbus_json.proofs.FieldTexts.{other_text}
-use Rattle.dbus_json_laws.proofs.Numbers.{Bare, AreAll, same_head, cut, decimal_bare, bare_literal, plain_same}
-use Rattle.dbus_json_laws.proofs.Values.{Sound, AreSound, Stop, more, comma_ends, after_item, brace_stop, same_json, same_signature}
+use Rattle.dbus_json_laws.proofs.Numbers.{Bare, AreAll, cut, decimal_bare, bare_literal, plain_same}
+use Rattle.dbus_json_reader.proofs.NumberTexts.{same_head}
+use Rattle.dbus_json_reader.proofs.SoundValues.{Sound, AreSound}
+use Rattle.dbus_json_laws.proofs.Values.{Stop, more, comma_ends, after_item, brace_stop, same_json, same_signature}
 use Rattle.dbus_json_laws.proofs.Mixing.{Placed, field_of, told}
 
 -- ---- what is known of a message's fields

@@ -19,8 +19,10 @@ use Rattle.dbus_json.proofs.OneLines.{last_members, later_members, line_is}
 use Rattle.dbus_json.specs.Times.{digit_at, powers, fraction_digits, seconds_text, time_members}
 use Rattle.dbus_json.specs.JsonValues.{plain, member, array, object, listed, AreJson}
 use Rattle.dbus_json.specs.JsonMessages.{type_text, first_members, known_fields, other_fields, is_before_known, AreKnown, AreOthers, fields_text}
-use Rattle.dbus_json_laws.proofs.Numbers.{Bare, AreAll, all_append, weaker, same_head, cut, decimal_bare, bare_literal, bare_at, bare_of, plain_same, low}
-use Rattle.dbus_json_laws.proofs.Values.{Stop, sound, are_sound, alike_types, more, after_item, comma_ends, same_listed}
+use Rattle.dbus_json_laws.proofs.Numbers.{Bare, AreAll, all_append, weaker, cut, decimal_bare, bare_literal, bare_at, bare_of, plain_same, low}
+use Rattle.dbus_json_reader.proofs.NumberTexts.{same_head}
+use Rattle.dbus_json_reader.proofs.SoundValues.{sound, are_sound, alike_types}
+use Rattle.dbus_json_laws.proofs.Values.{Stop, more, after_item, comma_ends, same_listed}
 use Rattle.dbus_json_laws.proofs.Mixing.{Placed, mixing_kept}
 use Rattle.dbus_json_laws.proofs.Fields.{AllFit, all_fit, all_pass, passing, few_fields, same_known, same_objects}
 use Rattle.dbus_json_laws.specs.Laws.{IsOneMessageALine}

@@ -1,6 +1,17 @@
+pub mod NumberTexts
+pub mod SoundValues
+pub mod OneValue
+pub mod Packed
 mod Decimals
 mod OneByte
 mod Bits
 mod Narrow
 pub mod Going
 pub mod Shapes
+pub mod MemberNames
+pub mod KnownFields
+pub mod Objects
+pub mod KnownNames
+pub mod Merging
+pub mod Messages
+pub mod Placing

@@ -2,8 +2,8 @@
 -- some may be left out.
 -- RFC 8259, section 4, of the messages of the D-Bus Specification, "Message Format" and "Header
 -- Fields".
-use Rattle.std.specs.Prelude.{◌≡◌, ℕ, List, [], ◌∷◌, Bool, true, false, not, Option, Some, None, AllZip, filter, codes, decimal}
-use Rattle.std.specs.List.{list_all, list_any}
+use Rattle.std.specs.Prelude.{◌≡◌, ℕ, List, [], ◌∷◌, Bool, true, false, not, Option, Some, None, filter, codes, decimal}
+use Rattle.std.specs.List.{AllZip, list_all, list_any}
 use Rattle.std.specs.Str.{bytes_eq}
 use Rattle.json.specs.Find.{get}
 use Rattle.json.specs.Json.{Json, number, string, array, object, Members, no_members, member}

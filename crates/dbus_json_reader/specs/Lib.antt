@@ -1,4 +1,5 @@
 pub mod JsonMembers
 pub mod JsonMessages
 pub mod JsonNumbers
+pub mod JsonParts
 pub mod JsonValues

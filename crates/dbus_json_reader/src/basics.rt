@@ -2,12 +2,13 @@
 //! types".
 #![tactic(auto)]
 
-ghost use Rattle.std.specs.Prelude.{◌≡◌, ◌^◌, ◌<◌, ℕ, List, None, Err, IfSome, IfOk, length, string_bytes};
+ghost use Rattle.std.specs.Prelude.{◌≡◌, ◌^◌, ◌<◌, ℕ, List, None, Err, IsTrue, IfSome, IfOk, length, string_bytes};
 ghost use Rattle.json.specs.Json.{string};
 ghost use Rattle.json.specs.Value.{value_view};
 ghost use Rattle.dbus_texts.specs.Kinds.{IsKind};
 ghost use Rattle.dbus_texts.specs.Types.{NumberCode, NumberType, IsBasic};
 ghost use Rattle.dbus_types.specs.SigTypes.{type_tree};
+ghost use Rattle.dbus_value_model.specs.PackedBytes.{keeps_bytes};
 ghost use Rattle.dbus_value_model.specs.Values.{ValueTree};
 ghost use Rattle.dbus_value_model.specs.ValueViews.{value_tree};
 ghost use Rattle.dbus_json_reader.specs.JsonValues.{IsRead};
@@ -25,6 +26,7 @@ use std::alloc::Allocator;
 fn number<A: Allocator>(ty: &SigType<A>, json: &Json<'_, A>) -> Option<Value<A>>
     ensures some { IfSome result (λ v. (depth : ℕ) →
         IsRead depth (type_tree ty.now) (value_tree v) (value_view json.now)) }
+    ensures packed { IfSome result (λ v. IsTrue (keeps_bytes v)) }
     ensures none { result ≡ None → (k : NumberCode) → type_tree ty.now ≡ NumberType k →
         (depth : ℕ) (v : ValueTree) →
         IsRead depth (type_tree ty.now) v (value_view json.now) → ⊥ }
@@ -70,6 +72,7 @@ pub(crate) fn read_basic<A: Allocator + Copy>(
     requires { IsBasic (type_tree ty.now) }
     ensures ok { IfOk result (λ v. (depth : ℕ) →
         IsRead depth (type_tree ty.now) (value_tree v) (value_view json.now)) }
+    ensures packed { IfOk result (λ v. IsTrue (keeps_bytes v)) }
     ensures refused { result ≡ Err Unread.Unspelled → (depth : ℕ) (v : ValueTree) →
         IsRead depth (type_tree ty.now) v (value_view json.now) → ⊥ }
 {

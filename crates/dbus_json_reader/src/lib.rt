@@ -1,11 +1,17 @@
-//! Lines of JSON, as `dbus_json` writes them, read back: what their values spell.
+//! Lines of JSON, as `dbus_json` writes them, read back: which values, and which message, they
+//! spell.
 #![tactic(auto)]
 
 mod basics;
 mod doubles;
+mod head;
 mod integers;
+mod known;
 mod members;
+mod message;
+mod names;
 mod numbers;
+mod others;
 mod texts;
 mod unread;
 mod values;
@@ -13,6 +19,7 @@ mod values;
 pub use doubles::double;
 pub use integers::{signed_in, unsigned_in};
 pub use members::{kind, order};
+pub use message::read_message;
 pub use numbers::{signed_16, signed_32, signed_64, unsigned, unsigned_64};
 pub use texts::text;
 pub use unread::Unread;

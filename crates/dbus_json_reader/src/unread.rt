@@ -13,8 +13,8 @@ pub enum Unread {
     /// An allocation failed.
     #[error("allocation failed")]
     Memory,
-    /// It spells no value of the type that is wanted.
-    #[error("the JSON spells no value of the type")]
+    /// It spells no value of the type that is wanted, or no valid message.
+    #[error("the JSON spells no value of the type, or no message")]
     Unspelled,
 }
 

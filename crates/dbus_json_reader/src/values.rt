@@ -1,12 +1,13 @@
 //! Values of any type from JSON. RFC 8259; D-Bus Specification, "Type System".
 #![tactic(auto)]
 
-ghost use Rattle.std.specs.Prelude.{◌≡◌, ℕ, List, None, Err, Ok, IfSome, IfOk};
+ghost use Rattle.std.specs.Prelude.{◌≡◌, ℕ, List, None, Err, Ok, IsTrue, IfSome, IfOk};
 ghost use Rattle.hex.specs.Hex.{decode_of};
 ghost use Rattle.json.specs.Json.{Json as JsonTree, Items, no_items, item, array, string};
 ghost use Rattle.json.specs.Value.{value_view, members_view};
 ghost use Rattle.dbus_texts.specs.Types.{TypeTree, ArrayType, EntryType, VariantType, sig, IsSingleType};
 ghost use Rattle.dbus_types.specs.SigTypes.{type_tree, type_trees_of};
+ghost use Rattle.dbus_value_model.specs.PackedBytes.{keeps_bytes, keep_bytes};
 ghost use Rattle.dbus_value_model.specs.Values.{ValueTree, ValueTrees};
 ghost use Rattle.dbus_value_model.specs.ValueViews.{value_tree, value_trees_of};
 ghost use Rattle.dbus_json_reader.specs.JsonValues.{IsRead, AreRead, IsTyped};
@@ -92,7 +93,7 @@ fn pair_of<'v, 'a, A: Allocator>(
 }
 
 /// The type that a signature of exactly one complete type spells.
-fn single_type<A: Allocator + Copy>(alloc: A, text: &str) -> Result<SigType<A>, Unread>
+pub(crate) fn single_type<A: Allocator + Copy>(alloc: A, text: &str) -> Result<SigType<A>, Unread>
     ensures ok { IfOk result (λ ty. IsSingleType (type_tree ty) × (sig (type_tree ty) ≡ text.now)) }
     ensures refused { result ≡ Err Unread.Unspelled → (t : TypeTree) → IsSingleType t →
         sig t ≡ text.now → ⊥ }
@@ -113,6 +114,7 @@ fn read_variant<A: Allocator + Copy>(
 ) -> Result<Value<A>, Unread>
     ensures ok { IfOk result (λ v.
         IsRead depth VariantType (value_tree v) (value_view json.now)) }
+    ensures packed { IfOk result (λ v. IsTrue (keeps_bytes v)) }
     ensures refused { result ≡ Err Unread.Unspelled → (v : ValueTree) →
         IsRead depth VariantType v (value_view json.now) → ⊥ }
 {
@@ -140,6 +142,7 @@ fn read_array<A: Allocator + Copy>(
 ) -> Result<Value<A>, Unread>
     ensures ok { IfOk result (λ v.
         IsRead depth (ArrayType (type_tree element.now)) (value_tree v) (value_view json.now)) }
+    ensures packed { IfOk result (λ v. IsTrue (keeps_bytes v)) }
     ensures refused { result ≡ Err Unread.Unspelled → (v : ValueTree) →
         IsRead depth (ArrayType (type_tree element.now)) v (value_view json.now) → ⊥ }
 {
@@ -170,6 +173,7 @@ fn read_entry<A: Allocator + Copy>(
 ) -> Result<Value<A>, Unread>
     ensures ok { IfOk result (λ v. IsRead depth (EntryType (type_tree key.now)
         (type_tree value.now)) (value_tree v) (value_view json.now)) }
+    ensures packed { IfOk result (λ v. IsTrue (keeps_bytes v)) }
     ensures refused { result ≡ Err Unread.Unspelled → (v : ValueTree) → IsRead depth
         (EntryType (type_tree key.now) (type_tree value.now)) v (value_view json.now) → ⊥ }
 {
@@ -182,7 +186,7 @@ fn read_entry<A: Allocator + Copy>(
 }
 
 /// The values of these types, one each, that an array spells. No more containers than `depth` are
-/// open in one at once.
+/// open in one at once. An array of BYTE in what it returns is `Bytes`.
 ///
 /// `Unspelled` exactly if it spells none; `Memory` if an allocation failed. RFC 8259; D-Bus
 /// Specification, "Type System".
@@ -195,6 +199,7 @@ pub fn read_values<A: Allocator + Copy>(
 ) -> Result<Vec<Value<A>, A>, Unread>
     ensures ok { IfOk result (λ vs. (js : Items) × (value_view json.now ≡ array js)
         × AreRead depth (type_trees_of types.now) (value_trees_of vs.items) js) }
+    ensures packed { IfOk result (λ vs. IsTrue (keep_bytes vs.items)) }
     ensures refused { result ≡ Err Unread.Unspelled → (js : Items) (xs : ValueTrees) →
         value_view json.now ≡ array js → AreRead depth (type_trees_of types.now) xs js → ⊥ }
 {
@@ -217,7 +222,7 @@ pub fn read_values<A: Allocator + Copy>(
 /// A number is in decimal, one of 64 bits maybe in a string, and a DOUBLE maybe as 16 hexadecimal
 /// digits; an array of BYTE is a string of hexadecimal digits, any other array one of its elements,
 /// a STRUCT one of its fields, and a dict entry one of its key and its value; a VARIANT is an
-/// object of `type` and `value`.
+/// object of `type` and `value`. An array of BYTE in what it returns is `Bytes`.
 ///
 /// `Unspelled` exactly if it spells none; `Memory` if an allocation failed. RFC 8259; D-Bus
 /// Specification, "Type System".
@@ -230,6 +235,7 @@ pub fn read_value<A: Allocator + Copy>(
 ) -> Result<Value<A>, Unread>
     ensures ok { IfOk result (λ v.
         IsRead depth (type_tree ty.now) (value_tree v) (value_view json.now)) }
+    ensures packed { IfOk result (λ v. IsTrue (keeps_bytes v)) }
     ensures refused { result ≡ Err Unread.Unspelled → (v : ValueTree) →
         IsRead depth (type_tree ty.now) v (value_view json.now) → ⊥ }
 {

@@ -1,14 +1,19 @@
-use Rattle.std.proofs.Common.{◌≡◌, ◌-◌, ◌*◌, ◌<◌, suc, ◌∷◌, [], ◌++◌, length, Result, Ok, Err, IfOk, refl, sym, ap, ◌∙◌, subst, arith, rules}
+use Rattle.std.proofs.Common.{◌≡◌, ◌-◌, ◌*◌, ◌<◌, suc, ◌∷◌, [], ◌++◌, length, not, ◌&&◌, Result, Ok, Err, IfOk, refl, sym, ap, ◌∙◌, subst, arith, rules}
+use Rattle.std.proofs.lemmas.Bool.{and_from}
 use Rattle.json.specs.Tree.{json_tokens}
 use Rattle.json.specs.Value.{value_view, items_view, members_view}
 use Rattle.dbus_texts.specs.Types.{sig, StructType}
+use Rattle.dbus_texts.specs.PlainTypes.{is_byte}
 use Rattle.dbus_types.specs.SigTypes.{type_tree, type_trees_of}
 use Rattle.dbus_types.proofs.TypeEnds.{type_tree-Struct}
 use Rattle.dbus_value_model.specs.Values.{ArrayValue, EntryValue, VariantValue}
+use Rattle.dbus_value_model.specs.PackedBytes.{keeps_bytes}
 use Rattle.dbus_value_model.specs.ValueViews.{value_tree, value_trees_of}
+use Rattle.dbus_value_model.proofs.Formed.{keeps-Array, keeps-Struct, keeps-Variant, keeps-Bytes, keep_push}
 use Rattle.dbus_value_model.proofs.ValueRows.{tree-Bytes, tree-Array, tree-Struct, tree-Entry, tree-Variant}
 use Rattle.dbus_json_reader.specs.JsonValues.{IsRead, AreElements, AreRead, IsTyped}
 use Rattle.dbus_json_reader.proofs.Going.{begins_at, next_element, no_element, all_elements, next_value, no_value, all_values, one_each}
+use Rattle.dbus_json_reader.proofs.Packed.{keeps_none, keeps-Entry}
 use Rattle.dbus_json_reader.proofs.Shapes.{no_array, no_object, moved, failed, array_seen, object_seen, read_as, smaller_item, smaller_pair, smaller_typed, bytes_made, array_made, array_read, struct_made, struct_read, entry_made, entry_read, variant_made, variant_read, typed_same, one_type, arrays_same, objects_same, pairs_same}
 use Rattle.dbus_json_reader.proofs.values.+values.Goals as goal
 
@@ -31,11 +36,12 @@ read_array-returns-then-is_byte-clause-ok g t c =
 pub read_array-returns-in_default : goal.read_array-returns-in_default
 read_array-returns-in_default g t c = record {
   ok = search rules;
+  packed = search rules;
   refused = λ e v h. let r = array_read _ _ v _ h in let all = r.items (sym c.is_byte.ensures ∙ c.if-is_byte.false) in no_array c.args.json.now c.in_default.not-Array all.0 (sym all.1);
 }
 
 pub read_array-loop-item-init : goal.read_array-loop-item-init
-read_array-loop-item-init g t c = begins_at _ _ _ c.new-values.ensures.items
+read_array-loop-item-init g t c = (begins_at _ _ _ c.new-values.ensures.items, keeps_none _ c.new-values.ensures.items)
 
 pub read_array-read_value-requires : goal.read_array-read_value-requires
 read_array-read_value-requires g t c κs within =
@@ -54,20 +60,30 @@ read_array-returns-in_err-read_value-clause-refused g t c = λ e v h.
     let items = arrays_same _ _ (sym all.1 ∙ seen) in
     let less : r.less ≡ c.args.depth - 1 = omega (arith, deep) in
     let elements = subst (λ d. AreElements d (type_tree c.args.element.now) r.xs (items_view l)) less (subst (λ js. AreElements r.less (type_tree c.args.element.now) r.xs js) items all.2) in
-    no_element (c.args.depth - 1) (type_tree c.args.element.now) l c.loop-item.item-index c.loop-item.values.items c.loop-item.invariant c.item-item.result c.loop-item-test.true c.item-item.is (λ w one. c.in_err-read_value.ensures.refused same w one) r.xs elements
+    no_element (c.args.depth - 1) (type_tree c.args.element.now) l c.loop-item.item-index c.loop-item.values.items c.loop-item.invariant.0 c.item-item.result c.loop-item-test.true c.item-item.is (λ w one. c.in_err-read_value.ensures.refused same w one) r.xs elements
 
 pub read_array-loop-item-preserved : goal.read_array-loop-item-preserved
 read_array-loop-item-preserved g t c =
-    let pushed : c.push.new.self.items ≡ c.loop-item.values.items ++ c.in_ok-read_value.field-0 ∷ [] = search rules in
-    next_element _ _ c.deref-item-items.result.now c.loop-item.item-index c.loop-item.values.items c.loop-item.invariant c.item-item.result c.loop-item-test.true c.item-item.is c.in_ok-read_value.field-0 c.push.new.self.items pushed c.in_ok-read_value.ensures.ok
+    let pushed : c.push.new.self.items ≡ c.loop-item.values.items ++ c.in_ok-read_value.field-0 ∷ [] = search rules in (
+      next_element _ _ c.deref-item-items.result.now c.loop-item.item-index c.loop-item.values.items c.loop-item.invariant.0 c.item-item.result c.loop-item-test.true c.item-item.is c.in_ok-read_value.field-0 c.push.new.self.items pushed c.in_ok-read_value.ensures.ok,
+      keep_push _ _ _ pushed c.loop-item.invariant.1 c.in_ok-read_value.ensures.packed,
+    )
 
 pub read_array-returns-clause-ok : goal.read_array-returns-clause-ok
 read_array-returns-clause-ok g t c =
     let l = c.deref-item-items.result.now in
     let seen = array_seen c.args.json.now c.in-Array.items l c.in-Array.is c.deref-item-items.ensures.value in
-    let elements = all_elements _ _ l c.loop-item.item-index c.loop-item.values.items c.loop-item.invariant c.loop-item-test.false in
+    let elements = all_elements _ _ l c.loop-item.item-index c.loop-item.values.items c.loop-item.invariant.0 c.loop-item-test.false in
     let is = tree-Array c.in_ok-clone.field-0 c.loop-item.values ∙ ap (λ u. ArrayValue u (value_trees_of c.loop-item.values.items)) c.in_ok-clone.ensures.cases in
     moved _ _ _ _ _ _ is seen (array_made _ (c.args.depth - 1) _ _ _ (omega (arith, c.if-depth-eq0.false)) (sym c.is_byte.ensures ∙ c.if-is_byte.false) elements)
+
+pub read_array-returns-then-is_byte-clause-packed : goal.read_array-returns-then-is_byte-clause-packed
+read_array-returns-then-is_byte-clause-packed g t c = keeps-Bytes c.in_ok-read_bytes.field-0
+
+pub read_array-returns-clause-packed : goal.read_array-returns-clause-packed
+read_array-returns-clause-packed g t c =
+    keeps-Array c.in_ok-clone.field-0 c.loop-item.values
+    ∙ and_from _ _ (ap (λ u. not (is_byte u)) c.in_ok-clone.ensures.cases ∙ ap not (sym c.is_byte.ensures ∙ c.if-is_byte.false)) c.loop-item.invariant.1
 
 -- ---- dict entries
 
@@ -99,6 +115,10 @@ read_entry-returns-clause-ok g t c =
     let is = tree-Entry c.in_ok-new.field-0 ∙ ap (λ e. EntryValue (value_tree e.key) (value_tree e.value)) c.in_ok-new.ensures.ok in
     moved _ _ _ _ _ _ is c.in-Some.ensures.some (entry_made _ _ _ _ _ _ _ c.in_ok-key.ensures.ok c.in_ok-value.ensures.ok)
 
+pub read_entry-returns-clause-packed : goal.read_entry-returns-clause-packed
+read_entry-returns-clause-packed g t c =
+    keeps-Entry c.in_ok-new.field-0 ∙ ap (λ e. keeps_bytes e.key && keeps_bytes e.value) c.in_ok-new.ensures.ok ∙ and_from _ _ c.in_ok-key.ensures.packed c.in_ok-value.ensures.packed
+
 -- ---- several values
 
 pub read_values-returns-then-items-types-clause-refused : goal.read_values-returns-then-items-types-clause-refused
@@ -107,7 +127,7 @@ read_values-returns-then-items-types-clause-refused g t c = λ e js xs is h.
     c.if-items-types.true (one_each _ c.args.types.now xs c.as_slice-items.result.now (subst (λ ks. AreRead c.args.depth (type_trees_of c.args.types.now) xs ks) items h))
 
 pub read_values-loop-i-init : goal.read_values-loop-i-init
-read_values-loop-i-init g t c = begins_at _ _ _ c.new-values.ensures.items
+read_values-loop-i-init g t c = (begins_at _ _ _ c.new-values.ensures.items, keeps_none _ c.new-values.ensures.items)
 
 pub read_values-read_value-requires : goal.read_values-read_value-requires
 read_values-read_value-requires g t c κs within =
@@ -121,24 +141,30 @@ read_values-returns-in_err-read_value-clause-refused g t c = λ e js xs is h.
     let seen = array_seen c.args.json.now c.in-Array.items l c.in-Array.is c.as_slice-items.ensures.value in
     let same = failed c.from_residual.result c.in_err-read_value.field-0.0 c.from_residual.ensures.1 e in
     let items = arrays_same _ _ (sym is ∙ seen) in
-    no_value _ c.args.types.now l c.loop-i.i c.loop-i.values.items c.loop-i.invariant c.if-items-types.false c.index-items-i.result c.index-types-i.result c.loop-i-test.true c.index-items-i.is c.index-types-i.is (λ w one. c.in_err-read_value.ensures.refused same w one) xs (subst (λ ks. AreRead c.args.depth (type_trees_of c.args.types.now) xs ks) items h)
+    no_value _ c.args.types.now l c.loop-i.i c.loop-i.values.items c.loop-i.invariant.0 c.if-items-types.false c.index-items-i.result c.index-types-i.result c.loop-i-test.true c.index-items-i.is c.index-types-i.is (λ w one. c.in_err-read_value.ensures.refused same w one) xs (subst (λ ks. AreRead c.args.depth (type_trees_of c.args.types.now) xs ks) items h)
 
 pub read_values-loop-i-preserved : goal.read_values-loop-i-preserved
 read_values-loop-i-preserved g t c =
     let l = c.as_slice-items.result.now in
-    let pushed : c.push.new.self.items ≡ c.loop-i.values.items ++ c.in_ok-read_value.field-0 ∷ [] = search rules in
-    next_value _ c.args.types.now l c.loop-i.i c.loop-i.values.items c.loop-i.invariant c.if-items-types.false c.index-items-i.result c.index-types-i.result c.loop-i-test.true c.index-items-i.is c.index-types-i.is c.in_ok-read_value.field-0 c.push.new.self.items pushed c.in_ok-read_value.ensures.ok
+    let pushed : c.push.new.self.items ≡ c.loop-i.values.items ++ c.in_ok-read_value.field-0 ∷ [] = search rules in (
+      next_value _ c.args.types.now l c.loop-i.i c.loop-i.values.items c.loop-i.invariant.0 c.if-items-types.false c.index-items-i.result c.index-types-i.result c.loop-i-test.true c.index-items-i.is c.index-types-i.is c.in_ok-read_value.field-0 c.push.new.self.items pushed c.in_ok-read_value.ensures.ok,
+      keep_push _ _ _ pushed c.loop-i.invariant.1 c.in_ok-read_value.ensures.packed,
+    )
 
 pub read_values-returns-clause-ok : goal.read_values-returns-clause-ok
 read_values-returns-clause-ok g t c =
     let l = c.as_slice-items.result.now in
-    (_, array_seen c.args.json.now c.in-Array.items l c.in-Array.is c.as_slice-items.ensures.value, all_values _ c.args.types.now l c.loop-i.i c.loop-i.values.items c.loop-i.invariant c.if-items-types.false c.loop-i-test.false)
+    (_, array_seen c.args.json.now c.in-Array.items l c.in-Array.is c.as_slice-items.ensures.value, all_values _ c.args.types.now l c.loop-i.i c.loop-i.values.items c.loop-i.invariant.0 c.if-items-types.false c.loop-i-test.false)
+
+pub read_values-returns-clause-packed : goal.read_values-returns-clause-packed
+read_values-returns-clause-packed g t c = c.loop-i.invariant.1
 
 -- ---- variants
 
 pub read_variant-returns-in_default : goal.read_variant-returns-in_default
 read_variant-returns-in_default g t c = record {
   ok = search rules;
+  packed = search rules;
   refused = λ e v h. let r = variant_read _ v _ h in no_object c.args.json.now c.in_default.not-Object _ (sym r.is);
 }
 
@@ -183,6 +209,9 @@ read_variant-returns-clause-ok g t c =
     let is = tree-Variant c.in_ok-new.field-0 ∙ ap (λ w. VariantValue (value_tree w)) c.in_ok-new.ensures.ok in
     moved _ _ _ _ _ _ is seen (variant_made _ (c.args.depth - 1) (type_tree c.in_ok-ty.ty) _ (value_view c.in-Some.value.now) _ (omega (arith, c.if-depth-eq0.false)) type.0 pair c.in_ok-value.ensures.ok)
 
+pub read_variant-returns-clause-packed : goal.read_variant-returns-clause-packed
+read_variant-returns-clause-packed g t c = keeps-Variant c.in_ok-new.field-0 ∙ ap keeps_bytes c.in_ok-new.ensures.ok ∙ c.in_ok-value.ensures.packed
+
 -- ---- any type
 
 pub read_value-returns-then-depth-eq0-clause-refused : goal.read_value-returns-then-depth-eq0-clause-refused
@@ -204,6 +233,9 @@ read_value-returns-in_ok-read_values-in-Struct-clause-ok g t c =
     let all = c.in_ok-read_values-in-Struct.ensures.ok in
     read_as _ _ _ _ _ _ _ refl (sym type) refl (moved _ _ _ _ _ _ (tree-Struct c.in_ok-read_values-in-Struct.field-0) all.1 (struct_made _ (c.args.depth - 1) _ _ all.0 (omega (arith, c.if-depth-eq0.false)) all.2))
 
+pub read_value-returns-in_ok-read_values-in-Struct-clause-packed : goal.read_value-returns-in_ok-read_values-in-Struct-clause-packed
+read_value-returns-in_ok-read_values-in-Struct-clause-packed g t c = keeps-Struct c.in_ok-read_values-in-Struct.field-0 ∙ c.in_ok-read_values-in-Struct.ensures.packed
+
 if_ok : {T E : Type 0} (P Q : T → Type 0) (r : Result T E) → IfOk r P → ((v : T) → P v → Q v) → IfOk r Q
 if_ok P Q (Ok v) h f = f v h
 if_ok P Q (Err e) h f = tt
@@ -211,5 +243,6 @@ if_ok P Q (Err e) h f = tt
 pub read_value-returns-in_default : goal.read_value-returns-in_default
 read_value-returns-in_default g t c = record {
   ok = if_ok _ _ c.read_basic.result c.read_basic.ensures.ok (λ v h. h c.args.depth);
+  packed = c.read_basic.ensures.packed;
   refused = λ e v h. c.read_basic.ensures.refused e c.args.depth v h;
 }

@@ -1,7 +1,8 @@
-use Rattle.std.proofs.Common.{◌-◌, ◌*◌, suc, length, drop}
+use Rattle.std.proofs.Common.{◌-◌, ◌*◌, suc, length, drop, IsTrue}
 use Rattle.json.specs.Tree.{json_tokens}
 use Rattle.json.specs.Value.{value_view, items_view}
 use Rattle.dbus_types.specs.SigTypes.{type_tree, type_trees_of}
+use Rattle.dbus_value_model.specs.PackedBytes.{keep_bytes}
 use Rattle.dbus_json_reader.specs.JsonValues.{AreElements, AreRead}
 use Rattle.dbus_json_reader.proofs.Going.{IsGoing}
 use Rattle.dbus_json_reader.proofs.values.+values.Given as goal
@@ -24,8 +25,8 @@ decreases-read_variant g l = 2 * length (json_tokens (value_view l.json.now))
 abbrev pub invariant-read_array-loop-item : goal.invariant-read_array-loop-item
 invariant-read_array-loop-item g l =
     let each = AreElements (l.depth - 1) (type_tree l.element) in
-    IsGoing each each (items_view l.item-items) (items_view (drop l.item-index l.item-items)) l.values.items
+    IsGoing each each (items_view l.item-items) (items_view (drop l.item-index l.item-items)) l.values.items × IsTrue (keep_bytes l.values.items)
 
 abbrev pub invariant-read_values-loop-i : goal.invariant-read_values-loop-i
 invariant-read_values-loop-i g l =
-    IsGoing (AreRead l.depth (type_trees_of l.types)) (AreRead l.depth (type_trees_of (drop l.i l.types))) (items_view l.items) (items_view (drop l.i l.items)) l.values.items
+    IsGoing (AreRead l.depth (type_trees_of l.types)) (AreRead l.depth (type_trees_of (drop l.i l.types))) (items_view l.items) (items_view (drop l.i l.items)) l.values.items × IsTrue (keep_bytes l.values.items)

@@ -1,0 +1,100 @@
+-- The codes and the names of the known header fields.
+use Rattle.std.proofs.Common.{◌≡◌, ℕ, ◌+◌, ◌*◌, ◌<◌, ◌≤◌, Bool, true, false, cond, eqb, List, get_or, inl, inr, Some, refl, sym, ap, ◌∙◌, subst, arith}
+use Rattle.std.proofs.lemmas.Bool.{cases_eq, ne_eqb, eq-eqb, eqb-true, true≢false}
+use Rattle.json.specs.Json.{Json}
+use Rattle.dbus_texts.specs.Types.{TypeTree}
+use Rattle.dbus_message_model.specs.Messages.{FieldTree, want, is_known}
+use Rattle.dbus_value_model.specs.Values.{ValueTree}
+use Rattle.dbus_build.specs.BuildFaults.{type_wanted}
+use Rattle.dbus_show.specs.ShownMessages.{field_name}
+use Rattle.dbus_json_reader.specs.JsonParts.{IsKnownField}
+use Rattle.dbus_json_reader.specs.JsonValues.{IsRead}
+use Rattle.dbus_json_reader.proofs.OneValue.{one_value}
+
+unknown : (code : ℕ) → (code ≡ 1 → ⊥) → (code ≡ 2 → ⊥) → (code ≡ 3 → ⊥) → (code ≡ 4 → ⊥) → (code ≡ 5 → ⊥) → (code ≡ 6 → ⊥) → (code ≡ 7 → ⊥) → (code ≡ 8 → ⊥) → (code ≡ 9 → ⊥) → is_known code ≡ false
+unknown code a b c d e f g h i = rw (ne_eqb code 1 a, ne_eqb code 2 b, ne_eqb code 3 c, ne_eqb code 4 d, ne_eqb code 5 e, ne_eqb code 6 f, ne_eqb code 7 g, ne_eqb code 8 h, ne_eqb code 9 i) refl
+
+-- which code a name is of, by its first two letters
+abbrev code_in : List ℕ → ℕ
+code_in t =
+    let k = get_or t 0 0 * 256 + get_or t 1 0 in
+    cond (eqb k 28769) 1 (cond (eqb k 26990) 2 (cond (eqb k 28005) 3 (cond (eqb k 25970) 4 (cond (eqb k 29285) 5 (cond (eqb k 25701) 6 (cond (eqb k 29541) 7 (cond (eqb k 29545) 8 (cond (eqb k 30062) 9 0))))))))
+
+-- it is one of the nine, and its name is of it
+abbrev Named : ℕ → List ℕ → Type 0
+Named code name = (1 ≤ code) × (code < 10) × (code_in name ≡ code)
+
+named_if : (b : Bool) (code k : ℕ) (name rest : List ℕ) → 1 ≤ k → k < 10 → eqb code k ≡ b → code_in name ≡ k → ((code ≡ k → ⊥) → Named code rest) → Named code (cond b name rest)
+named_if true code k name rest low high e is other = let same = eqb-true code k e in (omega (arith, same, low), omega (arith, same, high), is ∙ sym same)
+named_if false code k name rest low high e is other = other (λ same. true≢false (sym (eq-eqb code k same) ∙ e))
+
+pub named : (code : ℕ) → is_known code ≡ true → Named code (field_name code)
+named code known =
+    named_if (eqb code 1) code 1 _ _ (omega arith) (omega arith) refl refl (λ a.
+    named_if (eqb code 2) code 2 _ _ (omega arith) (omega arith) refl refl (λ b.
+    named_if (eqb code 3) code 3 _ _ (omega arith) (omega arith) refl refl (λ c.
+    named_if (eqb code 4) code 4 _ _ (omega arith) (omega arith) refl refl (λ d.
+    named_if (eqb code 5) code 5 _ _ (omega arith) (omega arith) refl refl (λ e.
+    named_if (eqb code 6) code 6 _ _ (omega arith) (omega arith) refl refl (λ f.
+    named_if (eqb code 7) code 7 _ _ (omega arith) (omega arith) refl refl (λ g.
+    named_if (eqb code 8) code 8 _ _ (omega arith) (omega arith) refl refl (λ h.
+    named_if (eqb code 9) code 9 _ _ (omega arith) (omega arith) refl refl (λ i.
+    absurd (true≢false (sym known ∙ unknown code a b c d e f g h i)))))))))))
+
+pub known_codes : (code : ℕ) → is_known code ≡ true → (1 ≤ code) × (code < 10)
+known_codes code known = let n = named code known in (n.0, n.1)
+
+pub one_code : (c d : ℕ) → is_known c ≡ true → is_known d ≡ true → field_name c ≡ field_name d → c ≡ d
+one_code c d known other e = sym (named c known).2 ∙ ap code_in e ∙ (named d other).2
+
+-- the first codes are known
+pub low_known : (code : ℕ) → 1 ≤ code → code < 10 → is_known code ≡ true
+low_known code low high =
+    elim (cases_eq code 1) [
+      | inl e ↦ ap is_known e
+      | inr a ↦
+          elim (cases_eq code 2) [
+            | inl e ↦ ap is_known e
+            | inr b ↦
+                elim (cases_eq code 3) [
+                  | inl e ↦ ap is_known e
+                  | inr c ↦
+                      elim (cases_eq code 4) [
+                        | inl e ↦ ap is_known e
+                        | inr d ↦
+                            elim (cases_eq code 5) [
+                              | inl e ↦ ap is_known e
+                              | inr f ↦
+                                  elim (cases_eq code 6) [
+                                    | inl e ↦ ap is_known e
+                                    | inr g ↦
+                                        elim (cases_eq code 7) [
+                                          | inl e ↦ ap is_known e
+                                          | inr h ↦
+                                              elim (cases_eq code 8) [
+                                                | inl e ↦ ap is_known e
+                                                | inr i ↦
+                                                    elim (cases_eq code 9) [ inl e ↦ ap is_known e | inr j ↦ absurd (omega (arith, low, high, a, b, c, d, f, g, h, i, j)) ]
+                                              ]
+                                        ]
+                                  ]
+                            ]
+                      ]
+                ]
+          ]
+    ]
+
+-- ---- fields
+
+pub same_field : (f g : FieldTree) → f.code ≡ g.code → f.value ≡ g.value → f ≡ g
+same_field f g code value = ap (λ (c : ℕ). record { code = c; value = f.value }) code ∙ ap (λ (v : ValueTree). record { code = g.code; value = v }) value
+
+some_types : (t u : TypeTree) → Some t ≡ Some u → t ≡ u
+some_types t u e = cc
+
+-- no member spells two known fields
+pub one_known : (depth other : ℕ) (f g : FieldTree) (m : List ℕ × Json) → IsKnownField depth f m → IsKnownField other g m → f ≡ g
+one_known depth other f g m a b =
+    let code = one_code f.code g.code a.known b.known (sym a.named ∙ b.named) in
+    let type = some_types a.type b.type (sym a.wanted ∙ ap (λ (c : ℕ). type_wanted (want c)) code ∙ b.wanted) in
+    same_field f g code (one_value depth other b.type f.value g.value m.1 (subst (λ (t : TypeTree). IsRead depth t f.value m.1) type a.read) b.read)

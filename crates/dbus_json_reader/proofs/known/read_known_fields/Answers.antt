@@ -1,0 +1,51 @@
+use Rattle.std.proofs.Common.{◌≡◌, false, true, ◌+◌, ◌∷◌, [], ◌++◌, drop, sym, ap, ◌∙◌, subst, rules}
+use Rattle.std.proofs.lemmas.List.{at_drop_all}
+use Rattle.json.specs.Json.{member}
+use Rattle.json.specs.Value.{value_view, members_view}
+use Rattle.dbus_message_model.specs.PartsViews.{field_tree, field_trees}
+use Rattle.dbus_json_reader.specs.JsonMessages.{is_among, plain_names}
+use Rattle.dbus_json_reader.proofs.KnownFields.{AreGoing, begins, passes, goes_on, stops, ends, values_push, values_none, trees_push}
+use Rattle.dbus_json_reader.proofs.MemberNames.{members_at}
+use Rattle.dbus_json_reader.proofs.Shapes.{failed}
+use Rattle.dbus_json_reader.proofs.known.read_known_fields.Goals as goal
+use Rattle.dbus_json_reader.proofs.known.read_known_fields.Goals.{then-not-is_plain+in_ok-read_known+in_ok-push, else-not-is_plain}
+
+pub loop-member-init : goal.loop-member-init
+loop-member-init g c = (begins _ _ (ap field_trees c.new-fields.ensures.items), values_none _ c.new-fields.ensures.items)
+
+pub returns-in_err-read_known-clause-refused : goal.returns-in_err-read_known-clause-refused
+returns-in_err-read_known-clause-refused g c = λ e depth fs h.
+    let l = c.args.members.now in
+    let m = c.member-item.result in
+    let i = c.loop-member.member-index in
+    let going = subst (λ ms. AreGoing (members_view l) ms (field_trees c.loop-member.fields.items)) (members_at l i m c.loop-member-test.true c.member-item.is) c.loop-member.invariant.0 in
+    let plain : is_among plain_names m.0.now ≡ false = sym c.is_plain.ensures ∙ c.if-not-is_plain.true in
+    stops (members_view l) m.0.now (value_view m.1) (members_view (drop (i + 1) l)) (field_trees c.loop-member.fields.items) going plain
+    (λ d f one. c.in_err-read_known.ensures.refused (failed c.from_residual.result c.in_err-read_known.field-0.0 c.from_residual.ensures.1 e) d f one) depth fs h
+
+pub loop-member-preserved : goal.loop-member-preserved
+loop-member-preserved g c =
+    let l = c.args.members.now in
+    let m = c.member-item.result in
+    let i = c.loop-member.member-index in
+    let going = subst (λ ms. AreGoing (members_view l) ms (field_trees c.loop-member.fields.items)) (members_at l i m c.loop-member-test.true c.member-item.is) c.loop-member.invariant.0 in
+    elim c.if-not-is_plain.branch [
+      | then-not-is_plain+in_ok-read_known+in_ok-push w ↦ (
+          let plain : is_among plain_names m.0.now ≡ false = sym c.is_plain.ensures ∙ w.if-not-is_plain.true in
+          let pushed : c.if-not-is_plain.fields.items ≡ c.loop-member.fields.items ++ w.in_ok-read_known.field-0 ∷ [] = search rules in (
+            goes_on (members_view l) m.0.now (value_view m.1) (members_view (drop (i + 1) l)) (field_trees c.loop-member.fields.items) going plain (field_tree w.in_ok-read_known.field-0) (field_trees c.if-not-is_plain.fields.items) (trees_push _ _ _ pushed) w.in_ok-read_known.ensures.ok,
+            values_push _ _ _ pushed c.loop-member.invariant.1 w.in_ok-read_known.ensures.packed,
+          )
+          )
+      | else-not-is_plain w ↦ (
+          let plain : is_among plain_names m.0.now ≡ true = sym c.is_plain.ensures ∙ w.if-not-is_plain.false in
+          let same : c.if-not-is_plain.fields.items ≡ c.loop-member.fields.items = search rules in (
+            passes (members_view l) m.0.now (value_view m.1) (members_view (drop (i + 1) l)) (field_trees c.if-not-is_plain.fields.items) (subst (λ fs. AreGoing (members_view l) (member m.0.now (value_view m.1) (members_view (drop (i + 1) l))) (field_trees fs)) (sym same) going) plain,
+            search rules,
+          )
+          )
+    ]
+
+pub returns-clause-ok : goal.returns-clause-ok
+returns-clause-ok g c = λ depth.
+    ends _ _ _ c.loop-member.invariant.0 (at_drop_all members_view c.args.members.now c.loop-member.member-index c.loop-member-test.false) depth

@@ -1,0 +1,118 @@
+//! Known header fields from the members of their names. RFC 8259, section 4; D-Bus Specification,
+//! "Header Fields".
+#![tactic(auto)]
+
+ghost use Rattle.std.specs.Prelude.{◌≡◌, ℕ, List, true, None, Some, Err, IsTrue, IfSome, IfOk};
+ghost use Rattle.std.specs.List.{AllZip};
+ghost use Rattle.json.specs.Value.{value_view, members_view};
+ghost use Rattle.dbus_types.specs.SigTypes.{type_tree};
+ghost use Rattle.dbus_value_model.specs.PackedBytes.{keeps_bytes, keep_bytes};
+ghost use Rattle.dbus_message_model.specs.Messages.{FieldTree, want, is_known as is_known_code};
+ghost use Rattle.dbus_message_model.specs.PackedParts.{field_values};
+ghost use Rattle.dbus_message_model.specs.PartsViews.{field_tree, field_trees};
+ghost use Rattle.dbus_build.specs.BuildFaults.{type_wanted};
+ghost use Rattle.dbus_show.specs.ShownMessages.{field_name};
+ghost use Rattle.dbus_json_reader.specs.JsonMessages.{field_members};
+ghost use Rattle.dbus_json_reader.specs.JsonParts.{IsKnownField};
+
+use crate::basics::read_basic;
+use crate::names::is_plain;
+use crate::unread::Unread;
+use dbus_message_model::HeaderField;
+use dbus_message_model::field_code::{PATH, UNIX_FDS};
+use dbus_message_model::field_table::{Wanted, want};
+use dbus_show::push_field_name;
+use dbus_types::SigType;
+use json::Value as Json;
+use std::alloc::Allocator;
+
+/// What the table of names is read by: it takes a name where others append one.
+struct Name;
+
+impl Name {
+    fn push_str(&self, name: &'static str) -> &'static str
+        ensures { result.now ≡ name.now }
+    {
+        name
+    }
+}
+
+/// The name of a known field.
+fn name_of(code: u8) -> &'static str
+    requires { is_known_code code ≡ true }
+    ensures { result.now ≡ field_name code }
+{
+    push_field_name!(Name, code, "", "", "")
+}
+
+/// The code of the known field of this name.
+fn field_named(name: &str) -> Option<u8>
+    ensures some { IfSome result (λ code.
+        (is_known_code code ≡ true) × (name.now ≡ field_name code)) }
+    ensures none { result ≡ None → (code : ℕ) → is_known_code code ≡ true →
+        name.now ≡ field_name code → ⊥ }
+{
+    for code in PATH..UNIX_FDS + 1 {
+        if name_of(code) == name {
+            return Some(code);
+        }
+    }
+    None
+}
+
+/// The type of the values of a known field.
+fn known_type<A: Allocator>(code: u8) -> SigType<A>
+    requires { is_known_code code ≡ true }
+    ensures { type_wanted (want code) ≡ Some (type_tree result) }
+{
+    match want(code) {
+        Wanted::Path => SigType::Path,
+        Wanted::Name(_) => SigType::Str,
+        Wanted::Signature => SigType::Sig,
+        Wanted::Serial | Wanted::Number | Wanted::Anything => SigType::U32,
+    }
+}
+
+/// The known field that a member of its name spells.
+fn read_known<A: Allocator + Copy>(
+    alloc: A,
+    name: &str,
+    json: &Json<'_, A>,
+) -> Result<HeaderField<A>, Unread>
+    ensures ok { IfOk result (λ field. (depth : ℕ) →
+        IsKnownField depth (field_tree field) (name.now, value_view json.now)) }
+    ensures packed { IfOk result (λ field. IsTrue (keeps_bytes field.value)) }
+    ensures refused { result ≡ Err Unread.Unspelled → (depth : ℕ) (field : FieldTree) →
+        IsKnownField depth field (name.now, value_view json.now) → ⊥ }
+{
+    let Some(code) = field_named(name) else {
+        return Err(Unread::Unspelled);
+    };
+    let value = read_basic(alloc, &known_type(code), json)?;
+    Ok(HeaderField { code, value })
+}
+
+/// The known header fields that the members of an object spell, in their order. Members that are no
+/// header fields are passed over.
+///
+/// `Unspelled` exactly if the others spell none; `Memory` if an allocation failed. RFC 8259,
+/// section 4; D-Bus Specification, "Header Fields".
+pub(crate) fn read_known_fields<A: Allocator + Copy>(
+    alloc: A,
+    members: &[(&str, Json<'_, A>)],
+) -> Result<Vec<HeaderField<A>, A>, Unread>
+    ensures ok { IfOk result (λ fields. (depth : ℕ) → AllZip (IsKnownField depth)
+        (field_trees fields.items) (field_members (members_view members.now))) }
+    ensures packed { IfOk result (λ fields. IsTrue (keep_bytes (field_values fields.items))) }
+    ensures refused { result ≡ Err Unread.Unspelled →
+        (depth : ℕ) (fields : List FieldTree) →
+        AllZip (IsKnownField depth) fields (field_members (members_view members.now)) → ⊥ }
+{
+    let mut fields = Vec::new(alloc);
+    for member in members {
+        if !is_plain(member.0) {
+            fields.push(read_known(alloc, member.0, &member.1)?)?;
+        }
+    }
+    Ok(fields)
+}
