@@ -1,7 +1,7 @@
 -- What is made and told of parts that are the same but for what was kept: the messages among them,
 -- the tally, and what is told if nothing is explained; and of the messages the texts that commands
 -- make that are the same, and exact.
-use Rattle.std.proofs.Common.{◌≡◌, ◌↔◌, if◌then◌else◌, ℕ, zero, suc, ◌+◌, Bool, true, false, ◌||◌, List, [], ◌∷◌, ◌++◌, drop, map, None, Some, Option, refl, sym, ap, ◌∙◌, subst, arith, inl, inr}
+use Rattle.std.proofs.Common.{◌≡◌, ◌↔◌, if◌then◌else◌, ℕ, zero, suc, ◌+◌, Bool, true, false, ◌||◌, ◌&&◌, List, [], ◌∷◌, ◌++◌, drop, map, None, Some, Option, refl, sym, ap, ◌∙◌, subst, arith, inl, inr}
 use Rattle.std.specs.FinSet.{from_list}
 use Rattle.std.specs.declared.alloc.Global.{Global}
 use Rattle.dbus_count.specs.Counting.{names_of, with_names}
@@ -18,6 +18,7 @@ use Rattle.dbus_rule.specs.Rules.{sender_of, Pair}
 use Rattle.dbus_rule.specs.RuleViews.{rule_pairs}
 use Rattle.dbus_names.specs.NameStates.{NameState, known_after as names_after, known_first}
 use Rattle.dbus_rule_set.specs.Owners.{owners_in}
+use Rattle.dbus_calls.specs.Answering.{is_ownable}
 use Rattle.dbus_calls.specs.OwnerChanges.{is_text}
 use Rattle.cli_options.specs.Selections.{AreSameCommand, AreSameSelection, OrInverted, SelectsBy, SomeMatches}
 use Rattle.cli_options.specs.declared.command.Command.{Command}
@@ -28,7 +29,7 @@ use Rattle.cli_options.specs.declared.settings.Settings.{Settings}
 use Rattle.cli_report.specs.Telling.{line_of}
 use Rattle.cli_report.specs.declared.telling.RefusedMessage.{RefusedMessage}
 use Rattle.cli_report.specs.declared.ending.ExitStatus.TheVariants as status
-use Rattle.cli_run.specs.Learning.{ask_sender, known_after}
+use Rattle.cli_run.specs.Learning.{name_sender, known_after}
 use Rattle.cli_run.specs.ByName.{after_messages}
 use Rattle.cli_run.specs.Inputs.{ArePlaced, BeginWithParts, Part, PassedOver, Placed, Whole}
 use Rattle.cli_run.specs.Output.{AreAlike, IsExact, form_of, framed, is_framed, IsOutputOf, IsOutputOfAll, IsTextOf, Picks, is_check, owners_after, owners_known}
@@ -175,18 +176,18 @@ same_picks a b s os m =
     let back : AreSameSelection b a = record { rules = sym s.rules; inverted = sym s.inverted; owners = sym s.owners; learns = sym s.learns } in
     (same_selects a b (owners_in os.owners) m s, same_selects b a (owners_in os.owners) m back)
 
-same_asks : (rules others : List (Rule Global)) (name : List ℕ) → map rule_pairs rules ≡ map rule_pairs others → ask_sender rules name ≡ ask_sender others name
-same_asks [] [] name e = refl
-same_asks [] (r ∷ others) name e = absurd cc
-same_asks (r ∷ rules) [] name e = absurd cc
-same_asks (r ∷ rules) (s ∷ others) name e =
+same_senders : (rules others : List (Rule Global)) (name : List ℕ) → map rule_pairs rules ≡ map rule_pairs others → name_sender rules name ≡ name_sender others name
+same_senders [] [] name e = refl
+same_senders [] (r ∷ others) name e = absurd cc
+same_senders (r ∷ rules) [] name e = absurd cc
+same_senders (r ∷ rules) (s ∷ others) name e =
     let one : rule_pairs r ≡ rule_pairs s = cc in
     let more : map rule_pairs rules ≡ map rule_pairs others = cc in
-    let rest = same_asks rules others name more in
+    let rest = same_senders rules others name more in
     λ i. is_text (sender_of (one i)) name || rest i
 
 same_after : (a b : Selection) (state : NameState) (m : MessageTree) → AreSameSelection a b → known_after a state m ≡ known_after b state m
-same_after a b state m h = λ i. if h.learns i then names_after (λ name. same_asks a.rules.items b.rules.items name h.rules i) state m else state
+same_after a b state m h = λ i. if h.learns i then names_after (λ name. is_ownable name && same_senders a.rules.items b.rules.items name h.rules i) state m else state
 
 -- ---- a command that is the same acts the same
 

@@ -1,6 +1,6 @@
 -- The owners of well-known names that a selection knows: its own, and those that the messages of
 -- the input tell. D-Bus Specification, "Message Bus Names".
-use Rattle.std.specs.Prelude.{◌≡◌, ◌↔◌, ℕ, List, Bool, IsTrue, if◌then◌else◌, Option, None, Some}
+use Rattle.std.specs.Prelude.{◌≡◌, ◌↔◌, ◌&&◌, ℕ, List, Bool, IsTrue, if◌then◌else◌, Option, None, Some}
 use Rattle.std.specs.FinSet.{from_list}
 use Rattle.std.specs.List.{list_any}
 use Rattle.std.specs.declared.alloc.Global.{Global}
@@ -9,6 +9,7 @@ use Rattle.dbus_rule.specs.declared.rule.Rule.{Rule}
 use Rattle.dbus_rule.specs.Rules.{sender_of}
 use Rattle.dbus_rule.specs.RuleViews.{rule_pairs}
 use Rattle.dbus_match.specs.Matching.{ownerships}
+use Rattle.dbus_calls.specs.Answering.{is_ownable}
 use Rattle.dbus_calls.specs.OwnerChanges.{is_text}
 use Rattle.dbus_names.specs.Kept.{state_of}
 use Rattle.dbus_names.specs.NameStates.{NameState, known_after as names_after, known_first}
@@ -17,9 +18,13 @@ use Rattle.dbus_rule_set.specs.Owners.{owners_in}
 use Rattle.cli_options.specs.Selections.{SelectsBy}
 use Rattle.cli_options.specs.declared.selection.Selection.{Selection}
 
--- some rule asks for messages from this name. A rule does not look at the owner of another
+-- some rule asks for messages from this name
+abbrev pub name_sender : List (Rule Global) → List ℕ → Bool
+name_sender rules name = list_any (λ rule. is_text (sender_of (rule_pairs rule)) name) rules
+
+-- and a connection may have it beside its unique one. A rule does not look at the owner of another
 abbrev pub ask_sender : List (Rule Global) → List ℕ → Bool
-ask_sender rules name = list_any (λ rule. is_text (sender_of (rule_pairs rule)) name) rules
+ask_sender rules name = is_ownable name && name_sender rules name
 
 -- what a selection has known since a message was looked at, and before
 abbrev pub known : Selection → Option Names → NameState

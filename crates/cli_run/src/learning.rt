@@ -8,6 +8,7 @@ ghost use Rattle.dbus_names.specs.Kept.{state_of};
 ghost use Rattle.cli_run.specs.Learning.{ask_sender, known_after};
 
 use cli_options::Selection;
+use dbus_calls::is_ownable;
 use dbus_match::Rule;
 use dbus_names::{NameFilter, Names};
 use dbus_view::MessageView;
@@ -32,7 +33,7 @@ pub(crate) fn learn(
     names.take(view, &asked)
 }
 
-// The names that a rule's `sender` is: so no more are kept than the rules have.
+// The names beside unique ones that a rule's `sender` is: so no more are kept than the rules have.
 #[derive(Clone, Copy, Drop)]
 struct AskedNames<'a> {
     rules: &'a [Rule],
@@ -42,7 +43,7 @@ impl<'a> NameFilter for AskedNames<'a> {
     ghost wanted = { λ asked. ask_sender asked.rules.now };
 
     fn wants(&self, name: &str) -> bool {
-        self.rules.iter().any(|rule| is_text(rule.sender(), name))
+        is_ownable(name) && self.rules.iter().any(|rule| is_text(rule.sender(), name))
     }
 }
 

@@ -7,8 +7,9 @@ use Rattle.std.proofs.lemmas.Cmp.{ranked}
 use Rattle.std.proofs.lemmas.List.Elements.{Contains-append_cases, Contains-append_left, Contains-append_right, Contains-push, Contains-push_cases}
 use Rattle.dbus_message_model.specs.Messages.{MessageTree}
 use Rattle.dbus_message_model.specs.declared.message_type.TheConstants as message
+use Rattle.dbus_calls.specs.Answering.{is_unique}
 use Rattle.dbus_calls.specs.Events.{Event, caller_of, departed, replied_to, reply_serial_of, sender_of, wants_reply}
-use Rattle.dbus_calls.specs.Events.Event.{Calls, Replies}
+use Rattle.dbus_calls.specs.Events.Event.{Calls, Replies, Leaves, Passes}
 use Rattle.dbus_calls.specs.OwnerChanges.{Change, change_of}
 use Rattle.dbus_calls.specs.OwnerChanges.Change.{Owned, Free, Lost}
 use Rattle.dbus_calls.specs.Pairing.{IsOpen, Waits, ends}
@@ -98,10 +99,14 @@ one_number (x ∷ xs) rising a b h k same = ⊎_elim
 -- ---- calls
 
 module _ (c : List ℕ) (s : ℕ) (w : Bool) where
+  none_gone : (b : Bool) (name : List ℕ) → (if b then Leaves name else Passes) ≡ Calls c s w → ⊥
+  none_gone true name is = cc
+  none_gone false name is = cc
+
   pub none_departed : (change : Option Change) → departed change ≡ Calls c s w → ⊥
   none_departed None is = cc
   none_departed (Some (Owned o)) is = cc
-  none_departed (Some (Free name)) is = cc
+  none_departed (Some (Free name)) is = none_gone (is_unique name) name is
   none_departed (Some (Lost o)) is = cc
 
   pub first_kind : (b d : Bool) (caller to : List ℕ) (serial to_serial : ℕ) (wants : Bool) (sender : Option (List ℕ)) (rest : Event) → (rest ≡ Calls c s w → ⊥)

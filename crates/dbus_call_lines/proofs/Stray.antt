@@ -2,8 +2,9 @@
 use Rattle.std.proofs.Common.{◌≡◌, ℕ, ◌+◌, ◌-◌, ◌^◌, min, List, [], ◌∷◌, ◌++◌, Bool, true, false, Option, None, Some, ◌⊎◌, inl, inr, ⊎_elim, ◌||◌, ◌==◌, if◌then◌else◌, refl, ap, ◌∙◌, sym, subst, arith, append-nil, append_assoc}
 use Rattle.dbus_message_model.specs.Messages.{MessageTree}
 use Rattle.dbus_message_model.specs.declared.message_type.TheConstants as message
+use Rattle.dbus_calls.specs.Answering.{is_unique}
 use Rattle.dbus_calls.specs.Events.{Event, caller_of, departed, event_of, replied_to, reply_serial_of, sender_of, wants_reply}
-use Rattle.dbus_calls.specs.Events.Event.{Calls, Replies}
+use Rattle.dbus_calls.specs.Events.Event.{Calls, Replies, Leaves, Passes}
 use Rattle.dbus_calls.specs.OwnerChanges.{Change, change_of}
 use Rattle.dbus_calls.specs.OwnerChanges.Change.{Owned, Free, Lost}
 use Rattle.dbus_calls.specs.Pairing.{IsReply, run}
@@ -63,10 +64,14 @@ replies e = false
 pub none_stray : (before : List Numbered) (x : Numbered) (e : Event) → e ≡ event_of x.message → replies e ≡ false → IsStray before x → ⊥
 none_stray before x e is none stray = false_true (sym none ∙ ap replies (is ∙ stray.0))
 
+gone_replies : (b : Bool) (name : List ℕ) → replies (if b then Leaves name else Passes) ≡ false
+gone_replies true name = refl
+gone_replies false name = refl
+
 departed_replies : (change : Option Change) → replies (departed change) ≡ false
 departed_replies None = refl
 departed_replies (Some (Owned o)) = refl
-departed_replies (Some (Free name)) = refl
+departed_replies (Some (Free name)) = gone_replies (is_unique name) name
 departed_replies (Some (Lost o)) = refl
 
 reply_kind : (b r : Bool) (call reply rest : Event) → replies call ≡ false → replies rest ≡ false → replies (if b then call else if r then reply else rest) ≡ true → (if b then call else if r then reply else rest) ≡ reply

@@ -10,10 +10,11 @@ use Rattle.dbus_message_model.specs.declared.message_type.TheConstants as messag
 use Rattle.dbus_calls.specs.Kept.{call_at, call_in, entries_of}
 use Rattle.dbus_calls.specs.declared.caller_calls.CallerCalls.{CallerCalls}
 use Rattle.dbus_calls.specs.declared.caller_calls.CallerCalls.TheVariants.{One, Several}
+use Rattle.dbus_calls.specs.Answering.{is_unique}
 use Rattle.dbus_calls.specs.OwnerChanges.{Change, change_of}
 use Rattle.dbus_calls.specs.OwnerChanges.Change.{Owned, Free, Lost}
 use Rattle.dbus_calls.specs.Events.{Event, event_of, departed, caller_of, replied_to, reply_serial_of, wants_reply, sender_of}
-use Rattle.dbus_calls.specs.Events.Event.{Calls, Replies}
+use Rattle.dbus_calls.specs.Events.Event.{Calls, Replies, Leaves, Passes}
 
 none_of : {T : Type 0} (x : Option (CallerCalls T)) (serial s : ℕ) → x ≡ None → call_in x s ≡ (if nat_eq serial s then None else call_in x s)
 none_of x serial s none = grind arith
@@ -39,10 +40,14 @@ several_found r calls kept is found = subst (λ c. OnOk r (All (λ e. call_at c 
 
 -- Of what a call is seen as, the caller and the serial are its own.
 module _ (c : List ℕ) (s : ℕ) (w : Bool) where
+  none_gone : (b : Bool) (name : List ℕ) → (if b then Leaves name else Passes) ≡ Calls c s w → ⊥
+  none_gone true name is = cc
+  none_gone false name is = cc
+
   none_departed : (change : Option Change) → departed change ≡ Calls c s w → ⊥
   none_departed None is = cc
   none_departed (Some (Owned o)) is = cc
-  none_departed (Some (Free name)) is = cc
+  none_departed (Some (Free name)) is = none_gone (is_unique name) name is
   none_departed (Some (Lost o)) is = cc
 
   first_kind : (b d : Bool) (caller to : List ℕ) (serial to_serial : ℕ) (wants : Bool) (sender : Option (List ℕ)) (rest : Event) → (rest ≡ Calls c s w → ⊥)

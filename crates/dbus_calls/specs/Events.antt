@@ -10,6 +10,7 @@ use Rattle.dbus_message_model.specs.declared.field_code.TheConstants as field
 use Rattle.dbus_message_model.specs.declared.flag.TheConstants as flag
 use Rattle.dbus_message_model.specs.declared.message_type.TheConstants as message
 use Rattle.dbus_match.specs.Matching.{text_of}
+use Rattle.dbus_calls.specs.Answering.{is_unique}
 use Rattle.dbus_calls.specs.OwnerChanges.{Change, change_of}
 use Rattle.dbus_calls.specs.OwnerChanges.Change.{Free}
 use Rattle.dbus_calls.specs.declared.event.Event.{Event as EventSeen}
@@ -21,7 +22,7 @@ pub data Event : Type 0 where
   Calls : (caller : List ℕ) (serial : ℕ) (wants_reply : Bool) → Event
   -- a reply of this sender to the call of this caller and serial
   Replies : (caller : List ℕ) (serial : ℕ) (sender : Option (List ℕ)) → Event
-  -- the bus says that nobody has this name any more: a caller of this name is gone
+  -- the bus says that nobody has this unique name any more: its connection is gone
   Leaves : (name : List ℕ) → Event
   -- any other
   Passes : Event
@@ -55,9 +56,12 @@ reply_serial_of reply = unwrap_or (number_of (field_value field.REPLY_SERIAL rep
 abbrev pub wants_reply : MessageTree → Bool
 wants_reply call = bit_and call.flags flag.NO_REPLY_EXPECTED == 0
 
--- a name that has no owner any more
+-- a unique name that nobody has any more
+abbrev pub gone : (name : List ℕ) → Event
+gone name = if is_unique name then Leaves name else Passes
+
 abbrev pub departed : Option Change → Event
-departed (Some (Free name)) = Leaves name
+departed (Some (Free name)) = gone name
 departed change = Passes
 
 abbrev pub event_of : MessageTree → Event

@@ -9,7 +9,7 @@ use Rattle.dbus_message_model.specs.KnownFields.{field_value, body_value}
 use Rattle.dbus_message_model.specs.declared.field_code.TheConstants as field
 use Rattle.dbus_message_model.specs.declared.message_type.TheConstants as message
 use Rattle.dbus_match.specs.Matching.{Ownership, string_of, text_of}
-use Rattle.dbus_calls.specs.Answering.{bus}
+use Rattle.dbus_calls.specs.Answering.{bus, is_unique}
 
 -- what is said of the owner of a name
 pub data Change : Type 0 where
@@ -38,13 +38,17 @@ has_text code m v = is_text (text_of (field_value code m.fields)) v
 abbrev pub is_of_bus : MessageTree → Bool
 is_of_bus m = (m.kind == message.SIGNAL) && (has_text field.SENDER m bus && has_text field.INTERFACE m bus)
 
+-- a name and its owner, whose name is unique: no other is one of a connection
+abbrev pub owned_by : (name unique : List ℕ) → Option Ownership
+owned_by name unique = if is_unique unique then Some (record { name = name; unique = unique }) else None
+
 -- a name has this owner, or nobody has it if that is empty
-abbrev pub owned_or_free : (name unique : List ℕ) → Change
-owned_or_free name unique = if bytes_eq unique [] then Free name else Owned (record { name = name; unique = unique })
+abbrev pub owned_or_free : (name unique : List ℕ) → Option Change
+owned_or_free name unique = if bytes_eq unique [] then Some (Free name) else option_map Owned (owned_by name unique)
 
 -- of three STRINGs the first is the name, the second its old owner and the third its new one
 abbrev pub change_said : (name old new : Option (List ℕ)) (more : Option ValueTree) → Option Change
-change_said (Some name) (Some old) (Some new) None = Some (owned_or_free name new)
+change_said (Some name) (Some old) (Some new) None = owned_or_free name new
 change_said a b c d = None
 
 -- what a signal NameOwnerChanged says
@@ -53,7 +57,7 @@ changed_by m = change_said (string_of (body_value 0 m.body)) (string_of (body_va
 
 -- of one STRING it is the name, and the signal is to the connection that it is about
 abbrev pub named_to : (name to : Option (List ℕ)) (more : Option ValueTree) → Option Ownership
-named_to (Some name) (Some to) None = Some (record { name = name; unique = to })
+named_to (Some name) (Some to) None = owned_by name to
 named_to a b c = None
 
 -- the name in a signal NameAcquired or NameLost, and the connection that it is to

@@ -10,10 +10,10 @@ ghost use Rattle.dbus_match.specs.Matching.{string_of};
 ghost use Rattle.dbus_values.specs.Seen.{IsSeen};
 ghost use Rattle.dbus_values.specs.States.{AreLeft};
 ghost use Rattle.dbus_view.specs.Views.{Views};
-ghost use Rattle.dbus_calls.specs.OwnerChanges.{change_of, changed_by, is_of_bus, is_text, name_of, name_told, owned_or_free, said_by};
+ghost use Rattle.dbus_calls.specs.OwnerChanges.{change_of, changed_by, is_of_bus, is_text, name_of, name_told, owned_by, owned_or_free, said_by};
 ghost use Rattle.dbus_calls.specs.Changes.{change_seen, others, owner_seen};
 
-use crate::answering::BUS;
+use crate::answering::{BUS, is_unique};
 use dbus_message_model::message_type::SIGNAL;
 use dbus_values::{ValueView, Values};
 use dbus_view::MessageView;
@@ -54,7 +54,8 @@ impl<'a> OwnerChange<'a> {
 /// What the message of the view says of the owner of a name, if it is one of these signals of the
 /// bus: `NameOwnerChanged` with three STRINGs, the name, its old owner and its new one, which is
 /// empty if it has none; or `NameAcquired` or `NameLost` with one, the name, to the connection that
-/// has it now, or that had it. It allocates nothing. D-Bus Specification, "Message Bus Messages".
+/// has it now, or that had it. An owner that has no unique name is none. It allocates nothing. D-Bus
+/// Specification, "Message Bus Messages" and "Message Bus Names".
 pub fn owner_change<'a>(view: &MessageView<'a>) -> Option<OwnerChange<'a>>
     ensures { (order : Order) (m : MessageTree) → Views view.now order m →
         option_map change_seen result ≡ change_of m }
@@ -92,7 +93,7 @@ fn changed_by<'a>(view: &MessageView<'a>) -> Option<OwnerChange<'a>>
     if values.next().is_some() {
         return None;
     }
-    Some(owned_or_free(name, unique))
+    owned_or_free(name, unique)
 }
 
 // The next value, if that is a STRING.
@@ -118,13 +119,24 @@ fn string_in(seen: ValueView<'_>) -> Option<&str>
 }
 
 // The name has this owner, or nobody has it if that is empty.
-fn owned_or_free<'a>(name: &'a str, unique: &'a str) -> OwnerChange<'a>
-    ensures { change_seen result ≡ owned_or_free name.now unique.now }
+fn owned_or_free<'a>(name: &'a str, unique: &'a str) -> Option<OwnerChange<'a>>
+    ensures { option_map change_seen result ≡ owned_or_free name.now unique.now }
 {
     if unique.is_empty() {
-        OwnerChange::Free(name)
+        Some(OwnerChange::Free(name))
     } else {
-        OwnerChange::Owned(NameOwner { name, unique })
+        Some(OwnerChange::Owned(owned_by(name, unique)?))
+    }
+}
+
+// The name and its owner, if that has a unique name: no other is one of a connection.
+fn owned_by<'a>(name: &'a str, unique: &'a str) -> Option<NameOwner<'a>>
+    ensures { option_map owner_seen result ≡ owned_by name.now unique.now }
+{
+    if is_unique(unique) {
+        Some(NameOwner { name, unique })
+    } else {
+        None
     }
 }
 
@@ -139,7 +151,7 @@ fn name_told<'a>(view: &MessageView<'a>) -> Option<NameOwner<'a>>
     if values.next().is_some() {
         return None;
     }
-    Some(NameOwner { name, unique })
+    owned_by(name, unique)
 }
 
 // Whether it is a signal of the bus.

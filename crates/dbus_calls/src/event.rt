@@ -7,6 +7,7 @@ ghost use Rattle.dbus_message_model.specs.Messages.{MessageTree};
 ghost use Rattle.dbus_view.specs.Views.{Views};
 ghost use Rattle.dbus_calls.specs.Events.{caller_of, event_of, event_seen, replied_to, reply_serial_of, sender_of, wants_reply};
 
+use crate::answering::is_unique;
 use crate::changes::{OwnerChange, owner_change};
 use dbus_message_model::flag::NO_REPLY_EXPECTED;
 use dbus_message_model::message_type::{ERROR, METHOD_CALL, METHOD_RETURN};
@@ -41,7 +42,7 @@ pub enum Event<'a> {
     Call(CallSeen<'a>),
     /// A reply to a call.
     Reply(ReplySeen<'a>),
-    /// The bus says that nobody has this name any more. If it is unique, its connection is gone.
+    /// The bus says that nobody has this unique name any more: its connection is gone.
     Departure(&'a str),
     /// Any other message.
     Other,
@@ -68,7 +69,7 @@ pub fn event_of<'a>(view: &MessageView<'a>) -> Event<'a>
         METHOD_CALL => Event::Call(call_seen(view)),
         METHOD_RETURN | ERROR => Event::Reply(reply_seen(view)),
         _ => match owner_change(view) {
-            Some(OwnerChange::Free(name)) => Event::Departure(name),
+            Some(OwnerChange::Free(name)) if is_unique(name) => Event::Departure(name),
             _ => Event::Other,
         },
     }

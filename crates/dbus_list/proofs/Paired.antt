@@ -4,7 +4,7 @@ use Rattle.std.proofs.lemmas.Bool.{false≢true}
 use Rattle.std.specs.Str.{bytes_eq}
 use Rattle.dbus_message_model.specs.Messages.{MessageTree}
 use Rattle.dbus_message_model.specs.declared.message_type.TheConstants as message
-use Rattle.dbus_calls.specs.Answering.{may_answer}
+use Rattle.dbus_calls.specs.Answering.{is_unique, may_answer}
 use Rattle.dbus_calls.specs.Events.{Event, caller_of, departed, destination_of, event_of, replied_to, reply_serial_of, sender_of, wants_reply}
 use Rattle.dbus_calls.specs.Events.Event.{Calls, Replies, Leaves, Passes}
 use Rattle.dbus_calls.specs.Kept.{waiting}
@@ -78,10 +78,14 @@ abbrev pub is_replies : Event → Bool
 is_replies (Replies c s sender) = true
 is_replies e = false
 
+not_gone : (b : Bool) (name : List ℕ) → is_replies (if b then Leaves name else Passes) ≡ false
+not_gone true name = refl
+not_gone false name = refl
+
 not_departed : (change : Option Change) → is_replies (departed change) ≡ false
 not_departed None = refl
 not_departed (Some (Owned o)) = refl
-not_departed (Some (Free name)) = refl
+not_departed (Some (Free name)) = not_gone (is_unique name) name
 not_departed (Some (Lost o)) = refl
 
 the_reply : (b d : Bool) (call reply rest : Event) → is_replies call ≡ false → is_replies rest ≡ false → is_replies (if b then call else if d then reply else rest) ≡ true → (if b then call else if d then reply else rest) ≡ reply

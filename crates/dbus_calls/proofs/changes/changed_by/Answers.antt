@@ -1,9 +1,9 @@
-use Rattle.std.proofs.Common.{◌≡◌, ℕ, List, [], Option, None, Some, sym, ap, ◌∙◌}
+use Rattle.std.proofs.Common.{◌≡◌, ℕ, List, [], Option, None, Some, sym, ◌∙◌}
 use Rattle.dbus_value_model.specs.Values.{ValueTree, ValueTrees}
 use Rattle.dbus_message_model.specs.KnownFields.{body_value}
 use Rattle.dbus_match.specs.Matching.{string_of}
 use Rattle.dbus_calls.specs.Changes.{others}
-use Rattle.dbus_calls.specs.OwnerChanges.{Change, change_said}
+use Rattle.dbus_calls.specs.OwnerChanges.{change_said}
 use Rattle.dbus_calls.proofs.Said.{later, no_more, one_more, string_later}
 use Rattle.dbus_calls.proofs.changes.changed_by.Goals as goal
 
@@ -34,6 +34,6 @@ returns c = λ order m v.
     let two = c.in_ok-_old.ensures.left (others m.body) [] one in
     let three = c.in_ok-unique.ensures.left (others (others m.body)) [] two in
     let none = no_more c.next.new.self (others (others (others m.body))) [] c.next.result (sym c.is_some.ensures ∙ c.if-is_some.false) (c.next.ensures.steps.first (others (others (others m.body))) [] three) in
-    ap (λ (change : Change). Some change) c.owned_or_free.ensures
+    c.owned_or_free.ensures
     ∙ sym (said m.body c.in_ok-name.name.now c.in_ok-_old._old.now c.in_ok-unique.unique.now None
     (c.in_ok-name.ensures.text m.body [] all) (c.in_ok-_old.ensures.text (others m.body) [] one) (c.in_ok-unique.ensures.text (others (others m.body)) [] two) none)
