@@ -1,5 +1,6 @@
 pub mod FieldTexts
 pub mod EscapedText
+pub mod EscapedUtf8
 pub mod LineFeeds
 pub mod VisibleTexts
 mod PlainFronts

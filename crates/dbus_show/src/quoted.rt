@@ -64,13 +64,25 @@ fn split_escaped(text: &str, escapes: Escapes) -> Option<(&str, char, &str)>
     Some((plain, character, characters.as_str()))
 }
 
-/// Appends a text with its escapes. What is between two of them is copied at once.
+/// Whether the draft is full, so that nothing of this text need be appended.
+#[inline(always)]
+fn is_full_for<D: Draft>(draft: &D, _text: &str, _escapes: Escapes) -> bool
+    ensures { result ≡ true → D.gains draft.now (escaped _escapes _text.now) draft.now }
+{
+    draft.is_full()
+}
+
+/// Appends a text with its escapes. What is between two of them is copied at once. Once the draft
+/// is full, what is left of the text is not looked at.
 #[inline(never)]
 pub fn write_escaped<D: Draft>(draft: &mut D, text: &str, escapes: Escapes)
     ensures { D.gains draft.old (escaped escapes text.now) draft.new }
 {
     let mut rest = text;
     while let Some((plain, character, after)) = split_escaped(rest, escapes) {
+        if is_full_for(draft, rest, escapes) {
+            return;
+        }
         draft.push_str(plain);
         write_escape(draft, character, escapes);
         rest = after;

@@ -1,7 +1,13 @@
-use Rattle.std.proofs.Common.{rules, ◌++◌, ap, ◌∙◌, sym, append_assoc}
+use Rattle.std.proofs.Common.{rules, ℕ, List, ◌++◌, ap, ◌∙◌, sym, subst, append_assoc}
 use Rattle.dbus_show.specs.Escapes.{escape, escaped}
 use Rattle.dbus_show.proofs.FieldTexts.{then}
 use Rattle.dbus_show.proofs.quoted.write_escaped.Goals as goal
+
+pub returns-then-is_full_for : goal.returns-then-is_full_for
+returns-then-is_full_for g c =
+    let before = c.loop-plain.invariant.1 in
+    subst (λ (s : List ℕ). g.D.Draft.gains c.args.draft.now s c.loop-plain.draft) before.2
+    (then g.D.Draft.gains g.met.D.Draft.joins before.1 (c.is_full_for.ensures c.if-is_full_for.true))
 
 pub loop-plain-preserved : goal.loop-plain-preserved
 loop-plain-preserved g c =
