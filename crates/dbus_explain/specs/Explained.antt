@@ -1,4 +1,4 @@
--- The lines that explain why a message is refused. Which text says the rule is not stated.
+-- The lines that explain why a message is refused.
 use Rattle.std.specs.Prelude.{◌≡◌, ℕ, ◌<◌, ◌≤◌, List, ◌++◌, codes, ◌-◌, [], ◌∷◌, take, drop, length, replicate, decimal, min, chars, IsCharBoundary, Option}
 use Rattle.std.specs.List.{All, flat_map}
 use Rattle.dbus_show.specs.ShownMessages.{line_feeds}
@@ -10,6 +10,7 @@ use Rattle.dbus_show.specs.declared.escapes.Escapes.TheVariants.{Shown}
 use Rattle.dbus_explain.specs.Heads.{IsHead, head_lines}
 use Rattle.dbus_explain.specs.Looks.{look_text}
 use Rattle.dbus_explain.specs.Names.{IsNameOf}
+use Rattle.dbus_explain.specs.Rules.{rule_text}
 use Rattle.dbus_explain.specs.declared.message.Refused.{Refused}
 
 -- Texts of several lines.
@@ -55,12 +56,11 @@ rule_line rule = codes "  " ++ rule
 pub record IsExplained (refused : Refused) (text : List ℕ) : Type 0 where
   pub name : List ℕ
   pub head : Option (List ℕ)
-  pub rule : List ℕ
   pub named : IsNameOf refused.bytes.now refused.fault.reason (place_in refused.bytes.now refused.fault) name
   pub headed : IsHead refused.bytes.now (place_in refused.bytes.now refused.fault) refused.number head
   pub lines : AreLines
       (place_line refused (place_in refused.bytes.now refused.fault) name ∷ (head_lines head ++ (bytes_line refused.bytes.now (place_in refused.bytes.now refused.fault)
-      ∷ rule_line (rule ++ look_text refused) ∷ []))) text
+      ∷ rule_line (rule_text refused.fault.reason ++ look_text refused) ∷ []))) text
 
 -- The lines that explain why a match rule is refused. Which text says what may be there is not
 -- stated.

@@ -1,6 +1,7 @@
 pub mod Explained
 pub mod Places
 pub mod Names
+pub mod Rules
 pub mod Looks
 pub mod Blanking
 pub mod BlankingLaws

@@ -8,6 +8,7 @@ use Rattle.dbus_explain.specs.Explained.{place_in}
 use Rattle.dbus_explain.specs.Heads.{AreWhole, flags_of, kind_of, serial_of}
 use Rattle.dbus_explain.specs.Names.{IsNameOf}
 use Rattle.dbus_explain.specs.Places.{fields_end, order_of}
+use Rattle.dbus_explain.specs.Rules.{rule_text}
 use Rattle.dbus_explain.specs.declared.message.Refused.{Refused}
 
 -- the header as far as it is whole before the place: nothing; the byte order and the message type;
@@ -18,12 +19,10 @@ pub data IsJsonHead (bytes : List ℕ) (at : ℕ) : List ℕ → Type 0 where
   fields : (fs : List FieldTree) (text : List ℕ) → 16 ≤ at → AreWhole bytes (min at (fields_end bytes)) fs
       → IsJsonHeader (order_of bytes) (kind_of bytes) (flags_of bytes) (serial_of bytes) fs text → IsJsonHead bytes at text
 
--- its place by name, the rule that is broken there, and the header. Which text says the rule is not
--- stated.
+-- its place by name, the rule that is broken there, and the header
 pub record AreMembersOf (refused : Refused) (text : List ℕ) : Type 0 where
   pub name : List ℕ
-  pub rule : List ℕ
   pub header : List ℕ
   pub named : IsNameOf refused.bytes.now refused.fault.reason (place_in refused.bytes.now refused.fault) name
   pub headed : IsJsonHead refused.bytes.now (place_in refused.bytes.now refused.fault) header
-  pub is : text ≡ listed (member (codes "place") (string name) ∷ member (codes "rule") (string rule) ∷ member (codes "header") header ∷ [])
+  pub is : text ≡ listed (member (codes "place") (string name) ∷ member (codes "rule") (string (rule_text refused.fault.reason)) ∷ member (codes "header") header ∷ [])

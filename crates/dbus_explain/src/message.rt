@@ -51,8 +51,8 @@ pub struct Refused<'a> {
 /// ```
 ///
 /// Of a place past the bytes, their end is named and shown. Any bytes and any fault are safe, and
-/// only the draft allocates. Not proved: that a path goes as far as it can, and which rule it
-/// names. D-Bus Specification, "Message Protocol".
+/// only the draft allocates. Not proved: that a path goes as far as it can. D-Bus Specification,
+/// "Message Protocol".
 pub fn explain_message<D: Draft>(draft: &mut D, refused: &Refused)
     ensures { (text : List ℕ) × IsExplained refused.now text × D.gains draft.old text draft.new }
 {

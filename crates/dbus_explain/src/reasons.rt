@@ -3,6 +3,7 @@
 
 ghost use Rattle.std.specs.Prelude.{◌≡◌};
 ghost use Rattle.dbus_show.specs.ShownMessages.{line_feeds};
+ghost use Rattle.dbus_explain.specs.Rules.{missing_text, name_text, rule_text, value_text};
 
 use dbus_value_model::Reason;
 
@@ -15,7 +16,8 @@ macro_rules! rule {
 
 /// What has to be where a message is refused for this reason.
 pub(crate) fn rule_of(reason: Reason) -> &'static str
-    ensures { line_feeds result.now ≡ 0 }
+    ensures text { result.now ≡ rule_text reason }
+    ensures one_line { line_feeds result.now ≡ 0 }
 {
     match reason {
         Reason::ByteOrder => rule!(
@@ -52,7 +54,8 @@ pub(crate) fn rule_of(reason: Reason) -> &'static str
 
 // What has to be in a header field of another type than its own.
 fn field_type() -> &'static str
-    ensures { line_feeds result.now ≡ 0 }
+    ensures text { result.now ≡ rule_text Reason.FieldType }
+    ensures one_line { line_feeds result.now ≡ 0 }
 {
     rule!(
         "path is an OBJECT_PATH, reply_serial and unix_fds are UINT32, signature is a SIGNATURE, the other fields are STRINGs",
@@ -62,7 +65,8 @@ fn field_type() -> &'static str
 
 // Which messages have a header field of this code, which is missing.
 fn missing_field(code: u8) -> &'static str
-    ensures { line_feeds result.now ≡ 0 }
+    ensures text { result.now ≡ missing_text code }
+    ensures one_line { line_feeds result.now ≡ 0 }
 {
     match code {
         1 => rule!(
@@ -88,7 +92,8 @@ fn missing_field(code: u8) -> &'static str
 
 // What a value has to be.
 fn value_rule(reason: Reason) -> &'static str
-    ensures { line_feeds result.now ≡ 0 }
+    ensures text { result.now ≡ value_text reason }
+    ensures one_line { line_feeds result.now ≡ 0 }
 {
     match reason {
         Reason::ArrayTooLong => rule!(
@@ -124,7 +129,8 @@ fn value_rule(reason: Reason) -> &'static str
 
 // What a name has to be.
 fn name_rule(reason: Reason) -> &'static str
-    ensures { line_feeds result.now ≡ 0 }
+    ensures text { result.now ≡ name_text reason }
+    ensures one_line { line_feeds result.now ≡ 0 }
 {
     match reason {
         Reason::Interface => rule!(
