@@ -5,3 +5,4 @@ mod Mixing
 mod Fields
 mod Lines
 mod OneValue
+mod OneMessage

@@ -10,8 +10,8 @@ use Rattle.dbus_value_model.specs.declared.limits.Limits.{Limits}
 use Rattle.dbus_value_model.specs.declared.order.Order.{Order}
 use Rattle.dbus_value_model.specs.declared.order.Order.TheVariants.{Little, Big}
 use Rattle.dbus_value_model.specs.Spelling.{contents_start}
-use Rattle.dbus_value_model.specs.Values.{ValueTrees, types_of}
-use Rattle.dbus_message_model.specs.Messages.{FieldTree, MessageTree, IsMessage, order_byte, message_bytes, field_array, field_type, is_known, body_signature}
+use Rattle.dbus_value_model.specs.Values.{types_of}
+use Rattle.dbus_message_model.specs.Messages.{MessageTree, IsMessage, order_byte, message_bytes, field_array, field_type, is_known, body_signature}
 use Rattle.dbus_texts.proofs.TypeTexts.{sigs_same}
 use Rattle.dbus_value_text.specs.Forms.{led}
 use Rattle.dbus_json.specs.declared.place.LinePlace.{LinePlace}
@@ -20,6 +20,7 @@ use Rattle.dbus_json.specs.Times.{digit_at, powers, fraction_digits, seconds_tex
 use Rattle.dbus_json.specs.JsonValues.{plain, member, array, object, listed, AreJson}
 use Rattle.dbus_json.specs.JsonMessages.{type_text, first_members, known_fields, other_fields, is_before_known, AreKnown, AreOthers, fields_text}
 use Rattle.dbus_json_laws.proofs.Numbers.{Bare, AreAll, all_append, weaker, cut, decimal_bare, bare_literal, bare_at, bare_of, plain_same, low}
+use Rattle.dbus_json_reader.proofs.Messages.{same_message}
 use Rattle.dbus_json_reader.proofs.NumberTexts.{same_head}
 use Rattle.dbus_json_reader.proofs.SoundValues.{sound, are_sound, alike_types}
 use Rattle.dbus_json_laws.proofs.Values.{Stop, more, after_item, comma_ends, same_listed}
@@ -61,7 +62,7 @@ time_apart (Some m) (Some n) r q e =
     timed : (k : ℕ) (u : List ℕ) → more (time_members (Some k)) ++ u ≡ codes ",\"time\":" ++ (plain (seconds_text k) ++ u)
     timed k u = ap (λ (s : List ℕ). (codes "," ++ s) ++ u) (append-nil (member (codes "time") (plain (seconds_text k)))) ∙ append_assoc (codes ",\"time\":") (plain (seconds_text k)) u
 
-order_same : (a b : Order) → order_byte a ≡ order_byte b → a ≡ b
+pub order_same : (a b : Order) → order_byte a ≡ order_byte b → a ≡ b
 order_same Little Little e = refl
 order_same Little Big e = absurd (omega (arith, e))
 order_same Big Little e = absurd (omega (arith, e))
@@ -228,14 +229,6 @@ fields_fit limits order m valid =
     let few = few_fields order (contents_start field_type 12) m.fields in
     all_fit [] m.fields 0 (omega (arith, few, valid.within_fields.0, limits.array_in)) valid.fields (sound limits.depth (field_array m.fields) valid.formed_fields).1
 
-same_tree : (m w : MessageTree) → m.kind ≡ w.kind → m.flags ≡ w.flags → m.serial ≡ w.serial → m.fields ≡ w.fields → m.body ≡ w.body → m ≡ w
-same_tree m w kind flags serial fields body =
-    ap (λ (k : ℕ). record { kind = k; flags = m.flags; serial = m.serial; fields = m.fields; body = m.body }) kind
-    ∙ ap (λ (k : ℕ). record { kind = w.kind; flags = k; serial = m.serial; fields = m.fields; body = m.body }) flags
-    ∙ ap (λ (k : ℕ). record { kind = w.kind; flags = w.flags; serial = k; fields = m.fields; body = m.body }) serial
-    ∙ ap (λ (fs : List FieldTree). record { kind = w.kind; flags = w.flags; serial = w.serial; fields = fs; body = m.body }) fields
-    ∙ ap (λ (xs : ValueTrees). record { kind = w.kind; flags = w.flags; serial = w.serial; fields = w.fields; body = xs }) body
-
 -- the fields and the body
 module _ (limits bounds : Limits) (order other : Order) (m w : MessageTree) (valid : IsMessage limits order m) (right : IsMessage bounds other w) where
   same_rest : (known others values known' others' values' : List (List ℕ)) → AreKnown m.fields known → AreKnown w.fields known' → AreOthers m.fields others → AreOthers w.fields others' → AreJson m.body values → AreJson w.body values'
@@ -268,7 +261,7 @@ one_message limits bounds order other m w place at text valid right is it =
     let serial = numbers_apart m.serial w.serial _ _ (after_item is.known 44 _ comma_ends) (after_item it.known 44 _ comma_ends) (append_cancel_left (codes ",\"serial\":") _ _ flags.1) in
     let rest = same_rest limits bounds order other m w valid right is.known is.others is.values it.known it.others it.values is.knows it.knows is.other it.other is.body it.body serial.1 in (
       order_same order other letter.0,
-      same_tree m w (one_kind m.kind w.kind valid.kind right.kind valid.kind_fits right.kind_fits kind.0)
+      same_message m w (one_kind m.kind w.kind valid.kind right.kind valid.kind_fits right.kind_fits kind.0)
           (decimal_injective m.flags w.flags (omega (arith, valid.flags)) (omega (arith, right.flags)) flags.0)
           (decimal_injective m.serial w.serial (omega (arith, valid.serial_fits)) (omega (arith, right.serial_fits)) serial.0) rest.0 rest.1,
     )

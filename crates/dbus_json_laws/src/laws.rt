@@ -2,7 +2,7 @@
 #![tactic(auto)]
 
 ghost use Rattle.dbus_json_laws.specs.Laws.{IsOneMessageALine};
-ghost use Rattle.dbus_json_laws.specs.Reading.{IsOneValueEach, IsDoubleKept};
+ghost use Rattle.dbus_json_laws.specs.Reading.{IsDoubleKept, IsOneMessageEach, IsOneValueEach};
 
 /// No two messages have one line of JSON: it keeps the order, the header and the body.
 pub fn one_message_for_a_line()
@@ -12,6 +12,11 @@ pub fn one_message_for_a_line()
 /// No JSON spells two values of one type.
 pub fn one_value_for_json()
     ensures { IsOneValueEach }
+{}
+
+/// No JSON spells two messages: what `dbus_json_reader::read_message` returns is the one.
+pub fn one_message_for_json()
+    ensures { IsOneMessageEach }
 {}
 
 /// The text of a DOUBLE spells that DOUBLE, with its bits.

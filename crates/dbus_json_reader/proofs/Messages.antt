@@ -248,22 +248,22 @@ strings s t e = cc
 not_both : (s t : List ℕ) → json.number s ≡ json.string t → ⊥
 not_both s t e = cc
 
-one_kind : (a b : ℕ) (j : Json) → a < 256 → b < 256 → SpellsKind a j → SpellsKind b j → a ≡ b
+pub one_kind : (a b : ℕ) (j : Json) → a < 256 → b < 256 → SpellsKind a j → SpellsKind b j → a ≡ b
 one_kind a b j h k (inl x) (inl y) = decimal_injective a b (omega (arith, h)) (omega (arith, k)) (numbers _ _ (sym x ∙ y))
 one_kind a b j h k (inl x) (inr y) = absurd (not_both _ _ (sym x ∙ y.2))
 one_kind a b j h k (inr x) (inl y) = absurd (not_both _ _ (sym y ∙ x.2))
 one_kind a b j h k (inr x) (inr y) = sym (kind_named a x.0 x.1) ∙ ap kind_in (strings _ _ (sym x.2 ∙ y.2)) ∙ kind_named b y.0 y.1
 
-one_number : (default a b : ℕ) (told : Option Json) → a < 2 ^ 64 → b < 2 ^ 64 → SpellsOr default a told → SpellsOr default b told → a ≡ b
+pub one_number : (default a b : ℕ) (told : Option Json) → a < 2 ^ 64 → b < 2 ^ 64 → SpellsOr default a told → SpellsOr default b told → a ≡ b
 one_number default a b None h k x y = x ∙ sym y
 one_number default a b (Some j) h k x y = decimal_injective a b h k (numbers _ _ (sym x ∙ y))
 
-some_json : (i j : Json) → Some i ≡ Some j → i ≡ j
+pub some_json : (i j : Json) → Some i ≡ Some j → i ≡ j
 some_json i j e = cc
 
 -- ---- bodies
 
-one_body : (depth : ℕ) (w : List ℕ) (told : Option Json) (xs ys : ValueTrees) → IsReadBody depth w told xs → IsReadBody depth w told ys → xs ≡ ys
+pub one_body : (depth : ℕ) (w : List ℕ) (told : Option Json) (xs ys : ValueTrees) → IsReadBody depth w told xs → IsReadBody depth w told ys → xs ≡ ys
 one_body depth w None xs ys a b = a.spelled ∙ sym b.spelled
 one_body depth w (Some j) xs ys a b =
     let items = ap items_of (items_same a.spelled.0 b.spelled.0 (arrays_same _ _ (sym a.spelled.1 ∙ b.spelled.1))) in
@@ -286,7 +286,7 @@ pub record AreParts (limits : Limits) (number : ℕ) (order : Order) (m : Messag
   pub only : (fs : List FieldTree) → AreReadFields (limits.depth - 3) ks (get (codes "fields") j) fs → fs ≡ m.fields
   pub body : IsReadBody limits.depth (body_signature m.fields) (get (codes "body") j) m.body
 
-same_message : (m w : MessageTree) → m.kind ≡ w.kind → m.flags ≡ w.flags → m.serial ≡ w.serial → m.fields ≡ w.fields → m.body ≡ w.body → m ≡ w
+pub same_message : (m w : MessageTree) → m.kind ≡ w.kind → m.flags ≡ w.flags → m.serial ≡ w.serial → m.fields ≡ w.fields → m.body ≡ w.body → m ≡ w
 same_message m w a b c d e =
     ap (λ (k : ℕ). record { kind = k; flags = m.flags; serial = m.serial; fields = m.fields; body = m.body }) a
     ∙ ap (λ (k : ℕ). record { kind = w.kind; flags = k; serial = m.serial; fields = m.fields; body = m.body }) b
