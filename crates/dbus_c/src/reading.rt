@@ -16,13 +16,14 @@ use crate::parts::{WireParts, parts_in};
 use dbus_flatten::FlatItem;
 use dbus_validate::Whole;
 
-/// Writes the parts of the message within the limits that the bytes begin with, as
-/// [`crate::dbus_wire_parts_of`], and the items of its body from the first on, as
-/// [`crate::dbus_wire_flatten`], to whose answers its own are equal. It validates the message once,
-/// and allocates nothing.
+/// Writes the parts of the message within the limits that the bytes begin with to `parts`, as
+/// [`crate::dbus_wire_parts_of`] does, and the items of its body from the first on to `items`, as
+/// [`crate::dbus_wire_flatten`] does, whose answers it returns. After [`crate::NO_ROOM`], which
+/// says that there are more items than `items` has room for, the parts are there too. `told` has
+/// what [`crate::dbus_wire_check`] reports.
 ///
-/// [`crate::NO_ROOM`] says that there are more items than `items` has room for: the parts are
-/// written then too. D-Bus Specification, "Message Format" and "Header Fields".
+/// It validates the message once, and allocates nothing. D-Bus Specification, "Message Format" and
+/// "Header Fields".
 #[unsafe(no_mangle)]
 pub extern "C" fn dbus_wire_read(
     bytes: &[u8],

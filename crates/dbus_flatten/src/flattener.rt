@@ -23,10 +23,11 @@ impl Flattener<'_> {
     pub(crate) fn push(&mut self, item: FlatItem)
         ensures { Appends self.old (item ∷ []) self.new }
     {
-        if self.count >= self.first && self.count - self.first < self.out.len() {
-            self.out[self.count - self.first] = item;
+        let at = self.count;
+        if at >= self.first && at - self.first < self.out.len() {
+            self.out[at - self.first] = item;
         }
-        self.count = self.count.saturating_add(1);
+        self.count = at.saturating_add(1);
     }
 
     /// How many items it has gathered.
