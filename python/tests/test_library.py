@@ -23,7 +23,7 @@ class Header(unittest.TestCase):
             found = getattr(_library, struct[1].title().replace("_", ""))
             return ctypes.POINTER(found) if struct[2] else found
         if "*" in spelled and ("uint8_t" in spelled or "void" in spelled):
-            return ctypes.c_char_p if "uint8_t" in spelled else ctypes.c_void_p
+            return ctypes.c_char_p if "uint8_t" in spelled or "const" in spelled else ctypes.c_void_p
         numbers = {"uint8_t": ctypes.c_uint8, "uint16_t": ctypes.c_uint16, "uint32_t": ctypes.c_uint32, "uint64_t": ctypes.c_uint64}
         found = {**numbers, "size_t": ctypes.c_size_t, "void": None}[spelled.split()[0]]
         return ctypes.POINTER(found) if "*" in spelled else found

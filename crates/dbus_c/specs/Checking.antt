@@ -40,7 +40,7 @@ pub record IsExact (limits : Limits) (b : List ℕ) (answer : ℕ) (told : Check
   pub partial : IsPartial limits b → (answer ≡ PARTIAL) × (told ≡ nothing_told)
   pub refused : (f : Fault) → IsRefused limits b f → (answer ≡ REFUSED) × (told ≡ fault_told f)
 
--- an answer and what is told beside it are those of a check: they hold of the bytes, and no others do
+-- an answer and what is told beside it are a check's: they hold of the bytes, and no others do
 pub record IsChecked (limits : Limits) (b : List ℕ) (answer : ℕ) (told : Checked) : Type 0 where
   pub tells : Tells limits b answer told
   pub exact : IsExact limits b answer told
