@@ -16,14 +16,14 @@ use Rattle.cli_run.specs.declared.visitor.RunStop.{RunStop}
 use Rattle.cli_run.specs.declared.visitor.RunStop.TheVariants.{Cause as ByCause}
 
 pub stays : {R A : Type 0} (old : RawReader R A) → stopped_of old ≡ None → Stays old old
-stays old unstopped = record { unread = record { source = refl; reads = refl; most_reads = refl; limits = refl; ended = refl; read = refl; last = refl }; kept_is = refl; done = refl; unstopped = unstopped }
+stays old unstopped = record { unread = record { source = refl; reads = refl; most_reads = refl; limits = refl; ended = refl; read = refl; last = refl; packed = refl }; kept_is = refl; done = refl; unstopped = unstopped }
 
 -- it looked at what it keeps, which begins with no whole message
 pub looked : {R A : Type 0} (old mid from : RawReader R A) → ReadsNothing old mid → KeptAnswers old mid (Ok None) → Stays mid from → Stays old from
 looked old mid from n k s =
     let m = s.unread in
     record {
-      unread = record { source = m.source ∙ n.source; reads = m.reads ∙ n.reads; most_reads = m.most_reads ∙ n.most_reads; limits = m.limits ∙ n.limits; ended = m.ended ∙ n.ended; read = m.read ∙ n.read; last = m.last ∙ n.last };
+      unread = record { source = m.source ∙ n.source; reads = m.reads ∙ n.reads; most_reads = m.most_reads ∙ n.most_reads; limits = m.limits ∙ n.limits; ended = m.ended ∙ n.ended; read = m.read ∙ n.read; last = m.last ∙ n.last; packed = m.packed ∙ n.packed };
       kept_is = s.kept_is ∙ k.0.kept;
       done = s.done ∙ k.0.done;
       unstopped = s.unstopped;

@@ -45,10 +45,10 @@ use Rattle.cli_run.proofs.PartLaws.{placed_last}
 use Rattle.cli_run.proofs.ReadSteps.{read_none, read_more, read_message, reads_more, sizes-last, length-last}
 use Rattle.cli_run.proofs.Wanted.{wanted_last}
 
-module _ {R T B G S : Type 0} {b : Ghosts B} (k : Taking T G) (left : R → Option (List ℕ)) (calls failures : R → ℕ)
+module _ {R T B A G S : Type 0} {b : Ghosts B} (k : Taking T G) (left : R → Option (List ℕ)) (calls failures : R → ℕ)
     (takes : S → S → List Placed → (told : List ℕ) → Type 0) (full : S → Bool) (limits : Limits) (kept : List ℕ) (before : ℕ) (Are : Option Packets → Type 0) where
   -- the visitor took the messages that were read so far, and the rest is kept
-  pub record HasHanded (count : ℕ) (old new : Reader R T B b) (rest : List ℕ) (s0 s1 : S) : Type 0 where
+  pub record HasHanded (count : ℕ) (old new : Reader R T B A b) (rest : List ℕ) (s0 s1 : S) : Type 0 where
     pub items : List CutMessage
     pub read : HasRead k left calls limits kept old new items rest
     pub done : done_of new ≡ done_of old + sizes items
@@ -61,7 +61,7 @@ module _ {R T B G S : Type 0} {b : Ghosts B} (k : Taking T G) (left : R → Opti
     pub wanted : AreWanted (FillsBy takes full s0) [] messages
     pub needed : ReadsFor left calls (sizes items) (source_of old) (source_of new)
 
-  pub hands_none : ((a : S) → takes a a [] []) → (reader : Reader R T B b) (s : S) → limits_of k reader ≡ limits → stopped_of reader ≡ None
+  pub hands_none : ((a : S) → takes a a [] []) → (reader : Reader R T B A b) (s : S) → limits_of k reader ≡ limits → stopped_of reader ≡ None
       → HasHanded before reader reader kept s s
   hands_none nothing reader s within unstopped = record {
     items = [];
@@ -78,7 +78,7 @@ module _ {R T B G S : Type 0} {b : Ghosts B} (k : Taking T G) (left : R → Opti
   }
 
 -- what a fault of the reader says of the bytes w that it keeps
-abbrev pub Faults : {R T B G : Type 0} {b : Ghosts B} → Taking T G → List ℕ → Reader R T B b → Reader R T B b → ReadFault → Type 0
+abbrev pub Faults : {R T B A G : Type 0} {b : Ghosts B} → Taking T G → List ℕ → Reader R T B A b → Reader R T B A b → ReadFault → Type 0
 Faults k w mid new read.Memory = Unit {0}
 Faults k w mid new (read.Format fault) = (done_of new ≡ done_of mid) × (IsRefused (limits_of k mid) w fault ⊎ (IsCutShort (limits_of k mid) w fault × (is_ended new ≡ true)))
     × (read_of new ≡ done_of new + length w) × IsPartial (limits_of k mid) (take (length w - last_of new) w)
@@ -99,9 +99,9 @@ took_lent takes leaves s2 s3 limits w bytes j old new e same l place res one =
     (one l.gives.order l.gives.message (lent_whole limits w bytes j old new e same l))
 
 -- what was read after that
-module _ {R T B G S : Type 0} {b : Ghosts B} {k : Taking T G} {left : R → Option (List ℕ)} {calls failures : R → ℕ} {takes : S → S → List Placed → (told : List ℕ) → Type 0}
+module _ {R T B A G S : Type 0} {b : Ghosts B} {k : Taking T G} {left : R → Option (List ℕ)} {calls failures : R → ℕ} {takes : S → S → List Placed → (told : List ℕ) → Type 0}
     {leaves : S → S → List Placed → (told : List ℕ) → RunStop → Type 0} {settled : S → Type 0} {full : S → Bool} (laws : AddsUp takes leaves settled full) {limits : Limits} {kept : List ℕ} {before count : ℕ}
-    {Are : Option Packets → Type 0} {old mid : Reader R T B b} {rest : List ℕ} {s0 s1 : S} (h : HasHanded k left calls failures takes full limits kept before Are count old mid rest s0 s1) {new : Reader R T B b}
+    {Are : Option Packets → Type 0} {old mid : Reader R T B A b} {rest : List ℕ} {s0 s1 : S} (h : HasHanded k left calls failures takes full limits kept before Are count old mid rest s0 s1) {new : Reader R T B A b}
     (r : Reads k left calls rest mid new) where
   -- no more are taken for this cause
   stays : (cause : Cause) {s2 s3 : S} → takes s0 s2 h.messages [] → leaves s2 s3 [] [] (ByCause cause) → leaves s0 s3 h.messages [] (ByCause cause)

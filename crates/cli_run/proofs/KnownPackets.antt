@@ -24,7 +24,7 @@ use Rattle.cli_run.specs.Onward.{HasKnownPackets, HasPacketsIf}
 use Rattle.cli_run.specs.Refusals.{IsRefusedIn, number_of}
 
 -- a reader goes on with what it knows of them
-pub keeps_if : {R T B : Type 0} {b : Ghosts B} (packets : R → Option Packets) (packet : R → Option Packet) (old new : Reader R T B b) (known : Option Packets) → input.KeepsPackets packets packet old new
+pub keeps_if : {R T B A : Type 0} {b : Ghosts B} (packets : R → Option Packets) (packet : R → Option Packet) (old new : Reader R T B A b) (known : Option Packets) → input.KeepsPackets packets packet old new
     → HasPacketsIf packets packet old known → HasPacketsIf packets packet new known
 keeps_if packets packet old new None keeps has = tt
 keeps_if packets packet old new (Some all) keeps has = keeps all has
@@ -44,7 +44,7 @@ module _ {R A : Type 0} (packets : R → Option Packets) (packet : R → Option 
 
   -- also if it reads nothing at first
   pub keeps_unread : (old mid new : RawReader R A) → ReadsNothing old mid → KeepsPackets packets packet mid new → KeepsPackets packets packet old new
-  keeps_unread old mid new n keeps all has = keeps all (still packets packet old.reader mid.reader n.source n.read n.last all has)
+  keeps_unread old mid new n keeps all has = keeps all (still packets packet old.reader mid.reader n.source n.read n.last n.packed all has)
 
   -- and whether that came in a packet
   pub lent_packet : (old from new : RawReader R A) (w : List ℕ) (j : Validated) → KeepsPackets packets packet old new → (l : Lends w j from new) → (in_packet : Bool) → in_packet ≡ is_some (packet (source_of new))
@@ -70,7 +70,7 @@ some_bytes : (w : List ℕ) → w ≢ [] → 0 < length w
 some_bytes [] some = absurd (some refl)
 some_bytes (x ∷ xs) some = omega arith
 
-module _ {R T B : Type 0} {b : Ghosts B} (packets : R → Option Packets) (packet : R → Option Packet) (limits : Limits) (r : Reader R T B b) (w : List ℕ) (read : reading.read_of r ≡ reading.done_of r + length w)
+module _ {R T B A : Type 0} {b : Ghosts B} (packets : R → Option Packets) (packet : R → Option Packet) (limits : Limits) (r : Reader R T B A b) (w : List ℕ) (read : reading.read_of r ≡ reading.done_of r + length w)
     (shows : IsPartial limits (take (length w - reading.last_of r) w)) (fault : Fault) where
   -- the reader keeps w, which shows the fault, or the input ends there
   fault_in : (all : Packets) → HasPackets packets packet all r → (outcome : CutOutcome) → IsOutcome limits w outcome → Some fault ≡ fault_at_end w outcome → ShowsIn all limits (reading.done_of r) w (packet (reading.source_of r))
@@ -107,4 +107,5 @@ module _ {R : Type 0} (packets : R → Option Packets) (packet : R → Option Pa
             told = λ i from before. absurd (omega (arith, before, none));
             last = omega (arith, last);
             some = λ some. omega (arith, some);
+            unpacked = λ _ i before. absurd (omega (arith, before, none));
           }

@@ -53,9 +53,9 @@ whole_past limits held piece order m size partial whole = elim (cases_lt (length
       )
 ]
 
-module _ {R T B G : Type 0} {b : Ghosts B} (k : Taking T G) (left : R → Option (List ℕ)) (calls : R → ℕ) (limits : Limits) (kept : List ℕ) where
+module _ {R T B A G : Type 0} {b : Ghosts B} (k : Taking T G) (left : R → Option (List ℕ)) (calls : R → ℕ) (limits : Limits) (kept : List ℕ) where
   -- before the first read
-  abbrev pub read_none : (reader : Reader R T B b) → limits_of k reader ≡ limits → HasRead k left calls limits kept reader reader [] kept
+  abbrev pub read_none : (reader : Reader R T B A b) → limits_of k reader ≡ limits → HasRead k left calls limits kept reader reader [] kept
   read_none reader within = record {
     bytes = [];
     count = 0;
@@ -69,12 +69,12 @@ module _ {R T B G : Type 0} {b : Ghosts B} (k : Taking T G) (left : R → Option
   }
 
   module _ (Needed : List ℕ → Type 0) where
-    pub still_at_end : (mid new : Reader R T B b) (ended : Bool) → is_ended mid ≡ ended → IsTrueEnd left mid → ReadsWhile k Needed left calls mid new → IsTrueEnd left new
+    pub still_at_end : (mid new : Reader R T B A b) (ended : Bool) → is_ended mid ≡ ended → IsTrueEnd left mid → ReadsWhile k Needed left calls mid new → IsTrueEnd left new
     still_at_end mid new true e before r t = subst (λ s. IsAtEnd (left s)) (sym (r.settled e).3) (before e)
     still_at_end mid new false e before r t = r.at_end e t
 
     -- more was read
-    abbrev pub read_on : (old mid new : Reader R T B b) (items : List CutMessage) (rest : List ℕ) → HasRead k left calls limits kept old mid items rest → (r : ReadsWhile k Needed left calls mid new)
+    abbrev pub read_on : (old mid new : Reader R T B A b) (items : List CutMessage) (rest : List ℕ) → HasRead k left calls limits kept old mid items rest → (r : ReadsWhile k Needed left calls mid new)
         → HasRead k left calls limits kept old new items (rest ++ r.bytes)
     read_on old mid new items rest h r = record {
       bytes = h.bytes ++ r.bytes;
@@ -88,12 +88,12 @@ module _ {R T B G : Type 0} {b : Ghosts B} (k : Taking T G) (left : R → Option
       at_end = λ e. still_at_end mid new (is_ended mid) refl (h.at_end e) r;
     }
 
-  pub read_more : (old mid new : Reader R T B b) (items : List CutMessage) (rest : List ℕ) → HasRead k left calls limits kept old mid items rest → (r : Reads k left calls rest mid new)
+  pub read_more : (old mid new : Reader R T B A b) (items : List CutMessage) (rest : List ℕ) → HasRead k left calls limits kept old mid items rest → (r : Reads k left calls rest mid new)
       → HasRead k left calls limits kept old new items (rest ++ r.bytes)
   read_more old mid new items rest h r = read_on (λ before. IsPartial (limits_of k mid) (rest ++ before)) old mid new items rest h r
 
   -- the rest begins with a message
-  pub read_message : (old new : Reader R T B b) (items : List CutMessage) (item : CutMessage) (w : List ℕ) → HasRead k left calls limits kept old new items w
+  pub read_message : (old new : Reader R T B A b) (items : List CutMessage) (item : CutMessage) (w : List ℕ) → HasRead k left calls limits kept old new items w
       → IsWhole limits w item.order item.message item.size → HasRead k left calls limits kept old new (items ++ item ∷ []) (drop item.size w)
   read_message old new items item w h whole = record {
     bytes = h.bytes;
@@ -108,7 +108,7 @@ module _ {R T B G : Type 0} {b : Ghosts B} (k : Taking T G) (left : R → Option
   }
 
   -- no more was read than for the messages
-  pub reads_more : (old mid new : Reader R T B b) (items : List CutMessage) (rest : List ℕ) (h : HasRead k left calls limits kept old mid items rest) (r : Reads k left calls rest mid new) (item : CutMessage)
+  pub reads_more : (old mid new : Reader R T B A b) (items : List CutMessage) (rest : List ℕ) (h : HasRead k left calls limits kept old mid items rest) (r : Reads k left calls rest mid new) (item : CutMessage)
       → IsWhole (limits_of k mid) (rest ++ r.bytes) item.order item.message item.size → ReadsFor left calls (sizes items) (source_of old) (source_of mid) → ReadsFor left calls (sizes (items ++ item ∷ [])) (source_of old) (source_of new)
   reads_more old mid new items rest h r item whole before = by_count r.count refl
     where

@@ -42,14 +42,14 @@ AreAll limits ReadFailed rest = IsPartial limits rest
 AreAll limits TooManyReads rest = IsPartial limits rest
 AreAll limits cause rest = Unit {0}
 
-module _ {R T B : Type 0} {b : Ghosts B} (left : R → Option (List ℕ)) where
+module _ {R T B A : Type 0} {b : Ghosts B} (left : R → Option (List ℕ)) where
   -- where a read gave the end, nothing is left
-  abbrev pub IsTrueEnd : Reader R T B b → Type 0
+  abbrev pub IsTrueEnd : Reader R T B A b → Type 0
   IsTrueEnd r = is_ended r ≡ true → IsAtEnd (left (source_of r))
 
-module _ {R T B : Type 0} {b : Ghosts B} (failures : R → ℕ) where
+module _ {R T B A : Type 0} {b : Ghosts B} (failures : R → ℕ) where
   -- why no more messages are handed on, as far as the reader shows it
-  abbrev pub StopsFor : Cause → Reader R T B b → Reader R T B b → Type 0
+  abbrev pub StopsFor : Cause → Reader R T B A b → Reader R T B A b → Type 0
   StopsFor ReadFailed old new = failures (source_of new) ≡ one_more (failures (source_of old))
   StopsFor TooManyReads old new = (failures (source_of new) ≡ failures (source_of old)) × (reads_of new ≡ most_reads_of new)
   StopsFor cause old new = failures (source_of new) ≡ failures (source_of old)
@@ -58,9 +58,9 @@ module _ {R T B : Type 0} {b : Ghosts B} (failures : R → ℕ) where
 abbrev pub AreHanded : (before : ℕ) (Are : Option Packets → Type 0) (offset : ℕ) → List CutMessage → List Placed → Type 0
 AreHanded before Are offset items messages = (packets : Option Packets) → Are packets → ArePlaced packets (before + 1) offset (wholes items) messages
 
-module _ {R T B G : Type 0} {b : Ghosts B} (k : Taking T G) (left : R → Option (List ℕ)) (calls : R → ℕ) (limits : Limits) (kept : List ℕ) where
+module _ {R T B A G : Type 0} {b : Ghosts B} (k : Taking T G) (left : R → Option (List ℕ)) (calls : R → ℕ) (limits : Limits) (kept : List ℕ) where
   -- what was kept and then read is these messages, and then the rest
-  pub record HasRead (old new : Reader R T B b) (items : List CutMessage) (rest : List ℕ) : Type 0 where
+  pub record HasRead (old new : Reader R T B A b) (items : List CutMessage) (rest : List ℕ) : Type 0 where
     pub bytes : List ℕ
     pub count : ℕ
     pub consumed : Consumes (left (source_of old)) (left (source_of new)) bytes
@@ -74,7 +74,7 @@ module _ {R T B G : Type 0} {b : Ghosts B} (k : Taking T G) (left : R → Option
   module _ {S : Type 0} (failures : R → ℕ) (takes : S → S → List Placed → (told : List ℕ) → Type 0) (leaves : S → S → List Placed → (told : List ℕ) → RunStop → Type 0)
       (full : S → Bool) (before : ℕ) (Are : Option Packets → Type 0) where
     -- all messages were handed on, up to the end of the input or a fault
-    pub record HandsAllOn (counted : Counted) (old new : Reader R T B b) (s0 s1 : S) : Type 0 where
+    pub record HandsAllOn (counted : Counted) (old new : Reader R T B A b) (s0 s1 : S) : Type 0 where
       pub items : List CutMessage
       pub rest : List ℕ
       pub outcome : CutOutcome
@@ -96,7 +96,7 @@ module _ {R T B G : Type 0} {b : Ghosts B} (k : Taking T G) (left : R → Option
       pub failed : failures (source_of new) ≡ failures (source_of old)
 
     -- some of the first messages were handed on
-    pub record HandsSomeOn (cause : Cause) (old new : Reader R T B b) (s0 s1 : S) : Type 0 where
+    pub record HandsSomeOn (cause : Cause) (old new : Reader R T B A b) (s0 s1 : S) : Type 0 where
       pub items : List CutMessage
       pub rest : List ℕ
       pub read : HasRead old new items rest
@@ -108,13 +108,13 @@ module _ {R T B G : Type 0} {b : Ghosts B} (k : Taking T G) (left : R → Option
       pub given_up : leaves s0 s1 messages [] (ByCause cause)
       pub caused : StopsFor failures cause old new
 
-    abbrev pub HandsOn : Reader R T B b → Reader R T B b → S → S → Result Counted Cause → Type 0
+    abbrev pub HandsOn : Reader R T B A b → Reader R T B A b → S → S → Result Counted Cause → Type 0
     HandsOn old new s0 s1 (Ok counted) = HandsAllOn counted old new s0 s1
     HandsOn old new s0 s1 (Err cause) = HandsSomeOn cause old new s0 s1
 
-module _ {R T B : Type 0} {b : Ghosts B} (packets : R → Option Packets) (packet : R → Option Packet) where
+module _ {R T B A : Type 0} {b : Ghosts B} (packets : R → Option Packets) (packet : R → Option Packet) where
   -- the bytes of the input are of these packets, if they are known
-  abbrev pub HasPacketsIf : Reader R T B b → Option Packets → Type 0
+  abbrev pub HasPacketsIf : Reader R T B A b → Option Packets → Type 0
   HasPacketsIf r None = Unit {0}
   HasPacketsIf r (Some all) = HasPackets packets packet all r
 

@@ -19,13 +19,13 @@ module _ (limits : Limits) where
       omega (arith, some.0, some.1, long)
 
   -- and not before the first one
-  not_before : (bytes : List ℕ) (n k : ℕ) → NoneBefore limits bytes n → BeginsAt limits bytes k → n ≤ k
+  pub not_before : (bytes : List ℕ) (n k : ℕ) → NoneBefore limits bytes n → BeginsAt limits bytes k → n ≤ k
   not_before bytes n k none b = elim (cases_lt k n) [
     | inl less ↦ absurd (none k less b.0 b.1 b.2 b.3)
     | inr more ↦ more
   ]
 
-  one_first : (bytes : List ℕ) (n k : ℕ) → IsFirst limits bytes n → IsFirst limits bytes k → n ≡ k
+  pub one_first : (bytes : List ℕ) (n k : ℕ) → IsFirst limits bytes n → IsFirst limits bytes k → n ≡ k
   one_first bytes n k a b =
       let up = not_before bytes n k a.least b.begins in
       let down = not_before bytes k n b.least a.begins in

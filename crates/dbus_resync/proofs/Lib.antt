@@ -1,3 +1,3 @@
 pub mod Steps
 pub mod DamagedLaws
-pub mod AheadSteps
+pub mod OneFound

@@ -1,5 +1,5 @@
 -- The offsets of bytes, one after the other.
-use Rattle.std.proofs.Common.{◌≡◌, ℕ, ◌+◌, ◌-◌, ◌<◌, Bool, false, Option, None, Some, is_some, List, [], ◌∷◌, ◌++◌, length, take, drop, get_or, refl, sym, ◌∙◌, subst, arith, inl, inr, below_more}
+use Rattle.std.proofs.Common.{◌≡◌, ℕ, ◌+◌, ◌-◌, ◌<◌, ◌≤◌, Bool, false, Option, None, Some, is_some, List, [], ◌∷◌, ◌++◌, length, take, drop, get_or, refl, sym, ◌∙◌, subst, arith, inl, inr, below_more}
 use Rattle.std.proofs.lemmas.Bool.{false≢true}
 use Rattle.std.proofs.lemmas.List.{get_or_append_left, get_or_push, length_push, take_rest}
 use Rattle.std.proofs.lemmas.List.Sums.{sum_by-append}
@@ -22,6 +22,23 @@ looks_longer limits b n s h = inr (refl, λ k t. let same = one_length limits b 
 pub looks_short : (limits : Limits) (b : List ℕ) → length b < 16 → Looks limits b 0
 unfolding StatesLength
 looks_short limits b h = inr (refl, λ k t. let is = t.3 in omega (arith, is, h))
+
+-- one number of bytes is looked at
+pub looks_once : (limits : Limits) (b : List ℕ) (n k : ℕ) → Looks limits b n → Looks limits b k → n ≡ k
+looks_once limits b n k h j = elim h [
+  | inl s ↦ elim j [
+    | inl t ↦ sym (one_length limits b n k s.0 t.0)
+    | inr none ↦ (let more = none.1 n s.0 in absurd (omega (arith, more, s.1)))
+  ]
+  | inr none ↦ elim j [
+    | inl t ↦ (let more = none.1 k t.0 in absurd (omega (arith, more, t.1)))
+    | inr also ↦ omega (arith, none.0, also.0)
+  ]
+]
+
+-- none of no bytes
+pub looks_nothing : (limits : Limits) (b : List ℕ) (n : ℕ) → length b ≤ 0 → Looks limits b n → n ≡ 0
+looks_nothing limits b n none h = looks_once limits b n 0 h (looks_short limits b (omega (arith, none)))
 
 -- if nothing is looked at, no message is there
 pub none_there : (limits : Limits) (b : List ℕ) → Looks limits b 0 → BeginsWithNone limits b

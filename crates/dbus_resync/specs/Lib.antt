@@ -1,3 +1,2 @@
 pub mod Search
 pub mod DamagedInputs
-pub mod Ahead

@@ -49,3 +49,14 @@ abbrev pub KeepsEffort : Limits → List ℕ → (effort : ℕ) → Found → Ty
 KeepsEffort limits bytes effort (At offset) = (total : ℕ) × LooksBefore limits bytes (offset + 1) total × (total ≤ effort)
 KeepsEffort limits bytes effort Nowhere = (total : ℕ) × LooksBefore limits bytes (length bytes) total × (total ≤ effort)
 KeepsEffort limits bytes effort Spent = (offset : ℕ) × NoneBefore limits bytes offset × (total : ℕ) × LooksBefore limits bytes (offset + 1) total × (effort < total)
+
+-- what a search within an effort comes to
+pub record Searches (limits : Limits) (bytes : List ℕ) (effort : ℕ) (found : Found) : Type 0 where
+  pub finds : Finds limits bytes found
+  pub keeps_effort : KeepsEffort limits bytes effort found
+
+-- ---- laws
+
+-- A search comes to one thing.
+abbrev pub OneFound : Type 0
+OneFound = (limits : Limits) (bytes : List ℕ) (effort : ℕ) (found other : Found) → Searches limits bytes effort found → Searches limits bytes effort other → found ≡ other

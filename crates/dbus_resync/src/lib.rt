@@ -3,16 +3,13 @@
 //! D-Bus has no mark at which a message begins, so after bytes that are no message the next one is
 //! found by trial: [`first_message`] returns the least offset at which a whole message begins. Each
 //! offset may state a message of any length, so that a plain search would take the square of the
-//! time; this one stops after an effort that its caller names. An [`Again`] is a source that goes
-//! on there: it is handed the bytes that a reader of it kept. [`laws`] says of whole bytes what is
-//! lost.
+//! time; this one stops after an effort that its caller names. A `dbus_stream::RawReader` goes on
+//! there. [`laws`] says of whole bytes what is lost.
 #![tactic(auto)]
 
-mod again;
 mod found;
 pub mod laws;
 mod search;
 
-pub use again::{Again, Lack};
 pub use found::Found;
 pub use search::first_message;

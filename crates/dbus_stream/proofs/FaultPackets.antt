@@ -11,7 +11,7 @@ use Rattle.dbus_header.proofs.OutcomeLaws.{one_outcome, refused_for_good, whole_
 use Rattle.dbus_stream.specs.Gathering.{under_way}
 use Rattle.dbus_stream.specs.Packets.{HasPackets, ShowsIn}
 use Rattle.dbus_stream.specs.RawReading as raw
-use Rattle.dbus_stream.specs.Reading.{source_of, part_of, done_of, read_of, last_of}
+use Rattle.dbus_stream.specs.Reading.{room_of, source_of, part_of, done_of, read_of, last_of}
 use Rattle.dbus_stream.specs.declared.buffer.Buffer.{Ghosts}
 use Rattle.dbus_stream.specs.declared.raw_reader.RawReader.{RawReader}
 use Rattle.dbus_stream.specs.declared.reader.Reader.{Reader}
@@ -33,15 +33,15 @@ module _ (limits : Limits) where
   ]
 
   -- what is left of the buffer came by the last read
-  pub shows_last : {R T B : Type 0} {b : Ghosts B} (r : Reader R T B b) (w held : List ℕ) → w ≡ held ++ part_of r → IsPartial limits held → IsPartial limits (take (length w - last_of r) w)
+  pub shows_last : {R T B A : Type 0} {b : Ghosts B} (r : Reader R T B A b) (w held : List ℕ) → w ≡ held ++ part_of r → IsPartial limits held → IsPartial limits (take (length w - last_of r) w)
   shows_last {b = b} r w held e unshown =
       let n = length w - last_of r in
-      let left = length-take (r.end - r.start) (drop r.start (b.room.bytes r.buffer)) in
+      let left = length-take (r.end - r.start) (drop r.start (room_of r)) in
       let size = ap length e ∙ length-append held (part_of r) in
       let few : n ≤ length held = omega (arith, left, size) in
       subst (λ l. IsPartial limits l) (sym (ap (take n) e ∙ take-append-le n held (part_of r) few)) (partial_take n held unshown)
 
-  module _ {R T B : Type 0} {b : Ghosts B} (packets : R → Option Packets) (packet : R → Option Packet) (all : Packets) (r : Reader R T B b) (has : HasPackets packets packet all r) (w : List ℕ)
+  module _ {R T B A : Type 0} {b : Ghosts B} (packets : R → Option Packets) (packet : R → Option Packet) (all : Packets) (r : Reader R T B A b) (has : HasPackets packets packet all r) (w : List ℕ)
       (read : read_of r ≡ done_of r + length w) where
     -- it was refused
     pub refused_in : (fault : Fault) → IsRefused limits w fault → IsPartial limits (take (length w - last_of r) w) → ShowsIn all limits (done_of r) w (packet (source_of r))

@@ -3,6 +3,7 @@ pub mod ValueEnds
 pub mod MessageEnds
 pub mod NextSteps
 pub mod PacketSteps
+pub mod AheadSteps
 pub mod FaultPackets
 pub mod GathererSteps
 pub mod RawSteps

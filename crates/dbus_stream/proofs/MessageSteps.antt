@@ -52,18 +52,18 @@ pub keeps : {R A : Type 0} (r : MessageReader R A) → stopped_of r ≡ None →
 keeps r open_ = record { held = r.reader.taker.held; holds = (refl, r.unfaulted open_); size = r.held_counted open_; bytes = refl }
 
 -- its cutter met no fault, and holds as many bytes as are counted
-pub record IsStanding {R B : Type 0} {b : Ghosts B} (r : Reader R CutterState B b) : Type 0 where
+pub record IsStanding {R B C : Type 0} {b : Ghosts B} (r : Reader R CutterState B C b) : Type 0 where
   pub unfaulted : r.taker.fault ≡ None
   pub held : r.held ≡ length r.taker.held
 
-stopped_not : {R B : Type 0} {b : Ghosts B} (r : Reader R CutterState B b) (f : ReadFault) → reading.stopped_of r ≡ Some f → reading.stopped_of r ≡ None → IsStanding r
+stopped_not : {R B C : Type 0} {b : Ghosts B} (r : Reader R CutterState B C b) (f : ReadFault) → reading.stopped_of r ≡ Some f → reading.stopped_of r ≡ None → IsStanding r
 stopped_not r f stopped open_ = let never : Some f ≡ None = sym stopped ∙ open_ in absurd cc
 
 module _ {R A B : Type 0} {b : Ghosts B} where
-  standing : (r : Reader R CutterState B b) (w : List ℕ) → reading.Keeps (cutting A) r w → IsStanding r
+  standing : (r : Reader R CutterState B A b) (w : List ℕ) → reading.Keeps (cutting A) r w → IsStanding r
   standing r w k = record { unfaulted = k.holds.1; held = k.size ∙ ap length (sym k.holds.0) }
 
-  pub stands_next : (w : List ℕ) (old new : Reader R CutterState B b) (res : Result (Option (Order × Message A)) ReadFault) → NextAnswers (cutting A) w old new res
+  pub stands_next : (w : List ℕ) (old new : Reader R CutterState B A b) (res : Result (Option (Order × Message A)) ReadFault) → NextAnswers (cutting A) w old new res
       → reading.stopped_of new ≡ None → IsStanding new
   stands_next w old new (Ok (Some given)) a open_ = standing new _ a.1.kept
   stands_next w old new (Ok None) a open_ = standing new w a.2.kept
@@ -72,7 +72,7 @@ module _ {R A B : Type 0} {b : Ghosts B} where
   stands_next w old new (Err Device) a open_ = standing new w a.0.kept
   stands_next w old new (Err TooManyReads) a open_ = standing new w a.0.kept
 
-  pub stands_kept : (w : List ℕ) (old new : Reader R CutterState B b) (res : Result (Option (Order × Message A)) ReadFault) → KeptAnswers (cutting A) w old new res
+  pub stands_kept : (w : List ℕ) (old new : Reader R CutterState B A b) (res : Result (Option (Order × Message A)) ReadFault) → KeptAnswers (cutting A) w old new res
       → reading.stopped_of new ≡ None → IsStanding new
   stands_kept w old new (Ok (Some given)) a open_ = standing new _ a.1.kept
   stands_kept w old new (Ok None) a open_ = standing new w a.0.kept

@@ -14,6 +14,7 @@ use Rattle.dbus_stream.specs.declared.reader.Reader.{Reader}
 use Rattle.dbus_stream.specs.declared.read_fault.ReadFault.{ReadFault}
 use Rattle.dbus_stream.specs.declared.read_fault.ReadFault.TheVariants.{Memory, Format, Device, TooManyReads}
 use Rattle.dbus_stream.specs.Lasting.{is_lasting}
+use Rattle.dbus_stream.specs.LookingAhead.{StandsBefore}
 use Rattle.dbus_stream.specs.Next.{NextAnswers, KeptAnswers, DeviceCounts, Reads, ReadsWhile, KeepsAll, IsCutShort, ReadsNothing}
 use Rattle.dbus_stream.specs.Reading.{limits_of, source_of, part_of, done_of, reads_of, most_reads_of, is_ended, stopped_of, Keeps}
 use Rattle.dbus_stream.specs.Steps.{Buffers, Stops, Calls, FillsBy, FillsNone}
@@ -46,9 +47,9 @@ few_done N done reads most counted few low =
     let all = mul-le-mul_left N (let r : reads ≤ 2 ^ 32 = omega (arith, few, low) in r) in
     omega (arith, counted, all)
 
-module _ {R T B G : Type 0} {b : Ghosts B} (k : Taking T G) (Needed : List ℕ → Type 0) (left : R → Option (List ℕ)) (calls : R → ℕ) where
+module _ {R T B A G : Type 0} {b : Ghosts B} (k : Taking T G) (Needed : List ℕ → Type 0) (left : R → Option (List ℕ)) (calls : R → ℕ) where
   -- nothing was read yet
-  abbrev pub reads_none : (old : Reader R T B b) → ReadsWhile k Needed left calls old old
+  abbrev pub reads_none : (old : Reader R T B A b) → ReadsWhile k Needed left calls old old
   reads_none old = record {
     bytes = [];
     count = 0;
@@ -71,7 +72,7 @@ module _ {R T B G : Type 0} {b : Ghosts B} (k : Taking T G) (Needed : List ℕ �
   }
 
   -- a step that reads nothing
-  abbrev pub reads_still : (old mid new : Reader R T B b) → ReadsWhile k Needed left calls old mid → ReadsNothing k mid new → ReadsWhile k Needed left calls old new
+  abbrev pub reads_still : (old mid new : Reader R T B A b) → ReadsWhile k Needed left calls old mid → ReadsNothing k mid new → ReadsWhile k Needed left calls old new
   reads_still old mid new r n = record {
     bytes = r.bytes;
     count = r.count;
@@ -93,8 +94,31 @@ module _ {R T B G : Type 0} {b : Ghosts B} (k : Taking T G) (Needed : List ℕ �
     at_end = λ f t. subst (λ s. IsAtEnd (left s)) (sym n.source) (r.at_end f (sym n.ended ∙ t));
   }
 
+  -- a step after which the reader stands before bytes that it read
+  abbrev pub reads_put : (bytes : List ℕ) (old mid new : Reader R T B A b) → ReadsWhile k Needed left calls old mid → StandsBefore bytes mid new → ReadsWhile k Needed left calls old new
+  reads_put bytes old mid new r n = record {
+    bytes = r.bytes;
+    count = r.count;
+    few = r.few;
+    last = r.last;
+    before = r.before;
+    joined = r.joined;
+    last_fits = r.last_fits;
+    between = r.between;
+    came = r.came;
+    needed = r.needed;
+    consumed = subst (λ s. Consumes (left (source_of old)) (left s) r.bytes) (sym n.source) r.consumed;
+    one_call = λ some. ap calls n.source ∙ r.one_call some;
+    reads = n.reads ∙ r.reads;
+    called = subst (λ s. RisesBy r.count (calls (source_of old)) (calls s)) (sym n.source) r.called;
+    most_reads = n.most_reads ∙ r.most_reads;
+    limits = ap k.limits n.taker ∙ r.limits;
+    settled = λ e. ((r.settled e).0, (r.settled e).1, n.ended ∙ (r.settled e).2, n.source ∙ (r.settled e).3);
+    at_end = λ f t. subst (λ s. IsAtEnd (left s)) (sym n.source) (r.at_end f (sym n.ended ∙ t));
+  }
+
   -- what is read after a step that reads nothing
-  abbrev pub reads_from : (Wanted : List ℕ → Type 0) (old mid new : Reader R T B b) → ReadsNothing k old mid → ((before : List ℕ) → Wanted before → Needed before)
+  abbrev pub reads_from : (Wanted : List ℕ → Type 0) (old mid new : Reader R T B A b) → ReadsNothing k old mid → ((before : List ℕ) → Wanted before → Needed before)
       → ReadsWhile k Wanted left calls mid new → ReadsWhile k Needed left calls old new
   reads_from Wanted old mid new n wanted r = record {
     bytes = r.bytes;
@@ -118,7 +142,7 @@ module _ {R T B G : Type 0} {b : Ghosts B} (k : Taking T G) (Needed : List ℕ �
   }
 
   -- one more read, where each gave a byte before
-  abbrev pub reads_one : (old mid new : Reader R T B b) (r : ReadsWhile k Needed left calls old mid) → is_ended mid ≡ false → r.count ≤ length r.bytes → Needed r.bytes
+  abbrev pub reads_one : (old mid new : Reader R T B A b) (r : ReadsWhile k Needed left calls old mid) → is_ended mid ≡ false → r.count ≤ length r.bytes → Needed r.bytes
       → Calls calls mid new → (bytes : List ℕ) → FillsBy left bytes mid new → ReadsWhile k Needed left calls old new
   reads_one old mid new r open_ paid wanted c bytes f = record {
     bytes = r.bytes ++ bytes;
@@ -142,7 +166,7 @@ module _ {R T B G : Type 0} {b : Ghosts B} (k : Taking T G) (Needed : List ℕ �
   }
 
 -- a read that failed adds nothing
-pub adds_none : {R T B : Type 0} {b : Ghosts B} (left : R → Option (List ℕ)) (old new : Reader R T B b) → is_ended old ≡ false → FillsNone left old new → FillsBy left [] old new
+pub adds_none : {R T B A : Type 0} {b : Ghosts B} (left : R → Option (List ℕ)) (old new : Reader R T B A b) → is_ended old ≡ false → FillsNone left old new → FillsBy left [] old new
 adds_none left old new open_ f = record {
   consumed = Consumes-kept _ _ _ _ (Consumes-nil (left (source_of old))) f.source;
   few = omega arith;
@@ -150,13 +174,13 @@ adds_none left old new open_ f = record {
   at_end = λ t. absurd (both_ways (is_ended old) (sym f.ended ∙ t) open_);
 }
 
-module _ {R T B G : Type 0} {b : Ghosts B} (k : Taking T G) where
+module _ {R T B A G : Type 0} {b : Ghosts B} (k : Taking T G) where
   -- where nothing is left of the buffer, the taker holds all
-  held_all : (w : List ℕ) (r : Reader R T B b) → part_of r ≡ [] → (kept : Keeps k r w) → w ≡ kept.held
+  held_all : (w : List ℕ) (r : Reader R T B A b) → part_of r ≡ [] → (kept : Keeps k r w) → w ≡ kept.held
   held_all w r none kept = kept.bytes ∙ (ap (λ l. kept.held ++ l) none ∙ append-nil kept.held)
 
   -- the taker holds the same, and the buffer has other bytes left
-  held_still : (w bytes : List ℕ) (old new : Reader R T B b) (kept : Keeps k old w) → Buffers bytes old new → Keeps k new (kept.held ++ bytes)
+  held_still : (w bytes : List ℕ) (old new : Reader R T B A b) (kept : Keeps k old w) → Buffers bytes old new → Keeps k new (kept.held ++ bytes)
   held_still w bytes old new kept b = record {
     held = kept.held;
     holds = subst (λ t. k.holds t kept.held) (sym b.taker) kept.holds;
@@ -165,16 +189,16 @@ module _ {R T B G : Type 0} {b : Ghosts B} (k : Taking T G) where
   }
 
   -- a reader that stops keeps all
-  stopping : (w : List ℕ) (fault : ReadFault) (old new : Reader R T B b) → Keeps k old w → k.rests old.taker → Stops fault old new → KeepsAll k w old new
+  stopping : (w : List ℕ) (fault : ReadFault) (old new : Reader R T B A b) → Keeps k old w → k.rests old.taker → Stops fault old new → KeepsAll k w old new
   stopping w fault old new kept rests s = record {
     kept = subst (Keeps k new) (sym kept.bytes) (held_still w (part_of old) old new kept s.buffers);
     done = s.done;
     rests = subst k.rests (sym s.buffers.taker) rests;
   }
 
-  module _ (left : R → Option (List ℕ)) (calls : R → ℕ) (w : List ℕ) (old : Reader R T B b) where
+  module _ (left : R → Option (List ℕ)) (calls : R → ℕ) (w : List ℕ) (old : Reader R T B A b) where
     -- the reader read so far where w was kept, and gave nothing
-    pub record HasRead (mid : Reader R T B b) : Type 0 where
+    pub record HasRead (mid : Reader R T B A b) : Type 0 where
       pub reads : Reads k left calls w old mid
       pub kept : Keeps k mid (w ++ reads.bytes)
       pub done : done_of mid ≡ done_of old
@@ -182,7 +206,7 @@ module _ {R T B G : Type 0} {b : Ghosts B} (k : Taking T G) where
       pub paid : is_ended mid ≡ false → reads.count ≤ length reads.bytes
 
     -- no message ends in what is kept
-    pub record Wants (mid : Reader R T B b) : Type 0 where
+    pub record Wants (mid : Reader R T B A b) : Type 0 where
       pub so_far : HasRead mid
       pub partial : IsPartial (limits_of k old) (w ++ so_far.reads.bytes)
       pub rests : k.rests mid.taker
@@ -200,11 +224,11 @@ module _ {R T B G : Type 0} {b : Ghosts B} (k : Taking T G) where
     }
 
     -- a step that reads nothing
-    abbrev pub unread : (mid new : Reader R T B b) → Reads k left calls w old mid → ReadsNothing k mid new → Reads k left calls w old new
+    abbrev pub unread : (mid new : Reader R T B A b) → Reads k left calls w old mid → ReadsNothing k mid new → Reads k left calls w old new
     unread mid new r n = reads_still k (λ before. IsPartial (limits_of k old) (w ++ before)) left calls old mid new r n
 
     -- the taker was handed all of what is kept
-    pub wants : (mid new : Reader R T B b) (h : HasRead mid) → KeptAnswers k (w ++ h.reads.bytes) mid new (Ok None) → ReadsNothing k mid new → Wants new
+    pub wants : (mid new : Reader R T B A b) (h : HasRead mid) → KeptAnswers k (w ++ h.reads.bytes) mid new (Ok None) → ReadsNothing k mid new → Wants new
     wants mid new h t n = record {
       so_far = record {
         reads = unread mid new h.reads n;
@@ -216,11 +240,11 @@ module _ {R T B G : Type 0} {b : Ghosts B} (k : Taking T G) where
       rests = t.0.rests;
     }
 
-    keeps_since : (v : List ℕ) (mid new : Reader R T B b) → done_of mid ≡ done_of old → KeepsAll k v mid new → KeepsAll k v old new
+    keeps_since : (v : List ℕ) (mid new : Reader R T B A b) → done_of mid ≡ done_of old → KeepsAll k v mid new → KeepsAll k v old new
     keeps_since v mid new d a = record { kept = a.kept; done = a.done ∙ d; rests = a.rests }
 
     -- what comes of the bytes that are kept is the answer
-    answers_taken : (v : List ℕ) (mid new : Reader R T B b) (res : Result (Option G) ReadFault) → (res ≡ Ok None → ⊥) → limits_of k mid ≡ limits_of k old
+    answers_taken : (v : List ℕ) (mid new : Reader R T B A b) (res : Result (Option G) ReadFault) → (res ≡ Ok None → ⊥) → limits_of k mid ≡ limits_of k old
         → done_of mid ≡ done_of old → KeptAnswers k v mid new res → NextAnswers k v old new res
     answers_taken v mid new (Ok (Some given)) some e d (size, g, gives, lends) =
         let whole = subst (λ limits. IsWhole limits v g.order g.message size) e g.whole in
@@ -235,15 +259,15 @@ module _ {R T B G : Type 0} {b : Ghosts B} (k : Taking T G) where
     answers_taken v mid new (Err TooManyReads) some e d t = absurd t
 
     -- what `next` answers
-    abbrev pub Answers : Reader R T B b → Result (Option G) ReadFault → Type 0
+    abbrev pub Answers : Reader R T B A b → Result (Option G) ReadFault → Type 0
     Answers new res = (r : Reads k left calls w old new) × (stopped_of old ≡ None → NextAnswers k (w ++ r.bytes) old new res)
 
-    pub given : (mid new : Reader R T B b) (res : Result (Option G) ReadFault) (h : HasRead mid) → (res ≡ Ok None → ⊥)
+    pub given : (mid new : Reader R T B A b) (res : Result (Option G) ReadFault) (h : HasRead mid) → (res ≡ Ok None → ⊥)
         → KeptAnswers k (w ++ h.reads.bytes) mid new res → ReadsNothing k mid new → Answers new res
     given mid new res h some t n = (unread mid new h.reads n, λ _. answers_taken (w ++ h.reads.bytes) mid new res some h.reads.limits h.done t)
 
     -- the end of the input, where nothing is kept
-    pub ended : (mid : Reader R T B b) → Wants mid → part_of mid ≡ [] → stopped_of mid ≡ None → is_ended mid ≡ true → mid.held ≡ 0 → Answers mid (Ok None)
+    pub ended : (mid : Reader R T B A b) → Wants mid → part_of mid ≡ [] → stopped_of mid ≡ None → is_ended mid ≡ true → mid.held ≡ 0 → Answers mid (Ok None)
     ended mid h drained unstopped e zero =
         let all = w ++ h.so_far.reads.bytes in
         let kept = h.so_far.kept in
@@ -251,7 +275,7 @@ module _ {R T B G : Type 0} {b : Ghosts B} (k : Taking T G) where
         (h.so_far.reads, λ _. (none, e, record { kept = kept; done = h.so_far.done; rests = h.rests }, unstopped))
 
     -- and within a message
-    pub cut_short : (mid new : Reader R T B b) → Wants mid → part_of mid ≡ [] → is_ended mid ≡ true → 0 < mid.held → (fault : Fault) → fault ≡ record { at = mid.held; reason = Truncated }
+    pub cut_short : (mid new : Reader R T B A b) → Wants mid → part_of mid ≡ [] → is_ended mid ≡ true → 0 < mid.held → (fault : Fault) → fault ≡ record { at = mid.held; reason = Truncated }
         → Stops (Format fault) mid new → ReadsNothing k mid new → Answers new (Err (Format fault))
     cut_short mid new h drained e some fault is s n =
         let all = w ++ h.so_far.reads.bytes in
@@ -263,7 +287,7 @@ module _ {R T B G : Type 0} {b : Ghosts B} (k : Taking T G) where
         )
 
     -- no more reads may be made
-    pub gave_up : (mid new : Reader R T B b) → Wants mid → reads_of mid ≡ most_reads_of mid → is_ended mid ≡ false → Stops TooManyReads mid new → ReadsNothing k mid new
+    pub gave_up : (mid new : Reader R T B A b) → Wants mid → reads_of mid ≡ most_reads_of mid → is_ended mid ≡ false → Stops TooManyReads mid new → ReadsNothing k mid new
         → Answers new (Err TooManyReads)
     gave_up mid new h e open_ s n =
         let all = w ++ h.so_far.reads.bytes in (
@@ -278,7 +302,7 @@ module _ {R T B G : Type 0} {b : Ghosts B} (k : Taking T G) where
         )
 
     -- one more read, of which these bytes came
-    module _ (mid new : Reader R T B b) (bytes : List ℕ) (h : Wants mid) (drained : part_of mid ≡ []) (open_ : is_ended mid ≡ false) (c : Calls calls mid new) (f : FillsBy left bytes mid new) where
+    module _ (mid new : Reader R T B A b) (bytes : List ℕ) (h : Wants mid) (drained : part_of mid ≡ []) (open_ : is_ended mid ≡ false) (c : Calls calls mid new) (f : FillsBy left bytes mid new) where
       abbrev reads_more : Reads k left calls w old new
       reads_more = reads_one k (λ before. IsPartial (limits_of k old) (w ++ before)) left calls old mid new h.so_far.reads open_ (h.so_far.paid open_) h.partial c bytes f
 

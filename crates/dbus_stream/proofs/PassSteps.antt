@@ -22,7 +22,7 @@ use Rattle.dbus_stream.specs.Gathering.{GathererState, gathering, fresh, under_w
 use Rattle.dbus_stream.specs.Lasting.{is_truncated, is_refusal}
 use Rattle.dbus_stream.specs.Next.{ReadsNothing}
 use Rattle.dbus_stream.specs.Passing.{DropsAll, IsRefusal, PassAnswers, Passing, ReadsOn, ReadsToSkip, SkipAnswers, Skips, SkipsAll, WasDropped}
-use Rattle.dbus_stream.specs.RawReading.{limits_of, kept, lent_of, whole_or}
+use Rattle.dbus_stream.specs.RawReading.{buffered, limits_of, kept, lent_of, whole_or}
 use Rattle.dbus_stream.specs.Reading.{part_of, done_of, is_ended, stopped_of}
 use Rattle.dbus_stream.specs.StatedSizes.{StatesNone, StatesSize, WantsMore}
 use Rattle.dbus_stream.specs.Steps.{Drops, Calls, FillsBy}
@@ -31,13 +31,13 @@ use Rattle.dbus_stream.proofs.CutLaws.{no_part, part_size}
 use Rattle.dbus_stream.proofs.NextSteps.{gave, reads_none, reads_still, reads_from, reads_one}
 use Rattle.dbus_stream.proofs.SizeSteps.{inside_none, inside_same, inside_wanting}
 
-module _ {R T B G : Type 0} {b : Ghosts B} (k : Taking T G) (limits : Limits) (gone : List ℕ) (left : R → Option (List ℕ)) (calls : R → ℕ) (old : Reader R T B b) where
+module _ {R T B A G : Type 0} {b : Ghosts B} (k : Taking T G) (limits : Limits) (gone : List ℕ) (left : R → Option (List ℕ)) (calls : R → ℕ) (old : Reader R T B A b) where
   -- more bytes of the message are wanted than were there and were read before
   abbrev Short : List ℕ → Type 0
   Short before = WantsMore limits ((gone ++ part_of old) ++ before)
 
   -- what a step before did
-  pub record Since (mid : Reader R T B b) : Type 0 where
+  pub record Since (mid : Reader R T B A b) : Type 0 where
     pub reads : ReadsToSkip k limits (gone ++ part_of old) left calls old mid
     pub taker : mid.taker ≡ old.taker
     pub held : mid.held ≡ 0
@@ -46,11 +46,11 @@ module _ {R T B G : Type 0} {b : Ghosts B} (k : Taking T G) (limits : Limits) (g
     pub paid : is_ended mid ≡ false → reads.count ≤ length reads.bytes
 
   -- the message's bytes as far as they came
-  abbrev pub bytes_of : (mid : Reader R T B b) → Since mid → List ℕ
+  abbrev pub bytes_of : (mid : Reader R T B A b) → Since mid → List ℕ
   bytes_of mid s = gone ++ (part_of old ++ s.reads.bytes)
 
   -- these bytes more are passed over, and what is left of the buffer follows them
-  pub record HasSkipped (mid : Reader R T B b) (now : Refused) : Type 0 where
+  pub record HasSkipped (mid : Reader R T B A b) (now : Refused) : Type 0 where
     pub since : Since mid
     pub more : List ℕ
     pub all : (gone ++ more) ++ part_of mid ≡ bytes_of mid since
@@ -59,12 +59,12 @@ module _ {R T B G : Type 0} {b : Ghosts B} (k : Taking T G) (limits : Limits) (g
     pub done : done_of mid + length gone ≡ done_of old + old.held + length (gone ++ more)
 
   -- all are
-  pub record HasSkippedAll (mid : Reader R T B b) (now : Refused) : Type 0 where
+  pub record HasSkippedAll (mid : Reader R T B A b) (now : Refused) : Type 0 where
     pub since : Since mid
     pub skips : SkipsAll limits gone (bytes_of mid since) old mid now
 
   -- only what the taker held is passed over
-  pub skip_held : (mid : Reader R T B b) (now : Refused) → HasDropped now gone → AreInside limits gone → ReadsNothing k old mid → part_of mid ≡ part_of old → done_of mid ≡ done_of old + old.held
+  pub skip_held : (mid : Reader R T B A b) (now : Refused) → HasDropped now gone → AreInside limits gone → ReadsNothing k old mid → part_of mid ≡ part_of old → done_of mid ≡ done_of old + old.held
       → mid.taker ≡ old.taker → mid.held ≡ 0 → stopped_of mid ≡ stopped_of old → HasSkipped mid now
   skip_held mid now before inside n part done taker held stopped = record {
     since = record { reads = reads_still k Short left calls old old mid (reads_none k Short left calls old) n; taker = taker; held = held; stopped = stopped; paid = λ open_. omega arith };
@@ -75,7 +75,7 @@ module _ {R T B G : Type 0} {b : Ghosts B} (k : Taking T G) (limits : Limits) (g
     done = let same = ap length (append-nil gone) in omega (arith, done, same);
   }
 
-  module _ (mid new : Reader R T B b) (now : Refused) (h : HasSkipped mid now) where
+  module _ (mid new : Reader R T B A b) (now : Refused) (h : HasSkipped mid now) where
     abbrev since_still : ReadsNothing k mid new → new.taker ≡ mid.taker → new.held ≡ mid.held → stopped_of new ≡ stopped_of mid → Since new
     since_still u taker held stopped =
         let s = h.since in
@@ -103,7 +103,7 @@ module _ {R T B G : Type 0} {b : Ghosts B} (k : Taking T G) (limits : Limits) (g
 
     -- the message is passed over
     pub skip_size : (size : ℕ) → StatesSize limits ((gone ++ h.more) ++ part_of mid) size → size ≤ length ((gone ++ h.more) ++ part_of mid) → length (gone ++ h.more) ≤ size
-        → (last : Reader R T B b) → Drops (size - length (gone ++ h.more)) mid new → ReadsNothing k mid new → ReadsNothing k new last → part_of last ≡ part_of new → done_of last ≡ done_of new → stopped_of last ≡ None
+        → (last : Reader R T B A b) → Drops (size - length (gone ++ h.more)) mid new → ReadsNothing k mid new → ReadsNothing k new last → part_of last ≡ part_of new → done_of last ≡ done_of new → stopped_of last ≡ None
         → (after : Refused) → after.dropped ≡ 0 → (r : ReadsToSkip k limits (gone ++ part_of old) left calls old last) × Skips limits gone (gone ++ (part_of old ++ r.bytes)) old last after
     skip_size size states there inside last d u v part done stopped after nothing =
         let front = gone ++ h.more in
@@ -122,7 +122,7 @@ module _ {R T B G : Type 0} {b : Ghosts B} (k : Taking T G) (limits : Limits) (g
           },
         )
 
-  module _ (mid : Reader R T B b) (now : Refused) (h : HasSkippedAll mid now) (wants : WantsMore limits (bytes_of mid h.since)) (new : Reader R T B b) (bytes : List ℕ) (open_ : is_ended mid ≡ false)
+  module _ (mid : Reader R T B A b) (now : Refused) (h : HasSkippedAll mid now) (wants : WantsMore limits (bytes_of mid h.since)) (new : Reader R T B A b) (bytes : List ℕ) (open_ : is_ended mid ≡ false)
       (c : Calls calls mid new) (f : FillsBy left bytes mid new) where
     more_wanted : Short h.since.reads.bytes
     more_wanted = subst (WantsMore limits) (sym (append_assoc gone (part_of old) h.since.reads.bytes)) wants
@@ -191,14 +191,14 @@ refusal_is stopped fault r = ap is_refusal r.0 ∙ ap not r.1
 pub none_inside : (r : Refused) (limits : Limits) → r.dropped ≡ 0 → (gone : List ℕ) → HasDropped r gone → AreInside limits gone
 none_inside r limits zero gone h n s = let count = h.count in let there = s.there in omega (arith, zero, count, there)
 
-module _ {R T B : Type 0} {b : Ghosts B} where
+module _ {R T B A : Type 0} {b : Ghosts B} where
   -- what holds of what was dropped, if anything was
-  pub record AfterPass (limits : Limits) (new : Reader R T B b) (now : Refused) : Type 0 where
+  pub record AfterPass (limits : Limits) (new : Reader R T B A b) (now : Refused) : Type 0 where
     pub refused : 0 < now.dropped → is_refusal (stopped_of new) ≡ true
     pub alone : 0 < now.dropped → part_of new ≡ []
     pub inside : (gone : List ℕ) → HasDropped now gone → AreInside limits gone
 
-  module _ (limits : Limits) (gone w : List ℕ) (mid new : Reader R T B b) (now : Refused) (met : is_refusal (stopped_of mid) ≡ true) where
+  module _ (limits : Limits) (gone w : List ℕ) (mid new : Reader R T B A b) (now : Refused) (met : is_refusal (stopped_of mid) ≡ true) where
     after_all : AreInside limits w → SkipsAll limits gone w mid new now → AfterPass limits new now
     after_all inside s = record { refused = λ _. ap is_refusal s.stopped ∙ met; alone = λ _. s.left; inside = λ also h. inside_same now limits w also s.dropped h inside }
 
@@ -222,12 +222,12 @@ module _ {R A : Type 0} where
   pub stands : (limits : Limits) (r : RawReader R A) → r.reader.taker ≡ fresh limits → (kept r ≡ part_of r.reader) × (lent_of r ≡ [])
   stands limits r e = (
     ap (λ (g : GathererState). under_way g.whole g.held ++ part_of r.reader) e,
-    ap (λ (g : GathererState). whole_or g.whole g.held (slice_range r.reader.buffer.bytes (r.reader.start - g.lent) r.reader.start)) e
-        ∙ no_part r.reader.buffer.bytes (r.reader.start - 0) r.reader.start (omega arith),
+    ap (λ (g : GathererState). whole_or g.whole g.held (slice_range (buffered r) (r.reader.start - g.lent) r.reader.start)) e
+        ∙ no_part (buffered r) (r.reader.start - 0) r.reader.start (omega arith),
   )
 
   -- the reader below let go of what its taker held, and is the same else
-  pub record LetsGo (old : RawReader R A) (mid : Reader R GathererState Large ghosts) : Type 0 where
+  pub record LetsGo (old : RawReader R A) (mid : Reader R GathererState Large A ghosts) : Type 0 where
     pub nothing : ReadsNothing gathering old.reader mid
     pub part : part_of mid ≡ part_of old.reader
     pub held : mid.held ≡ old.reader.held
@@ -235,7 +235,7 @@ module _ {R A : Type 0} where
     pub stopped : stopped_of mid ≡ stopped_of old.reader
     pub taker : mid.taker ≡ fresh (limits_of old)
 
-  module _ (old : RawReader R A) (mid : Reader R GathererState Large ghosts) (g : LetsGo old mid) (gone : List ℕ) where
+  module _ (old : RawReader R A) (mid : Reader R GathererState Large A ghosts) (g : LetsGo old mid) (gone : List ℕ) where
     abbrev held_of : List ℕ
     held_of = under_way old.reader.taker.whole old.reader.taker.held
 
@@ -328,9 +328,9 @@ module _ {R A : Type 0} where
       ]
 
   -- how many bytes the taker holds and the buffer has left
-  pub few_left : (old : RawReader R A) → old.reader.end ≤ length old.reader.buffer.bytes
+  pub few_left : (old : RawReader R A) → old.reader.end ≤ length (buffered old)
       → old.refused.dropped + length (under_way old.reader.taker.whole old.reader.taker.held) + length (part_of old.reader) ≤ 2 ^ 50
   few_left old room =
       let r = old.reader in
-      let size = part_size r.buffer.bytes r.start r.end r.in_order room in
+      let size = part_size (buffered old) r.start r.end r.in_order room in
       omega (arith, size, old.held_counted, old.dropped_counted, r.counted, r.few_reads, r.low_most)

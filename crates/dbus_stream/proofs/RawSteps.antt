@@ -11,7 +11,7 @@ use Rattle.dbus_validate.specs.declared.validating.Validated.{Validated}
 use Rattle.dbus_validate.specs.Validating.{IsValidatedWhole}
 use Rattle.dbus_stream.specs.Gathering.{GathererState, gathering, under_way, Rests}
 use Rattle.dbus_stream.specs.Next as next
-use Rattle.dbus_stream.specs.RawReading.{Advances, CopyAnswers, KeptAnswers, Reads, ReadsNothing, KeepsAll, Lends, GivesLent, IsNewReader, HasPackets, limits_of, kept, lent_of, done_of, read_of, last_of, stopped_of, whole_or}
+use Rattle.dbus_stream.specs.RawReading.{Advances, CopyAnswers, KeptAnswers, Reads, ReadsNothing, KeepsAll, Lends, GivesLent, IsNewReader, HasPackets, limits_of, buffered, kept, lent_of, done_of, read_of, last_of, stopped_of, whole_or}
 use Rattle.dbus_stream.specs.Reading as reading
 use Rattle.dbus_stream.specs.declared.buffer.Buffer.{Ghosts}
 use Rattle.dbus_stream.specs.declared.raw_reader.RawReader.{RawReader}
@@ -22,21 +22,21 @@ use Rattle.dbus_stream.proofs.CutLaws.{no_part}
 use Rattle.dbus_stream.proofs.FaultPackets.{partial_take, shows_last}
 use Rattle.dbus_stream.proofs.NextSteps as steps
 
-module _ {R B : Type 0} {b : Ghosts B} where
+module _ {R B A : Type 0} {b : Ghosts B} where
   -- what holds of the reader below at all times
-  pub record IsLending (r : Reader R GathererState B b) : Type 0 where
+  pub record IsLending (r : Reader R GathererState B A b) : Type 0 where
     pub before : r.taker.lent ≤ r.start
     pub counted : r.taker.lent ≤ r.done
     pub alone : 0 < r.taker.lent → r.taker.held ≡ []
     pub held : r.held ≡ length (under_way r.taker.whole r.taker.held)
 
-  unlent : (r : Reader R GathererState B b) → r.taker.lent ≡ 0 → r.held ≡ length (under_way r.taker.whole r.taker.held) → IsLending r
+  unlent : (r : Reader R GathererState B A b) → r.taker.lent ≡ 0 → r.held ≡ length (under_way r.taker.whole r.taker.held) → IsLending r
   unlent r none held = record { before = omega (arith, none); counted = omega (arith, none); alone = λ some. absurd (omega (arith, none, some)); held = held }
 
-  resting : (r : Reader R GathererState B b) (w : List ℕ) → reading.Keeps gathering r w → Rests r.taker → IsLending r
+  resting : (r : Reader R GathererState B A b) (w : List ℕ) → reading.Keeps gathering r w → Rests r.taker → IsLending r
   resting r w k rests = unlent r rests.1 (k.size ∙ ap length (sym k.holds))
 
-  giving : (w : List ℕ) (j : Validated) (old new : Reader R GathererState B b) → next.GivesOf gathering w j old new → IsLending new
+  giving : (w : List ℕ) (j : Validated) (old new : Reader R GathererState B A b) → next.GivesOf gathering w j old new → IsLending new
   giving w j old new (size, g, lends, there) =
       let done = g.done in
       let held : new.held ≡ length (under_way new.taker.whole new.taker.held) = g.kept.size ∙ ap length (sym g.kept.holds) in
@@ -51,11 +51,11 @@ module _ {R B : Type 0} {b : Ghosts B} where
             )
       ]
 
-  refusing : (w : List ℕ) (fault : Fault) (old new : Reader R GathererState B b) → next.Refuses gathering w fault old new → IsLending new
+  refusing : (w : List ℕ) (fault : Fault) (old new : Reader R GathererState B A b) → next.Refuses gathering w fault old new → IsLending new
   refusing w fault old new r = unlent new r.keeps.1.1 (r.size ∙ (ap length (sym r.keeps.0) ∙ sym (ap (λ b. length (under_way b new.taker.held)) r.keeps.1.0)))
 
   -- after each answer
-  pub lending_next : (w : List ℕ) (old new : Reader R GathererState B b) (res : Result (Option Validated) ReadFault) → next.NextAnswers gathering w old new res
+  pub lending_next : (w : List ℕ) (old new : Reader R GathererState B A b) (res : Result (Option Validated) ReadFault) → next.NextAnswers gathering w old new res
       → IsLending new
   lending_next w old new (Ok (Some j)) a = giving w j old new a
   lending_next w old new (Ok None) a = resting new w a.2.kept a.2.rests
@@ -67,7 +67,7 @@ module _ {R B : Type 0} {b : Ghosts B} where
   lending_next w old new (Err Device) a = resting new w a.0.kept a.0.rests
   lending_next w old new (Err TooManyReads) a = resting new w a.0.kept a.0.rests
 
-  pub lending_kept : (w : List ℕ) (old new : Reader R GathererState B b) (res : Result (Option Validated) ReadFault) → next.KeptAnswers gathering w old new res
+  pub lending_kept : (w : List ℕ) (old new : Reader R GathererState B A b) (res : Result (Option Validated) ReadFault) → next.KeptAnswers gathering w old new res
       → IsLending new
   lending_kept w old new (Ok (Some j)) a = giving w j old new a
   lending_kept w old new (Ok None) a = resting new w a.0.kept a.0.rests
@@ -82,28 +82,28 @@ module _ {R A : Type 0} where
   keeps r = record { held = under_way r.reader.taker.whole r.reader.taker.held; holds = refl; size = r.held_counted; bytes = refl }
 
   kept_is : (r : RawReader R A) (w : List ℕ) → reading.Keeps gathering r.reader w → kept r ≡ w
-  kept_is r w k = ap (λ l. l ++ slice_range r.reader.buffer.bytes r.reader.start r.reader.end) k.holds ∙ sym k.bytes
+  kept_is r w k = ap (λ l. l ++ slice_range (buffered r) r.reader.start r.reader.end) k.holds ∙ sym k.bytes
 
   lends_none : (r : RawReader R A) → Rests r.reader.taker → lent_of r ≡ []
   lends_none r rests =
       let none = rests.1 in
-      ap (λ b. whole_or b r.reader.taker.held (slice_range r.reader.buffer.bytes (r.reader.start - r.reader.taker.lent) r.reader.start)) rests.0
-      ∙ no_part r.reader.buffer.bytes (r.reader.start - r.reader.taker.lent) r.reader.start (omega (arith, none))
+      ap (λ b. whole_or b r.reader.taker.held (slice_range (buffered r) (r.reader.start - r.reader.taker.lent) r.reader.start)) rests.0
+      ∙ no_part (buffered r) (r.reader.start - r.reader.taker.lent) r.reader.start (omega (arith, none))
 
   keeps_all : (w : List ℕ) (old new : RawReader R A) → next.KeepsAll gathering w old.reader new.reader → KeepsAll w old new
   keeps_all w old new a = record { kept = kept_is new w a.kept; done = a.done; lent = lends_none new a.rests }
 
   refuses : (w : List ℕ) (fault : Fault) (old new : RawReader R A) → done_of new ≡ done_of old → next.Refuses gathering w fault old.reader new.reader → KeepsAll w old new
   refuses w fault old new done r = record {
-    kept = ap (λ b. under_way b new.reader.taker.held ++ slice_range new.reader.buffer.bytes new.reader.start new.reader.end) r.keeps.1.0
-        ∙ (ap (λ l. l ++ slice_range new.reader.buffer.bytes new.reader.start new.reader.end) r.keeps.0 ∙ sym r.bytes);
+    kept = ap (λ b. under_way b new.reader.taker.held ++ slice_range (buffered new) new.reader.start new.reader.end) r.keeps.1.0
+        ∙ (ap (λ l. l ++ slice_range (buffered new) new.reader.start new.reader.end) r.keeps.0 ∙ sym r.bytes);
     done = done;
     lent = lends_none new r.keeps.1;
   }
 
   lends : (w : List ℕ) (j : Validated) (old new : RawReader R A) → limits_of new ≡ limits_of old → next.GivesOf gathering w j old.reader new.reader → Lends w j old new
   lends w j old new same (size, g, l, there) =
-      let lent_in = slice_range new.reader.buffer.bytes (new.reader.start - new.reader.taker.lent) new.reader.start in
+      let lent_in = slice_range (buffered new) (new.reader.start - new.reader.taker.lent) new.reader.start in
       let lent_is : lent_of new ≡ take size w = elim l.place [
         | inl whole ↦ ap (λ b. whole_or b new.reader.taker.held lent_in) whole.0 ∙ whole.1
         | inr part ↦ (
@@ -111,7 +111,7 @@ module _ {R A : Type 0} where
             let is_size = part.2 in
             let t = there (omega (arith, is_size, some)) in
             ap (λ b. whole_or b new.reader.taker.held lent_in) part.0
-            ∙ (ap (λ n. slice_range new.reader.buffer.bytes (new.reader.start - n) new.reader.start) part.2 ∙ t.2)
+            ∙ (ap (λ n. slice_range (buffered new) (new.reader.start - n) new.reader.start) part.2 ∙ t.2)
             )
       ] in
       record {
@@ -219,4 +219,5 @@ module _ {R A : Type 0} where
           told = λ i from before. absurd (omega (arith, before, none));
           last = omega (arith, last);
           some = λ some. omega (arith, some);
+          unpacked = λ _ i before. absurd (omega (arith, before, none));
         }

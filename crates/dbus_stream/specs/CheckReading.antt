@@ -1,5 +1,6 @@
 -- A reader that gives the lengths of messages, by the definitions of any reader.
 use Rattle.std.specs.Prelude.{◌≡◌, ℕ, List, Option, Result}
+use Rattle.std.specs.declared.alloc.Global.{Global}
 use Rattle.dbus_check.specs.Checks.{Stands}
 use Rattle.dbus_header.specs.MessageOutcomes.{IsPartial}
 use Rattle.dbus_value_model.specs.declared.limits.Limits.{Limits}
@@ -28,7 +29,7 @@ lengths = record {
 }
 
 abbrev pub CheckReader : Type 0 → Type 0
-CheckReader R = Reader R Lengths Large ghosts
+CheckReader R = Reader R Lengths Large Global ghosts
 
 module _ {R : Type 0} where
   abbrev pub limits_of : CheckReader R → Limits

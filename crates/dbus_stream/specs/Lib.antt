@@ -1,4 +1,7 @@
 pub mod Lasting
+pub mod Packed
+pub mod LookingAhead
+pub mod GoingOn
 pub mod Write
 pub mod Cut
 pub mod CutEnds

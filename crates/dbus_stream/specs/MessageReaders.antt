@@ -6,6 +6,7 @@ use Rattle.dbus_device.specs.declared.packet.Packet.{Packet}
 use Rattle.dbus_value_model.specs.declared.limits.Limits.{Limits}
 use Rattle.dbus_value_model.specs.declared.order.Order.{Order}
 use Rattle.dbus_message_model.specs.declared.message.Message.{Message}
+use Rattle.dbus_stream.specs.Rooms.{put_or}
 use Rattle.dbus_stream.specs.CutterTaking.{cutting}
 use Rattle.dbus_stream.specs.Next as next
 use Rattle.dbus_stream.specs.Packets as input
@@ -19,7 +20,7 @@ module _ {R A : Type 0} where
 
   -- the bytes that were read and not yet given
   abbrev pub kept : MessageReader R A → List ℕ
-  kept r = r.reader.taker.held ++ slice_range r.reader.buffer.bytes r.reader.start r.reader.end
+  kept r = r.reader.taker.held ++ slice_range (put_or r.reader.put r.reader.buffer.bytes) r.reader.start r.reader.end
 
   -- the device below
   abbrev pub source_of : MessageReader R A → R

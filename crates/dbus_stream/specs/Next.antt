@@ -13,7 +13,7 @@ use Rattle.dbus_stream.specs.declared.reader.Reader.{Reader}
 use Rattle.dbus_stream.specs.declared.read_fault.ReadFault.{ReadFault}
 use Rattle.dbus_stream.specs.declared.read_fault.ReadFault.TheVariants.{Memory, Format, Device, TooManyReads}
 use Rattle.dbus_stream.specs.CutEnds.{truncated}
-use Rattle.dbus_stream.specs.Reading.{limits_of, source_of, part_of, done_of, read_of, last_of, reads_of, most_reads_of, is_ended, stopped_of, Keeps}
+use Rattle.dbus_stream.specs.Reading.{limits_of, source_of, room_of, part_of, done_of, read_of, last_of, reads_of, most_reads_of, is_ended, packed_of, stopped_of, Keeps}
 use Rattle.dbus_stream.specs.Taking.{Taking}
 
 -- the fault of bytes after which nothing comes
@@ -25,9 +25,9 @@ abbrev pub DeviceCounts : {T : Type 0} → ℕ → ℕ → Result T ReadFault �
 DeviceCounts old new (Err Device) = (new ≡ (old + 1) % 2 ^ 64) × (new ≢ old)
 DeviceCounts old new _ = new ≡ old
 
-module _ {R T B G : Type 0} {b : Ghosts B} (k : Taking T G) where
+module _ {R T B A G : Type 0} {b : Ghosts B} (k : Taking T G) where
   -- what a call read, and that it counted it. This holds of what it had read before its last read
-  pub record ReadsWhile (Needed : List ℕ → Type 0) (left : R → Option (List ℕ)) (calls : R → ℕ) (old new : Reader R T B b) : Type 0 where
+  pub record ReadsWhile (Needed : List ℕ → Type 0) (left : R → Option (List ℕ)) (calls : R → ℕ) (old new : Reader R T B A b) : Type 0 where
     pub bytes : List ℕ
     pub count : ℕ
     pub consumed : Consumes (left (source_of old)) (left (source_of new)) bytes
@@ -53,11 +53,11 @@ module _ {R T B G : Type 0} {b : Ghosts B} (k : Taking T G) where
     pub at_end : is_ended old ≡ false → is_ended new ≡ true → IsAtEnd (left (source_of new))
 
   -- what a call read where w was kept, a read only where neither a whole message nor a fault was
-  abbrev pub Reads : (R → Option (List ℕ)) → (R → ℕ) → List ℕ → Reader R T B b → Reader R T B b → Type 0
+  abbrev pub Reads : (R → Option (List ℕ)) → (R → ℕ) → List ℕ → Reader R T B A b → Reader R T B A b → Type 0
   Reads left calls w old new = ReadsWhile (λ before. IsPartial (limits_of k old) (w ++ before)) left calls old new
 
   -- nothing was read
-  pub record ReadsNothing (old new : Reader R T B b) : Type 0 where
+  pub record ReadsNothing (old new : Reader R T B A b) : Type 0 where
     pub source : source_of new ≡ source_of old
     pub reads : reads_of new ≡ reads_of old
     pub most_reads : most_reads_of new ≡ most_reads_of old
@@ -65,16 +65,17 @@ module _ {R T B G : Type 0} {b : Ghosts B} (k : Taking T G) where
     pub ended : is_ended new ≡ is_ended old
     pub read : read_of new ≡ read_of old
     pub last : last_of new ≡ last_of old
+    pub packed : packed_of new ≡ packed_of old
 
   -- all of w is kept, and nothing is given or lent
-  pub record KeepsAll (w : List ℕ) (old new : Reader R T B b) : Type 0 where
+  pub record KeepsAll (w : List ℕ) (old new : Reader R T B A b) : Type 0 where
     pub kept : Keeps k new w
     pub done : done_of new ≡ done_of old
     pub rests : k.rests new.taker
 
   -- w begins with a message of so many bytes, of which the last came by the last read, and what
   -- follows it is kept
-  pub record Gives (w : List ℕ) (size : ℕ) (old new : Reader R T B b) : Type 0 where
+  pub record Gives (w : List ℕ) (size : ℕ) (old new : Reader R T B A b) : Type 0 where
     pub order : Order
     pub message : MessageTree
     pub whole : IsWhole (limits_of k old) w order message size
@@ -84,16 +85,16 @@ module _ {R T B G : Type 0} {b : Ghosts B} (k : Taking T G) where
     pub in_last : read_of new < done_of new + last_of new
 
   -- a message that is lent where it lies in the buffer stands before what is left
-  abbrev pub LendsThere : List ℕ → ℕ → Reader R T B b → Type 0
-  LendsThere w size new = 0 < k.lent new.taker → (k.lent new.taker ≡ size) × (size ≤ new.start) × (slice_range (b.room.bytes new.buffer) (new.start - size) new.start ≡ take size w)
+  abbrev pub LendsThere : List ℕ → ℕ → Reader R T B A b → Type 0
+  LendsThere w size new = 0 < k.lent new.taker → (k.lent new.taker ≡ size) × (size ≤ new.start) × (slice_range (room_of new) (new.start - size) new.start ≡ take size w)
 
   -- this is given of it
-  abbrev pub GivesOf : List ℕ → G → Reader R T B b → Reader R T B b → Type 0
+  abbrev pub GivesOf : List ℕ → G → Reader R T B A b → Reader R T B A b → Type 0
   GivesOf w given old new = (size : ℕ) × Gives w size old new × k.gives new.taker w size given × LendsThere w size new
 
   -- w is at fault, and what the taker keeps of it, which shows no fault, and then what is left of
   -- the buffer, is w still
-  pub record Refuses (w : List ℕ) (fault : Fault) (old new : Reader R T B b) : Type 0 where
+  pub record Refuses (w : List ℕ) (fault : Fault) (old new : Reader R T B A b) : Type 0 where
     pub refused : IsRefused (limits_of k old) w fault
     pub held : List ℕ
     pub unshown : IsPartial (limits_of k old) held
@@ -101,7 +102,7 @@ module _ {R T B G : Type 0} {b : Ghosts B} (k : Taking T G) where
     pub size : new.held ≡ length held
     pub bytes : w ≡ held ++ part_of new
 
-  abbrev pub NextAnswers : List ℕ → Reader R T B b → Reader R T B b → Result (Option G) ReadFault → Type 0
+  abbrev pub NextAnswers : List ℕ → Reader R T B A b → Reader R T B A b → Result (Option G) ReadFault → Type 0
   NextAnswers w old new (Ok (Some given)) = GivesOf w given old new
   NextAnswers w old new (Ok None) = (w ≡ []) × (is_ended new ≡ true) × KeepsAll w old new × (stopped_of new ≡ None)
   NextAnswers w old new (Err Memory) = k.grows × KeepsAll w old new × (stopped_of new ≡ None)
@@ -112,7 +113,7 @@ module _ {R T B G : Type 0} {b : Ghosts B} (k : Taking T G) where
       × (reads_of new ≡ most_reads_of new) × (is_ended new ≡ false)
 
   -- what it answers where w is kept and nothing is read
-  abbrev pub KeptAnswers : List ℕ → Reader R T B b → Reader R T B b → Result (Option G) ReadFault → Type 0
+  abbrev pub KeptAnswers : List ℕ → Reader R T B A b → Reader R T B A b → Result (Option G) ReadFault → Type 0
   KeptAnswers w old new (Ok (Some given)) = GivesOf w given old new
   KeptAnswers w old new (Ok None) = KeepsAll w old new × (stopped_of new ≡ None) × IsPartial (limits_of k old) w
   KeptAnswers w old new (Err Memory) = k.grows × KeepsAll w old new × (stopped_of new ≡ None)

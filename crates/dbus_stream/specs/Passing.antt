@@ -25,9 +25,9 @@ use Rattle.dbus_stream.specs.declared.refused.Refused.{Refused}
 abbrev pub IsRefusal : Option ReadFault → Fault → Type 0
 IsRefusal stopped fault = (stopped ≡ Some (Format fault)) × (is_truncated fault.reason ≡ false)
 
-module _ {R T B : Type 0} {b : Ghosts B} (limits : Limits) (gone w : List ℕ) where
+module _ {R T B A : Type 0} {b : Ghosts B} (limits : Limits) (gone w : List ℕ) where
   -- the message is passed over, and what follows it is left
-  pub record Skips (old new : Reader R T B b) (after : Refused) : Type 0 where
+  pub record Skips (old new : Reader R T B A b) (after : Refused) : Type 0 where
     pub size : ℕ
     pub states : StatesSize limits w size
     pub there : size ≤ length w
@@ -37,13 +37,13 @@ module _ {R T B : Type 0} {b : Ghosts B} (limits : Limits) (gone w : List ℕ) w
     pub nothing : after.dropped ≡ 0
 
   -- all of w is passed over
-  pub record SkipsAll (old new : Reader R T B b) (after : Refused) : Type 0 where
+  pub record SkipsAll (old new : Reader R T B A b) (after : Refused) : Type 0 where
     pub left : part_of new ≡ []
     pub done : done_of new + length gone ≡ done_of old + old.held + length w
     pub stopped : stopped_of new ≡ stopped_of old
     pub dropped : HasDropped after w
 
-  abbrev pub SkipAnswers : Reader R T B b → Reader R T B b → Refused → Result Passed ReadFault → Type 0
+  abbrev pub SkipAnswers : Reader R T B A b → Reader R T B A b → Refused → Result Passed ReadFault → Type 0
   SkipAnswers old new after (Ok Over) = Skips old new after
   SkipAnswers old new after (Ok CutOff) = WantsMore limits w × SkipsAll old new after × (is_ended new ≡ true)
   SkipAnswers old new after (Ok Not) = StatesNone limits w × SkipsAll old new after
@@ -51,10 +51,10 @@ module _ {R T B : Type 0} {b : Ghosts B} (limits : Limits) (gone w : List ℕ) w
   SkipAnswers old new after (Err TooManyReads) = WantsMore limits w × SkipsAll old new after × (reads_of new ≡ most_reads_of new) × (is_ended new ≡ false)
   SkipAnswers old new after _ = ⊥
 
-module _ {R T B : Type 0} {b : Ghosts B} where
+module _ {R T B A : Type 0} {b : Ghosts B} where
   -- what a call read that passes over a message of which these bytes came before: a read only if
   -- more are wanted
-  abbrev pub ReadsToSkip : {G : Type 0} → Taking T G → Limits → List ℕ → (R → Option (List ℕ)) → (R → ℕ) → Reader R T B b → Reader R T B b → Type 0
+  abbrev pub ReadsToSkip : {G : Type 0} → Taking T G → Limits → List ℕ → (R → Option (List ℕ)) → (R → ℕ) → Reader R T B A b → Reader R T B A b → Type 0
   ReadsToSkip k limits front left calls old new = next.ReadsWhile k (λ before. WantsMore limits (front ++ before)) left calls old new
 
 module _ {R A : Type 0} where

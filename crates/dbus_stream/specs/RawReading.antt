@@ -14,6 +14,7 @@ use Rattle.dbus_stream.specs.declared.read_fault.ReadFault.{ReadFault}
 use Rattle.dbus_stream.specs.Next as next
 use Rattle.dbus_stream.specs.Packets as input
 use Rattle.dbus_stream.specs.Reading as reading
+use Rattle.dbus_stream.specs.Rooms.{put_or}
 use Rattle.dbus_stream.specs.declared.read_fault.ReadFault.TheVariants.{Memory, Format, Device, TooManyReads}
 
 -- a whole message that was gathered, or else these bytes
@@ -26,13 +27,17 @@ module _ {R A : Type 0} where
   abbrev pub limits_of : RawReader R A → Limits
   limits_of r = r.reader.taker.limits
 
+  -- the bytes in its buffer
+  abbrev pub buffered : RawReader R A → List ℕ
+  buffered r = put_or r.reader.put r.reader.buffer.bytes
+
   -- the bytes that were read and not yet given
   abbrev pub kept : RawReader R A → List ℕ
-  kept r = under_way r.reader.taker.whole r.reader.taker.held ++ slice_range r.reader.buffer.bytes r.reader.start r.reader.end
+  kept r = under_way r.reader.taker.whole r.reader.taker.held ++ slice_range (buffered r) r.reader.start r.reader.end
 
   -- the bytes of the message that is lent; none, where none is
   abbrev pub lent_of : RawReader R A → List ℕ
-  lent_of r = whole_or r.reader.taker.whole r.reader.taker.held (slice_range r.reader.buffer.bytes (r.reader.start - r.reader.taker.lent) r.reader.start)
+  lent_of r = whole_or r.reader.taker.whole r.reader.taker.held (slice_range (buffered r) (r.reader.start - r.reader.taker.lent) r.reader.start)
 
   -- the device below
   abbrev pub source_of : RawReader R A → R
@@ -60,6 +65,10 @@ module _ {R A : Type 0} where
   abbrev pub is_ended : RawReader R A → Bool
   is_ended r = r.reader.ended
 
+  -- a read gave bytes of a packet
+  abbrev pub packed_of : RawReader R A → Bool
+  packed_of r = r.reader.packed
+
   -- the fault that it answers for good, where it met one
   abbrev pub stopped_of : RawReader R A → Option ReadFault
   stopped_of r = r.reader.stopped
@@ -76,6 +85,7 @@ module _ {R A : Type 0} where
     pub reads : reads_of r ≡ 0
     pub last : last_of r ≡ 0
     pub ended : is_ended r ≡ false
+    pub unpacked : packed_of r ≡ false
     pub stopped : stopped_of r ≡ None
 
 -- What a reader of raw messages answers by its limits, where it was not stopped before. w is what

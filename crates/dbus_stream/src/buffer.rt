@@ -9,7 +9,7 @@ use dbus_device::{DeviceFault, Source};
 
 /// Room for the bytes that one read gives.
 pub trait Buffer: Drop {
-    // How many bytes it has room for, at most 262,144, and which bytes are there.
+    // How many bytes a read gives at most, which are at most 262,144, and which bytes are there.
     ghost room: { Room Self };
 
     /// Reads once, into the room from its start on, of which a byte at least is offered.
@@ -31,7 +31,7 @@ pub trait Buffer: Drop {
     /// The bytes from `start` up to `end`.
     fn part(&self, start: usize, end: usize) -> &[u8]
         requires in_order { start ≤ end }
-        requires within { end ≤ room.size }
+        requires within { end ≤ length (room.bytes self.now) }
         ensures { result.now ≡ slice_range (room.bytes self.now) start end };
 }
 

@@ -35,6 +35,7 @@ pub use cutter::Cutter;
 pub use dbus_device::{
     DeviceFault, FromRead, FromWrite, Packet, Sink, Source, WrittenOnly, write_all,
 };
+pub use dbus_resync::Found;
 pub use gatherer::Gatherer;
 pub use lengths::Lengths;
 pub use message_reader::MessageReader;

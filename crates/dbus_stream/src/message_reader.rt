@@ -19,7 +19,7 @@ use std::alloc::{Allocator, Global};
 #[derive(Drop)]
 pub struct MessageReader<R, A: Allocator = Global> {
     // Its cutter holds the bytes of the message under way that came by earlier reads.
-    reader: Reader<R, Cutter<A>, Small>,
+    reader: Reader<R, Cutter<A>, Small, A>,
     ghost unfaulted: { reader.stopped ≡ None → reader.taker.fault ≡ None },
     ghost held_counted: { reader.stopped ≡ None → reader.held ≡ length reader.taker.held },
 }

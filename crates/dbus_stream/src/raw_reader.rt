@@ -1,10 +1,11 @@
 //! Raw messages from a source.
-ghost use Rattle.std.specs.Prelude.{◌≡◌, ◌≤◌, ◌<◌, ◌+◌, ◌-◌, ◌^◌, ◌++◌, [], length, slice_range, true, List, ℕ};
+ghost use Rattle.std.specs.Prelude.{◌≡◌, ◌⊎◌, ◌≤◌, ◌<◌, ◌+◌, ◌-◌, ◌*◌, ◌^◌, ◌++◌, [], length, slice_range, true, false, List, ℕ, IfOk};
 ghost use Rattle.dbus_stream.specs.Gathering.{under_way};
 ghost use Rattle.dbus_stream.specs.Lasting.{is_refusal, is_truncated};
 ghost use Rattle.dbus_stream.specs.Dropping.{AreInside, HasDropped};
+ghost use Rattle.dbus_stream.specs.Rooms.{put_or};
 
-use crate::buffer::{Buffer, Large};
+use crate::buffer::Large;
 use crate::gatherer::Gatherer;
 use crate::passed::Passed;
 use crate::read_fault::ReadFault;
@@ -12,9 +13,10 @@ use crate::reader::Reader;
 use crate::reads::MOST_READS;
 use crate::refused::{Refused, Size};
 use dbus_device::{Packet, Source};
+use dbus_resync::{Found, first_message};
 use dbus_validate::Validated;
 use dbus_value_model::{Fault, Limits, Reason};
-use std::alloc::{Allocator, Global};
+use std::alloc::{AllocError, Allocator, Global};
 
 /// Reads messages from a source, one after another, by a buffer of 262,144 bytes inside it, and
 /// lends or copies their bytes.
@@ -22,23 +24,23 @@ use std::alloc::{Allocator, Global};
 /// It accepts and rejects what a [`crate::MessageReader`] does, and builds no message. A message
 /// that lies whole in the buffer is validated and lent there; any other is checked as it comes, and
 /// its bytes are gathered. It keeps the bytes that it read and did not give yet: at most those of
-/// one message and one buffer. The limits of its messages, and the most reads that it makes in its
-/// life, are those that it was made with.
+/// one message and one buffer, and those that [`RawReader::go_on`] looked ahead at. The limits of
+/// its messages, and the most reads that it makes in its life, are those that it was made with.
 #[derive(Drop)]
 pub struct RawReader<R, A: Allocator = Global> {
-    alloc: A,
+    pub(crate) alloc: A,
     // Its taker holds the bytes of the message under way that came by earlier reads, or those of
     // the one that is lent.
-    reader: Reader<R, Gatherer<A>, Large>,
+    pub(crate) reader: Reader<R, Gatherer<A>, Large, A>,
     // What was dropped of a refused message, by a call that did not come to its end.
-    refused: Refused,
+    pub(crate) refused: Refused,
     ghost lent_before: { reader.taker.lent ≤ reader.start },
     ghost lent_counted: { reader.taker.lent ≤ reader.done },
     ghost lent_alone: { 0 < reader.taker.lent → reader.taker.held ≡ [] },
     ghost held_counted: { reader.held ≡ length (under_way reader.taker.whole reader.taker.held) },
     ghost dropped_refused: { 0 < refused.dropped → is_refusal reader.stopped ≡ true },
     ghost dropped_alone: { 0 < refused.dropped → under_way reader.taker.whole reader.taker.held ++
-        slice_range reader.buffer.bytes reader.start reader.end ≡ [] },
+        slice_range (put_or reader.put reader.buffer.bytes) reader.start reader.end ≡ [] },
     ghost dropped_counted: { refused.dropped ≤ reader.done },
     ghost dropped_inside: { (gone : List ℕ) → HasDropped refused gone →
         AreInside reader.taker.limits gone },
@@ -46,12 +48,14 @@ pub struct RawReader<R, A: Allocator = Global> {
 
 impl<R: Source, A: Allocator + Copy> RawReader<R, A> {
     ghost use Rattle.std.specs.Prelude.{None, Some};
+    ghost use Rattle.dbus_stream.specs.GoingOn.{GoesOn, HasFault, Looks, ReadsToGoOn};
     ghost use Rattle.dbus_stream.specs.Passing.{Passing, WasDropped};
+    ghost use Rattle.dbus_stream.specs.Reading.{part_of};
     ghost use Rattle.dbus_stream.specs.StatedSizes.{StatesNone};
     ghost use Rattle.dbus_value_model.specs.Specification.{specification};
     ghost use Rattle.dbus_stream.specs.declared.read_fault.ReadFault.{ReadFault};
     ghost use Rattle.dbus_stream.specs.Next.{DeviceCounts};
-    ghost use Rattle.dbus_stream.specs.RawReading.{limits_of, kept, lent_of, source_of, done_of, reads_of, most_reads_of, stopped_of, IsNewReader, Advances, CopyAnswers, KeepsPackets, KeptAnswers, Reads, ReadsNothing, GivesLent};
+    ghost use Rattle.dbus_stream.specs.RawReading.{limits_of, kept, lent_of, source_of, done_of, reads_of, most_reads_of, is_ended, packed_of, stopped_of, IsNewReader, Advances, CopyAnswers, KeepsPackets, KeptAnswers, Reads, ReadsNothing, GivesLent};
 
     /// A reader as [`RawReader::within`] makes it, of at most 2^32 reads and under the limits of
     /// the specification.
@@ -124,9 +128,7 @@ impl<R: Source, A: Allocator + Copy> RawReader<R, A> {
             return self.reader.taker.bytes();
         }
         let start = self.reader.start;
-        self.reader
-            .buffer
-            .part(start - self.reader.taker.lent(), start)
+        self.reader.bytes(start - self.reader.taker.lent(), start)
     }
 
     /// The bytes that were read and not given yet, one slice after the other: those of the message
@@ -295,6 +297,120 @@ impl<R: Source, A: Allocator + Copy> RawReader<R, A> {
         self.reader.pass_over(limits, &mut self.refused)
     }
 
+    /// Goes on behind bytes that are no message, or those of an input that ends within one: at the
+    /// least offset at which a whole message within the limits begins. It is looked for among the
+    /// bytes that were kept and those that follow, as many in all as the window has, by
+    /// [`dbus_resync::first_message`] with this effort. If fewer are kept, more are read, up to
+    /// twice as many and one buffer. If a call of [`RawReader::pass_over`] has dropped bytes of
+    /// the message, it is looked for behind them. It holds these bytes until they are given. D-Bus
+    /// Specification, "Message Format".
+    ///
+    /// `At`: the next call gives that message; the bytes before it are dropped, and
+    /// [`RawReader::done`] counts them. `Nowhere`, `Spent`: none was found. All that was kept and
+    /// read is kept, and the fault stays. So it is after an error.
+    ///
+    /// `TooManyReads`: as many reads were made as it may make. `Device`: a read failed. `Memory`: an
+    /// allocation failed; or a read gave bytes of a packet, since it does not note of which packets
+    /// the bytes are that it holds.
+    ///
+    /// ```rust
+    /// use dbus_stream::{Found, FromRead, RawReader, ReadFault};
+    ///
+    /// let mut reader = RawReader::new(alloc, FromRead::new(rt.stdin()));
+    /// for _ in 0..u64::MAX {
+    ///     match reader.advance() {
+    ///         Ok(Some(validated)) => println!(rt; "serial {}", validated.serial)?,
+    ///         Ok(None) => break,
+    ///         Err(ReadFault::Format(_)) => match reader.go_on(1_048_576, 67_108_864)? {
+    ///             Found::At(lost) => println!(rt; "{lost} bytes lost")?,
+    ///             _ => break,
+    ///         },
+    ///         Err(fault) => return Err(fault.into()),
+    ///     }
+    /// }
+    /// ```
+    pub fn go_on(&mut self, window: usize, effort: usize) -> Result<Found, ReadFault>
+        requires { HasFault (stopped_of self.old) }
+        // Of what was kept and then read it drops the bytes before the next message.
+        ensures goes { (r : ReadsToGoOn window R.left R.calls self.old self.new) ×
+            GoesOn (kept self.old ++ r.bytes) self.old self.new window effort result }
+        ensures failed { DeviceCounts (R.failures (source_of self.old))
+            (R.failures (source_of self.new)) result }
+        ensures same_reference { R.reference (source_of self.new) ≡
+            R.reference (source_of self.old) }
+        ensures packets { IfOk result (λ _. KeepsPackets R.packets R.packet self.old self.new) }
+        ensures unpacked { IfOk result (λ _. packed_of self.new ≡ false) }
+        ensures few { done_of self.new ≤ 2 ^ 50 }
+    {
+        match self.look_ahead(window) {
+            Ok(()) => {}
+            Err(fault) => return Err(fault),
+        }
+        if self.reader.packed {
+            return Err(ReadFault::Memory);
+        }
+        let limits = self.reader.taker.limits();
+        let part = self.reader.part();
+        let looked = window.min(part.len());
+        match first_message(&part[..looked], limits, effort) {
+            Found::At(offset) => {
+                self.reader.skip(offset as u64);
+                self.reader.stopped = None;
+                Ok(Found::At(offset))
+            }
+            Found::Nowhere => Ok(Found::Nowhere),
+            Found::Spent => Ok(Found::Spent),
+        }
+    }
+
+    // All that was kept is in the buffer then; and what is read, if these are fewer bytes than the
+    // window has. If it is not, all is kept.
+    fn look_ahead(&mut self, window: usize) -> Result<(), ReadFault>
+        ensures looks { (r : ReadsToGoOn window R.left R.calls self.old self.new) ×
+            Looks (kept self.old ++ r.bytes) self.old self.new window result }
+        ensures failed { DeviceCounts (R.failures (source_of self.old))
+            (R.failures (source_of self.new)) result }
+        ensures same_reference { R.reference (source_of self.new) ≡
+            R.reference (source_of self.old) }
+        ensures packets { packed_of self.new ≡ false →
+            KeepsPackets R.packets R.packet self.old self.new }
+    {
+        if self.is_there(window) {
+            self.refused = Refused::nothing();
+            self.reader.taker.let_go();
+            return Ok(());
+        }
+        let mut ahead = match self.copy_kept() {
+            Ok(ahead) => ahead,
+            Err(AllocError) => return Err(ReadFault::Memory),
+        };
+        let far = far_enough(window, ahead.len());
+        self.refused = Refused::nothing();
+        self.reader.taker.let_go();
+        self.reader.drop_kept();
+        let looked = self.reader.read_ahead(far, &mut ahead);
+        self.reader.stand_before(ahead);
+        looked
+    }
+
+    // Whether all that is kept is in the buffer, and enough for the window.
+    fn is_there(&self, window: usize) -> bool
+        ensures { result ≡ true → (self.now.reader.held ≡ 0) ×
+            ((window ≤ length (part_of self.now.reader)) ⊎ (is_ended self.now ≡ true)) }
+    {
+        self.reader.held == 0 && (self.reader.ended || window <= self.reader.part().len())
+    }
+
+    // The bytes that are kept.
+    fn copy_kept(&self) -> Result<Vec<u8, A>, AllocError>
+        ensures { IfOk result (λ bytes. bytes.items ≡ kept self.now) }
+    {
+        let mut bytes = Vec::new(self.alloc);
+        bytes.extend_from_slice(self.reader.taker.under_way())?;
+        bytes.extend_from_slice(self.reader.part())?;
+        Ok(bytes)
+    }
+
     // Whether what is there of the refused message states no size, whatever follows.
     fn states_none(&self) -> bool
         ensures { result ≡ true → (gone : List ℕ) → WasDropped self.now gone →
@@ -319,7 +435,7 @@ impl<R: Source, A: Allocator + Copy> RawReader<R, A> {
         let start = self.reader.start;
         let mut bytes = Vec::new(self.alloc);
         let is_copied = bytes
-            .extend_from_slice(self.reader.buffer.part(start - lent, start))
+            .extend_from_slice(self.reader.bytes(start - lent, start))
             .is_ok();
         self.reader.taker.begin();
         if is_copied {
@@ -349,4 +465,18 @@ fn is_truncated(fault: Fault) -> bool
     ensures { result ≡ is_truncated fault.reason }
 {
     matches!(fault.reason, Reason::Truncated)
+}
+
+// How many bytes are to be there: twice the window, if so many are there; none, if the window is
+// there.
+fn far_enough(window: usize, there: usize) -> usize
+    ensures wide { there < window → window ≤ result }
+    ensures no_wider { result ≤ 2 * window }
+    ensures enough { window ≤ there → result ≡ 0 }
+{
+    if there < window {
+        window.saturating_mul(2)
+    } else {
+        0
+    }
 }

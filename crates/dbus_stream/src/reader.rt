@@ -1,6 +1,8 @@
 //! Messages from a source, by what takes their bytes.
-ghost use Rattle.std.specs.Prelude.{◌≡◌, ◌≤◌, ◌<◌, ◌+◌, ◌*◌, ◌-◌, ◌^◌, ◌++◌, ℕ, [], List, length, true, None, Some};
+ghost use Rattle.std.specs.Prelude.{◌≡◌, ◌≤◌, ◌<◌, ◌+◌, ◌*◌, ◌-◌, ◌^◌, ◌++◌, ℕ, [], List, length, slice_range, true, None, Some};
 ghost use Rattle.dbus_stream.specs.Lasting.{is_lasting};
+ghost use Rattle.dbus_stream.specs.Packed.{is_packed};
+ghost use Rattle.dbus_stream.specs.Rooms.{put_or};
 
 use crate::buffer::Buffer;
 use crate::passed::Passed;
@@ -10,6 +12,10 @@ use crate::stream_fault::StreamFault;
 use crate::taker::Taker;
 use dbus_device::{DeviceFault, Packet, Source};
 use dbus_value_model::{Fault, Limits, Reason};
+use std::alloc::{AllocError, Allocator, Global};
+
+// How many bytes one read gives at most.
+const ROOM: usize = 262_144;
 
 /// Reads messages from a source, one after another, by a buffer inside it, and gives what its taker
 /// makes of each: a [`crate::MessageReader`] the message, a [`crate::CheckReader`] its length.
@@ -18,23 +24,26 @@ use dbus_value_model::{Fault, Limits, Reason};
 /// is at most one message, and what is left of the buffer. The limits of its messages, and the
 /// number of reads that it makes at most in its life, are those that it was made with.
 #[derive(Drop)]
-pub struct Reader<R, T, B: Buffer> {
+pub struct Reader<R, T, B: Buffer, A: Allocator = Global> {
     source: R,
     // It holds the bytes of the message under way that came by earlier reads.
     pub(crate) taker: T,
     // How many bytes these are.
     pub(crate) held: u64,
-    // What the last read gave, and which of it is left.
+    // What the last read gave, or bytes that were put in its place, and which of it is left.
     pub(crate) buffer: B,
+    pub(crate) put: Option<Vec<u8, A>>,
     pub(crate) start: usize,
-    end: usize,
+    pub(crate) end: usize,
     pub(crate) done: u64,
-    reads: u64,
-    most_reads: u64,
-    ended: bool,
+    pub(crate) reads: u64,
+    pub(crate) most_reads: u64,
+    pub(crate) ended: bool,
+    // Whether a read gave bytes of a packet.
+    pub(crate) packed: bool,
     pub(crate) stopped: Option<ReadFault>,
     ghost in_order: { start ≤ end },
-    ghost in_buffer: { end ≤ B.room.size },
+    ghost in_buffer: { end ≤ length (put_or put (B.room.bytes buffer)) },
     ghost small: { B.room.size ≤ 262144 },
     ghost few_reads: { reads ≤ most_reads },
     ghost low_most: { most_reads ≤ 2 ^ 32 },
@@ -42,15 +51,16 @@ pub struct Reader<R, T, B: Buffer> {
     ghost counted: { done + held + (end - start) ≤ B.room.size * reads },
 }
 
-impl<R: Source, T: Taker, B: Buffer> Reader<R, T, B> {
+impl<R: Source, T: Taker, B: Buffer, A: Allocator> Reader<R, T, B, A> {
     ghost use Rattle.dbus_stream.specs.declared.read_fault.ReadFault.{ReadFault};
     ghost use Rattle.dbus_device.specs.Device.{ReadCounts};
-    ghost use Rattle.dbus_stream.specs.Reading.{limits_of, source_of, taker_of, part_of, done_of, reads_of, most_reads_of, stopped_of, Keeps, IsNewReader};
+    ghost use Rattle.dbus_stream.specs.Reading.{limits_of, source_of, taker_of, room_of, part_of, done_of, reads_of, most_reads_of, stopped_of, Keeps, IsNewReader};
     ghost use Rattle.dbus_stream.specs.Next.{NextAnswers, KeptAnswers, DeviceCounts, Reads, ReadsNothing};
     ghost use Rattle.dbus_stream.specs.Packets.{KeepsPackets};
     ghost use Rattle.dbus_stream.specs.Dropping.{AreInside, HasDropped};
     ghost use Rattle.dbus_stream.specs.Passing.{ReadsToSkip, SkipAnswers};
     ghost use Rattle.dbus_stream.specs.Steps.{TakesAll, Stops, Drops, Fills, Calls};
+    ghost use Rattle.dbus_stream.specs.LookingAhead.{DropsKept, HasAhead, IsFar, StandsBefore};
 
     /// A reader of what the source gives to a taker that holds nothing. It has read nothing yet,
     /// and makes at most `reads` reads in its life, the one that finds the end of the input among
@@ -67,12 +77,14 @@ impl<R: Source, T: Taker, B: Buffer> Reader<R, T, B> {
             taker,
             held: 0,
             buffer,
+            put: None,
             start: 0,
             end: 0,
             done: 0,
             reads: 0,
             most_reads: reads,
             ended: false,
+            packed: false,
             stopped: None,
         }
     }
@@ -234,6 +246,69 @@ impl<R: Source, T: Taker, B: Buffer> Reader<R, T, B> {
         }
     }
 
+    /// All that was kept counts as done.
+    pub(crate) fn drop_kept(&mut self)
+        ensures drops { DropsKept self.old self.new }
+        ensures unread { ReadsNothing T.known self.old self.new }
+    {
+        self.done += self.held + (self.end - self.start) as u64;
+        self.held = 0;
+        self.start = self.end;
+    }
+
+    /// Reads on until so many bytes are there, or the input ends. What is read is put behind the
+    /// bytes that are there, and counts as done.
+    ///
+    /// `TooManyReads`: as many reads were made as it may make. `Device`: a read failed. `Memory`:
+    /// an allocation failed. What was read is there then.
+    pub(crate) fn read_ahead(&mut self, far: usize, ahead: &mut Vec<u8, A>) -> Result<(), ReadFault>
+        requires drained { part_of self.old ≡ [] }
+        ensures ahead { HasAhead T.known R.left R.calls far ahead.old.items ahead.new.items
+            self.old self.new }
+        ensures far { IsFar far ahead.new.items self.new result }
+        ensures failed { DeviceCounts (R.failures (source_of self.old))
+            (R.failures (source_of self.new)) result }
+        ensures same_reference { R.reference (source_of self.new) ≡
+            R.reference (source_of self.old) }
+        ensures packets { KeepsPackets R.packets R.packet self.old self.new }
+    {
+        'reading: while ahead.len() < far {
+            if self.ended {
+                return Ok(());
+            }
+            if self.reads >= self.most_reads {
+                return Err(ReadFault::TooManyReads);
+            }
+            if ahead.reserve(ROOM).is_err() {
+                return Err(ReadFault::Memory);
+            }
+            match self.fill() {
+                Ok(()) => {}
+                Err(DeviceFault) => return Err(ReadFault::Device),
+            }
+            match ahead.extend_from_slice(self.part()) {
+                Ok(()) => {}
+                Err(AllocError) => unreachable!(),
+            }
+            let count = self.part().len() as u64;
+            self.skip(count);
+        }
+        Ok(())
+    }
+
+    /// These bytes, which counted as done, are what is left of the buffer.
+    pub(crate) fn stand_before(&mut self, bytes: Vec<u8, A>)
+        requires counted { length bytes.items ≤ done_of self.old }
+        requires drained { part_of self.old ≡ [] }
+        ensures { StandsBefore bytes.items self.old self.new }
+    {
+        let count = bytes.len();
+        self.put = Some(bytes);
+        self.done -= count as u64;
+        self.start = 0;
+        self.end = count;
+    }
+
     /// The packet of the bytes that were read last, if they were of one.
     pub(crate) fn packet(&self) -> Option<Packet>
         ensures { result ≡ R.packet (source_of self.now) }
@@ -245,7 +320,16 @@ impl<R: Source, T: Taker, B: Buffer> Reader<R, T, B> {
     pub(crate) fn part(&self) -> &[u8]
         ensures { result.now ≡ part_of self.now }
     {
-        self.buffer.part(self.start, self.end)
+        self.bytes(self.start, self.end)
+    }
+
+    /// The bytes of the buffer, or those that were put in their place, from `start` up to `end`.
+    pub(crate) fn bytes(&self, start: usize, end: usize) -> &[u8]
+        requires in_order { start ≤ end }
+        requires within { end ≤ length (room_of self.now) }
+        ensures { result.now ≡ slice_range (room_of self.now) start end }
+    {
+        bytes_between(&self.put, &self.buffer, start, end)
     }
 
     // It returns the fault from then on.
@@ -257,8 +341,8 @@ impl<R: Source, T: Taker, B: Buffer> Reader<R, T, B> {
         self.stopped = Some(fault);
     }
 
-    // Passes over so many bytes of what is left of the buffer.
-    fn skip(&mut self, count: u64)
+    /// Passes over so many bytes of what is left of the buffer.
+    pub(crate) fn skip(&mut self, count: u64)
         requires { count ≤ length (part_of self.old) }
         ensures drops { Drops count self.old self.new }
         ensures unread { ReadsNothing T.known self.old self.new }
@@ -278,7 +362,7 @@ impl<R: Source, T: Taker, B: Buffer> Reader<R, T, B> {
         ensures no_device { DeviceCounts (R.failures (source_of self.old))
             (R.failures (source_of self.new)) result }
     {
-        let piece = self.buffer.part(self.start, self.end);
+        let piece = bytes_between(&self.put, &self.buffer, self.start, self.end);
         let mut given = None;
         let count = match self.taker.take_piece(self.held, piece, &mut given) {
             Ok(count) => count,
@@ -299,8 +383,10 @@ impl<R: Source, T: Taker, B: Buffer> Reader<R, T, B> {
         Ok(given)
     }
 
-    // One more read, into the buffer, which has nothing left.
-    fn fill(&mut self) -> Result<(), DeviceFault>
+    /// One more read, into the buffer, which has nothing left.
+    ///
+    /// `DeviceFault`: the read failed.
+    pub(crate) fn fill(&mut self) -> Result<(), DeviceFault>
         requires drained { part_of self.old ≡ [] }
         requires more { reads_of self.old < most_reads_of self.old }
         ensures fills { Fills R.left self.old self.new result }
@@ -314,9 +400,35 @@ impl<R: Source, T: Taker, B: Buffer> Reader<R, T, B> {
         self.reads += 1;
         self.start = 0;
         self.end = 0;
+        self.put = None;
         let count = self.buffer.read_from(&mut self.source)?;
         self.end = count;
         self.ended = count == 0;
+        self.packed = is_packed(self.packed, Source::packet(&self.source));
         Ok(())
+    }
+}
+
+// Whether a read gave bytes of a packet, after one more, whose bytes are of this one.
+fn is_packed(packed: bool, packet: Option<Packet>) -> bool
+    ensures { result ≡ is_packed packed packet }
+{
+    packed || packet.is_some()
+}
+
+// Bytes of a buffer, or those that were put in their place, from `start` up to `end`.
+fn bytes_between<'a, B: Buffer, A: Allocator>(
+    put: &'a Option<Vec<u8, A>>,
+    buffer: &'a B,
+    start: usize,
+    end: usize,
+) -> &'a [u8]
+    requires in_order { start ≤ end }
+    requires within { end ≤ length (put_or put.now (B.room.bytes buffer.now)) }
+    ensures { result.now ≡ slice_range (put_or put.now (B.room.bytes buffer.now)) start end }
+{
+    match put {
+        Some(bytes) => &bytes.as_slice()[start..end],
+        None => buffer.part(start, end),
     }
 }

@@ -1,7 +1,7 @@
-use Rattle.std.proofs.Common.{rules, ◌≡◌, ◌-◌, ◌≤◌, ◌++◌, false, arith, refl, sym, ap, ◌∙◌, length}
+use Rattle.std.proofs.Common.{◌≡◌, ◌-◌, ◌≤◌, ◌++◌, false, arith, refl, sym, ap, ◌∙◌, length}
 use Rattle.std.specs.List.{slice_range}
 use Rattle.dbus_stream.specs.Gathering.{GathererState, under_way}
-use Rattle.dbus_stream.specs.RawReading.{whole_or}
+use Rattle.dbus_stream.specs.RawReading.{buffered, whole_or}
 use Rattle.dbus_stream.proofs.CutLaws.{no_part, kept_again, part_size}
 use Rattle.dbus_stream.proofs.raw_reader.RawReader.give.Goals as goal
 
@@ -10,7 +10,7 @@ returns-clause-gives g c =
     let raw = c.args.self.now in
     let r = raw.reader in
     let held = r.taker.held in
-    let bytes = r.buffer.bytes in
+    let bytes = buffered raw in
     let n = c.lent-lent.result in
     let n_is = c.lent-lent.ensures in
     let whole : r.taker.whole ≡ false = sym c.is_whole.ensures ∙ c.if-is_whole.false in
@@ -19,7 +19,8 @@ returns-clause-gives g c =
     let all = slice_range bytes (r.start - n) r.end in
     let ordered = r.in_order in
     let before = raw.lent_before in
-    let room : r.start ≤ length bytes = search rules in
+    let inside = r.in_buffer in
+    let room : r.start ≤ length bytes = omega (arith, ordered, inside) in
     let size = part_size bytes (r.start - r.taker.lent) r.start (omega arith) room in
     let counted = raw.lent_counted in
     let lent_is = ap (λ b. length (whole_or b held lent)) whole in
@@ -38,13 +39,13 @@ returns-clause-gives g c =
 pub returns-clause-unread : goal.returns-clause-unread
 returns-clause-unread g c =
     let r = c.args.self.now.reader in
-    let bytes = r.buffer.bytes in
+    let bytes = buffered c.args.self.now in
     let n = c.lent-lent.result in
     let n_is = c.lent-lent.ensures in
     let ordered = r.in_order in
     let before = c.args.self.now.lent_before in
     let counted = c.args.self.now.lent_counted in
-    let room : r.end ≤ length bytes = search rules in
+    let room : r.end ≤ length bytes = r.in_buffer in
     let size = part_size bytes r.start r.end ordered room in
     let more = part_size bytes (r.start - n) r.end (omega (arith, ordered)) room in
     record {
@@ -55,4 +56,5 @@ returns-clause-unread g c =
       ended = refl;
       read = omega (arith, before, counted, n_is, size, more, ordered);
       last = refl;
+      packed = refl;
     }

@@ -5,6 +5,7 @@ use Rattle.dbus_value_model.specs.declared.limits.Limits.{Limits}
 use Rattle.dbus_stream.specs.Dropping.{AreInside, HasDropped}
 use Rattle.dbus_stream.specs.Gathering.{GathererState, under_way}
 use Rattle.dbus_stream.specs.RawReading.{limits_of, stopped_of}
+use Rattle.dbus_stream.specs.Rooms.{put_or}
 use Rattle.dbus_stream.proofs.PacketSteps.{still}
 use Rattle.dbus_stream.proofs.PassSteps.{after_pass, inside_held, passing, refusal_is, refusal_of}
 use Rattle.dbus_stream.proofs.SizeSteps.{inside_same, witness}
@@ -56,7 +57,7 @@ invariant_of-self-4 g c =
       lent_alone = λ some. absurd (omega (arith, unlent, some));
       held_counted = c.pass_over.ensures.nothing.1 ∙ sym (ap (λ (t : GathererState). length (under_way t.whole t.held)) fresh);
       dropped_refused = a.refused;
-      dropped_alone = λ some. ap (λ (t : GathererState). under_way t.whole t.held ++ slice_range new.buffer.bytes new.start new.end) fresh ∙ a.alone some;
+      dropped_alone = λ some. ap (λ (t : GathererState). under_way t.whole t.held ++ slice_range (put_or new.put new.buffer.bytes) new.start new.end) fresh ∙ a.alone some;
       dropped_counted = c.pass_over.ensures.counted;
       dropped_inside = λ gone h. subst (λ (l : Limits). AreInside l gone) (same ∙ sym (ap (λ (t : GathererState). t.limits) fresh)) (a.inside gone h);
     }
@@ -71,11 +72,11 @@ returns-clause-passes g c =
       refusal.1,
       λ gone has.
           passing old _
-          (record { nothing = record { source = refl; reads = refl; most_reads = refl; limits = ap (λ (t : GathererState). t.limits) c.let_go.ensures; ended = refl; read = refl; last = refl }; part = refl; held = refl; done = refl; stopped = refl; taker = c.let_go.ensures })
+          (record { nothing = record { source = refl; reads = refl; most_reads = refl; limits = ap (λ (t : GathererState). t.limits) c.let_go.ensures; ended = refl; read = refl; last = refl; packed = refl }; part = refl; held = refl; done = refl; stopped = refl; taker = c.let_go.ensures })
           gone c.limits-limits.result same g.R.Source.left g.R.Source.calls _ c.pass_over.ensures.nothing.0 c.pass_over.result
           (c.pass_over.ensures.passes (gone ++ under_way old.reader.taker.whole old.reader.taker.held) (subst (λ (l : List ℕ). HasDropped c.drop_bytes.new.self (gone ++ l)) c.under_way.ensures.bytes (c.drop_bytes.ensures.dropped gone has))),
     )
 
 pub returns-clause-packets : goal.returns-clause-packets
 returns-clause-packets g c = λ all h.
-    c.pass_over.ensures.packets all (still g.R.Source.packets g.R.Source.packet c.args.self.now.reader _ refl refl refl all h)
+    c.pass_over.ensures.packets all (still g.R.Source.packets g.R.Source.packet c.args.self.now.reader _ refl refl refl refl all h)

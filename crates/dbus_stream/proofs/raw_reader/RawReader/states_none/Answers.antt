@@ -17,7 +17,7 @@ drop_bytes-requires-2 g c =
     let both = length-append w.0 c.under_way.result.now in
     let held = ap length c.under_way.ensures.bytes in
     let part = ap length c.part.ensures in
-    let few = few_left r (let room : r.reader.end ≤ length r.reader.buffer.bytes = search rules in room) in
+    let few = few_left r r.reader.in_buffer in
     omega (arith, one, first, both, held, part, few)
 
 pub returns-in-Unstated : goal.returns-in-Unstated

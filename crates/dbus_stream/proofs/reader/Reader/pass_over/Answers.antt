@@ -14,11 +14,11 @@ use Rattle.dbus_stream.proofs.reader.Reader.pass_over.Goals.{After-skip-in-readi
 pub reading-init : goal.reading-init
 reading-init g c = (
   λ gone has. skip_held g.T.Taker.known c.args.limits gone g.R.Source.left g.R.Source.calls c.args.self.now _ c.args.refused.now has (c.requires.inside gone has)
-      (record { source = refl; reads = refl; most_reads = refl; limits = refl; ended = refl; read = omega arith; last = refl }) refl refl refl refl refl,
+      (record { source = refl; reads = refl; most_reads = refl; limits = refl; ended = refl; read = omega arith; last = refl; packed = refl }) refl refl refl refl refl,
   c.requires.counted,
   refl,
   refl,
-  still g.R.Source.packets g.R.Source.packet c.args.self.now _ refl (omega arith) refl,
+  still g.R.Source.packets g.R.Source.packet c.args.self.now _ refl (omega arith) refl refl,
 )
 
 -- ---- the message is all there
@@ -56,7 +56,7 @@ returns-in-There-clause-passes g c = λ gone has.
     let s = states g there gone has in
     let drops = subst (λ (n : ℕ). Drops (c.in-There.size - n) c.reading.self c.skip.new.self) h.dropped.count c.skip.ensures.drops in
     skip_size g.T.Taker.known c.args.limits gone g.R.Source.left g.R.Source.calls c.args.self.now c.reading.self c.skip.new.self c.reading.refused h c.in-There.size s.0 s.1 s.2 _ drops c.skip.ensures.unread
-    (record { source = refl; reads = refl; most_reads = refl; limits = refl; ended = refl; read = refl; last = refl }) refl refl refl c.nothing.result c.nothing.ensures
+    (record { source = refl; reads = refl; most_reads = refl; limits = refl; ended = refl; read = refl; last = refl; packed = refl }) refl refl refl c.nothing.result c.nothing.ensures
 
 pub returns-in-There-clause-nothing : goal.returns-in-There-clause-nothing
 returns-in-There-clause-nothing g c =
@@ -196,7 +196,7 @@ returns-in-Err-clause-counted g c =
 pub returns-in-There-clause-packets : goal.returns-in-There-clause-packets
 returns-in-There-clause-packets g c =
     let skipped = unread g.R.Source.packets g.R.Source.packet g.T.Taker.known c.args.self.now c.reading.self c.skip.new.self c.reading.invariant.4 c.skip.ensures.unread in
-    λ all h. still g.R.Source.packets g.R.Source.packet c.skip.new.self _ refl refl refl all (skipped all h)
+    λ all h. still g.R.Source.packets g.R.Source.packet c.skip.new.self _ refl refl refl refl all (skipped all h)
 
 pub returns-in-Unstated-clause-packets : goal.returns-in-Unstated-clause-packets
 returns-in-Unstated-clause-packets g c =

@@ -1,0 +1,281 @@
+-- The steps of looking ahead, and of going on behind a message that is refused.
+use Rattle.std.proofs.Common.{◌≡◌, ℕ, ◌+◌, ◌-◌, ◌*◌, ◌^◌, ◌<◌, ◌≤◌, List, [], ◌++◌, Bool, true, false, None, Some, Option, Result, Ok, Err, length, take, drop, min, refl, sym, ap, ◌∙◌, subst, arith, append_assoc, append-nil, length-append, inl, inr}
+use Rattle.std.specs.Prelude.{nat_eq, ◌⊎◌}
+use Rattle.std.specs.List.{slice_range}
+use Rattle.std.proofs.Math.Seq.{drop-length, take-length}
+use Rattle.std.proofs.lemmas.Bool.{cases_lt, false≢true}
+use Rattle.std.proofs.lemmas.List.{nil_from_length, take-append-le, take_min}
+use Rattle.dbus_device.specs.Packets.{Packets, PacketsAfter}
+use Rattle.dbus_device.specs.declared.packet.Packet.{Packet}
+use Rattle.dbus_value_model.specs.declared.limits.Limits.{Limits}
+use Rattle.dbus_resync.specs.Search.{Searches}
+use Rattle.dbus_resync.specs.declared.found.Found.{Found}
+use Rattle.dbus_stream.specs.Gathering.{GathererState, gathering, fresh, under_way}
+use Rattle.dbus_stream.specs.GoingOn.{GoesOn, GoesTo, IsFoundIn, Looks, LooksAhead, MayFollow, ReadsToGoOn, StaysThere}
+use Rattle.dbus_stream.specs.LookingAhead.{HasAhead, IsFar, ReadsTo, StandsBefore}
+use Rattle.dbus_stream.specs.Next.{ReadsNothing, ReadsWhile}
+use Rattle.dbus_stream.specs.Packets.{HasPackets, KeepsPackets}
+use Rattle.dbus_stream.specs.RawReading as raw
+use Rattle.dbus_stream.specs.Reading.{limits_of, source_of, part_of, done_of, read_of, last_of, reads_of, most_reads_of, is_ended, packed_of, stopped_of}
+use Rattle.dbus_stream.specs.Steps.{Calls, Drops, FillsBy}
+use Rattle.dbus_stream.specs.Taking.{Taking}
+use Rattle.dbus_stream.specs.contracts.buffer.LargeBuffer.TheImpl.{ghosts}
+use Rattle.dbus_stream.specs.declared.buffer.Buffer.{Ghosts}
+use Rattle.dbus_stream.specs.declared.buffer.Large.{Large}
+use Rattle.dbus_stream.specs.declared.raw_reader.RawReader.{RawReader}
+use Rattle.dbus_stream.specs.declared.read_fault.ReadFault.{ReadFault}
+use Rattle.dbus_stream.specs.declared.read_fault.ReadFault.TheVariants.{Memory, Format, Device, TooManyReads}
+use Rattle.dbus_stream.specs.declared.reader.Reader.{Reader}
+use Rattle.dbus_stream.proofs.NextSteps.{gave, reads_from, reads_none, reads_one, reads_put, reads_still}
+use Rattle.dbus_stream.proofs.PassSteps.{stands}
+
+module _ {R T B A G : Type 0} {b : Ghosts B} (k : Taking T G) (left : R → Option (List ℕ)) (calls : R → ℕ) (far : ℕ) (front : List ℕ) (old : Reader R T B A b) where
+  -- fewer bytes are there
+  abbrev IsShort : List ℕ → Type 0
+  IsShort before = length (front ++ before) < far
+
+  -- what was read so far
+  pub record HasLooked (bytes : List ℕ) (mid : Reader R T B A b) : Type 0 where
+    pub has : HasAhead k left calls far front bytes old mid
+    -- each read gave a byte
+    pub paid : is_ended mid ≡ false → has.reads.count ≤ length has.reads.bytes
+
+  pub looked_none : part_of old ≡ [] → HasLooked front old
+  looked_none drained = record {
+    has = record {
+      reads = reads_none k IsShort left calls old;
+      bytes_are = sym (append-nil front);
+      taker = refl;
+      held = refl;
+      drained = drained;
+      done = omega arith;
+      stopped = refl;
+    };
+    paid = λ open_. omega arith;
+  }
+
+  module _ (bytes : List ℕ) (mid filled : Reader R T B A b) (h : HasLooked bytes mid) (short : length bytes < far) (open_ : is_ended mid ≡ false) (c : Calls calls mid filled) (came : List ℕ) (f : FillsBy left came mid filled) where
+    abbrev reads_more : ReadsTo k left calls far front old filled
+    reads_more = reads_one k IsShort left calls old mid filled h.has.reads open_ (h.paid open_) (subst (λ (l : List ℕ). length l < far) h.has.bytes_are short) c came f
+
+    -- one more read
+    pub looked_more : is_ended filled ≡ nat_eq (length came) 0 → (count : ℕ) → count ≡ length (part_of filled) → (new : Reader R T B A b) → Drops count filled new → ReadsNothing k filled new
+        → (bytes_new : List ℕ) → bytes_new ≡ bytes ++ part_of filled → HasLooked bytes_new new
+    looked_more ended count size new d n bytes_new is = record {
+      has = record {
+        reads = reads_still k IsShort left calls old filled new reads_more n;
+        bytes_are = is ∙ (λ i. h.has.bytes_are i ++ f.buffers.left i) ∙ append_assoc front h.has.reads.bytes came;
+        taker = d.buffers.taker ∙ (f.buffers.taker ∙ h.has.taker);
+        held = d.buffers.held ∙ (f.buffers.held ∙ h.has.held);
+        drained = d.buffers.left ∙ (ap (λ (n : ℕ). drop n (part_of filled)) size ∙ drop-length (part_of filled));
+        done = (let all = length-append h.has.reads.bytes came in let part = ap length f.buffers.left in omega (arith, d.done, c.done, h.has.done, size, all, part));
+        stopped = d.stopped ∙ (c.stopped ∙ h.has.stopped);
+      };
+      paid = λ more.
+          let paid = h.paid open_ in
+          let some = gave came (is_ended filled) ended (sym n.ended ∙ more) in
+          let all = length-append h.has.reads.bytes came in
+          omega (arith, paid, some, all);
+    }
+
+    -- or one that failed
+    pub looked_failed : came ≡ [] → HasAhead k left calls far front bytes old filled
+    looked_failed none = record {
+      reads = reads_more;
+      bytes_are = h.has.bytes_are ∙ ap (λ (l : List ℕ). front ++ l) (sym (append-nil h.has.reads.bytes) ∙ ap (λ (l : List ℕ). h.has.reads.bytes ++ l) (sym none));
+      taker = f.buffers.taker ∙ h.has.taker;
+      held = f.buffers.held ∙ h.has.held;
+      drained = f.buffers.left ∙ none;
+      done = (let all = length-append h.has.reads.bytes came in let no = ap length none in omega (arith, c.done, h.has.done, all, no));
+      stopped = c.stopped ∙ h.has.stopped;
+    }
+
+module _ {R T B A : Type 0} {b : Ghosts B} (packets : R → Option Packets) (packet : R → Option Packet) where
+  -- no byte that was read is of a packet
+  pub unpacked : (old new : Reader R T B A b) → source_of new ≡ source_of old → read_of new ≡ read_of old → packed_of new ≡ packed_of old → last_of new ≤ read_of new → packed_of new ≡ false → KeepsPackets packets packet old new
+  unpacked old new source read packed few none all h =
+      let before = sym packed ∙ none in
+      record {
+        left = subst (λ (s : R). PacketsAfter (read_of new) (Some all) (packets s)) (sym source) (subst (λ (n : ℕ). PacketsAfter n (Some all) (packets (source_of old))) (sym read) h.left);
+        first = 0;
+        told = λ i from inside.
+            let some : 0 < read_of old = omega (arith, inside, read) in
+            let last = h.some some in
+            let told = h.told (read_of old - 1) (omega (arith, last)) (omega (arith, some)) in
+            let none_last = h.unpacked before (read_of old - 1) (omega (arith, some)) in
+            h.unpacked before i (omega (arith, inside, read)) ∙ (sym none_last ∙ (told ∙ ap packet (sym source)));
+        last = omega (arith, few);
+        some = λ some. some;
+        unpacked = λ _ i inside. h.unpacked before i (omega (arith, inside, read));
+      }
+
+-- all bytes
+pub whole_part : (bytes : List ℕ) (count : ℕ) → count ≡ length bytes → slice_range bytes 0 count ≡ bytes
+whole_part bytes count is =
+    let all : count - 0 ≡ length bytes = omega (arith, is) in
+    ap (λ (n : ℕ). take n bytes) all ∙ take-length bytes
+
+-- ---- a reader of raw messages
+
+-- the bytes of the window are the same, whatever follows
+pub found_in : (limits : Limits) (window effort looked : ℕ) (ended : Bool) (w part : List ℕ) (found : Found) → part ≡ w → looked ≡ min window (length part) → (window ≤ length w) ⊎ (ended ≡ true)
+    → Searches limits (take looked part) effort found → IsFoundIn limits window effort ended w found
+found_in limits window effort looked ended w part found same size enough s = λ more follows.
+    let all : take looked part ≡ take window w = ap (λ (n : ℕ). take n part) size ∙ (take_min window part ∙ ap (take window) same) in
+    let whole : take window (w ++ more) ≡ take window w = elim enough [
+      | inl wide ↦ take-append-le window w more wide
+      | inr end ↦ ap (take window) (ap (λ (l : List ℕ). w ++ l) (follows end) ∙ append-nil w)
+    ] in
+    subst (λ (l : List ℕ). Searches limits l effort found) (all ∙ sym whole) s
+
+module _ {R A : Type 0} (left : R → Option (List ℕ)) (calls : R → ℕ) where
+  -- what a call read
+  abbrev ReadsUpTo : (window : ℕ) → RawReader R A → Reader R GathererState Large A ghosts → Type 0
+  ReadsUpTo window old new = ReadsWhile gathering (λ before. (length (raw.kept old) < window) × (length (raw.kept old ++ before) < 2 * window)) left calls old.reader new
+
+  -- what is there is enough: nothing is read
+  abbrev pub there_reads : (window : ℕ) (old : RawReader R A) (new : Reader R GathererState Large A ghosts) → ReadsNothing gathering old.reader new → ReadsUpTo window old new
+  there_reads window old new n =
+      let Needed : List ℕ → Type 0 = λ before. (length (raw.kept old) < window) × (length (raw.kept old ++ before) < 2 * window) in
+      reads_still gathering Needed left calls old.reader old.reader new (reads_none gathering Needed left calls old.reader) n
+
+  -- nothing is read after that
+  abbrev pub goes_reads : (window : ℕ) (old : RawReader R A) (mid new : Reader R GathererState Large A ghosts) → ReadsUpTo window old mid → ReadsNothing gathering mid new → ReadsUpTo window old new
+  goes_reads window old mid new r n = reads_still gathering (λ before. (length (raw.kept old) < window) × (length (raw.kept old ++ before) < 2 * window)) left calls old.reader mid new r n
+
+  module _ (window far : ℕ) (old : RawReader R A) where
+    -- as many more are read as are wanted
+    pub ahead_reads : (front : List ℕ) → front ≡ raw.kept old → far ≤ 2 * window → (window ≤ length front → far ≡ 0) → (mid last new : Reader R GathererState Large A ghosts) → ReadsNothing gathering old.reader mid
+        → (bytes : List ℕ) → HasAhead gathering left calls far front bytes mid last → StandsBefore bytes last new → (r : ReadsUpTo window old new) × (bytes ≡ raw.kept old ++ r.bytes)
+    ahead_reads front is no_wider enough mid last new n bytes h s =
+        let Wanted : List ℕ → Type 0 = λ before. length (front ++ before) < far in
+        let Needed : List ℕ → Type 0 = λ before. (length (raw.kept old) < window) × (length (raw.kept old ++ before) < 2 * window) in
+        let needed : (before : List ℕ) → Wanted before → Needed before = λ before wanted.
+        let front_is = ap length is in
+        let all = ap (λ (l : List ℕ). length (l ++ before)) is in (
+          elim (cases_lt (length front) window) [
+            | inl less ↦ omega (arith, less, front_is)
+            | inr more ↦ absurd (let none = enough more in omega (arith, none, wanted))
+          ],
+          omega (arith, wanted, no_wider, all),
+        ) in
+        let r = reads_from gathering Needed left calls Wanted old.reader mid last n needed h.reads in (
+          reads_put gathering Needed left calls bytes old.reader last new r s,
+          h.bytes_are ∙ ap (λ (l : List ℕ). l ++ h.reads.bytes) is,
+        )
+
+module _ {R A : Type 0} where
+  -- what nothing was read for
+  pub unread_both : (old mid new : Reader R GathererState Large A ghosts) → ReadsNothing gathering old mid → ReadsNothing gathering mid new → ReadsNothing gathering old new
+  unread_both old mid new m n = record {
+    source = n.source ∙ m.source;
+    reads = n.reads ∙ m.reads;
+    most_reads = n.most_reads ∙ m.most_reads;
+    limits = n.limits ∙ m.limits;
+    ended = n.ended ∙ m.ended;
+    read = n.read ∙ m.read;
+    last = n.last ∙ m.last;
+    packed = n.packed ∙ m.packed;
+  }
+
+  module _ (w : List ℕ) (old new : RawReader R A) where
+    -- all is in the buffer
+    pub stays_put : part_of new.reader ≡ w → new.reader.taker ≡ fresh (raw.limits_of old) → raw.done_of new ≡ raw.done_of old → raw.stopped_of new ≡ raw.stopped_of old → StaysThere w old new
+    stays_put part taker done stopped =
+        let s = stands (raw.limits_of old) new taker in
+        record { kept = s.0 ∙ part; done = done; lent = λ _. s.1; stopped = stopped }
+
+    pub stays_ahead : (window : ℕ) → LooksAhead w old new window → StaysThere w old new
+    stays_ahead window l = stays_put l.part l.taker l.done l.stopped
+
+    -- an error leaves all there
+    pub fails_ahead : (window effort : ℕ) (fault : ReadFault) → Looks w old new window (Err fault) → GoesOn w old new window effort (Err fault)
+    fails_ahead window effort Memory l = l
+    fails_ahead window effort (Format fault) l = absurd l
+    fails_ahead window effort Device l = l
+    fails_ahead window effort TooManyReads l = l
+
+  -- nothing more is read
+  pub looks_there : (window : ℕ) (old new : RawReader R A) → old.reader.held ≡ 0 → (window ≤ length (part_of old.reader)) ⊎ (raw.is_ended old ≡ true) → part_of new.reader ≡ part_of old.reader → new.reader.taker ≡ fresh (raw.limits_of old)
+      → raw.done_of new ≡ raw.done_of old → raw.stopped_of new ≡ raw.stopped_of old → raw.is_ended new ≡ raw.is_ended old → new.refused.dropped ≡ 0 → LooksAhead (raw.kept old ++ []) old new window
+  looks_there window old new zero enough part taker done stopped ended nothing =
+      let held = under_way old.reader.taker.whole old.reader.taker.held in
+      let none : held ≡ [] = nil_from_length held (sym old.held_counted ∙ zero) in
+      let all : raw.kept old ++ [] ≡ part_of old.reader = append-nil (raw.kept old) ∙ ap (λ (l : List ℕ). l ++ part_of old.reader) none in
+      record {
+        part = part ∙ sym all;
+        taker = taker;
+        done = done;
+        stopped = stopped;
+        nothing = nothing;
+        enough = elim enough [
+          | inl wide ↦ inl (subst (λ (l : List ℕ). window ≤ length l) (sym all) wide)
+          | inr end ↦ inr (ended ∙ end)
+        ];
+      }
+
+  -- more was read, or not
+  module _ (left : R → Option (List ℕ)) (calls : R → ℕ) (window far : ℕ) (old new : RawReader R A) (front bytes : List ℕ) (is : front ≡ raw.kept old) (wide : length front < window → window ≤ far) (mid last : Reader R GathererState Large A ghosts)
+      (taker : mid.taker ≡ fresh (raw.limits_of old)) (mid_done : done_of mid ≡ done_of old.reader + old.reader.held + length (part_of old.reader)) (mid_stopped : stopped_of mid ≡ stopped_of old.reader)
+      (h : HasAhead gathering left calls far front bytes mid last) where
+    -- no more bytes are put back than counted as done
+    pub counted_ahead : length bytes ≤ done_of last
+    counted_ahead =
+        let held = under_way old.reader.taker.whole old.reader.taker.held in
+        let all = ap length (h.bytes_are ∙ ap (λ (l : List ℕ). l ++ h.reads.bytes) is) in
+        let both = length-append (raw.kept old) h.reads.bytes in
+        let kept = length-append held (part_of old.reader) in
+        omega (arith, all, both, kept, old.held_counted, mid_done, h.done)
+
+    module _ (s : StandsBefore bytes last new.reader) (nothing : new.refused.dropped ≡ 0) (w : List ℕ) (w_is : bytes ≡ w) where
+      ahead_done : raw.done_of new ≡ raw.done_of old
+      ahead_done =
+          let held = under_way old.reader.taker.whole old.reader.taker.held in
+          let all = ap length (h.bytes_are ∙ ap (λ (l : List ℕ). l ++ h.reads.bytes) is) in
+          let both = length-append (raw.kept old) h.reads.bytes in
+          let kept = length-append held (part_of old.reader) in
+          omega (arith, all, both, kept, old.held_counted, mid_done, h.done, s.done)
+
+      ahead_taker : new.reader.taker ≡ fresh (raw.limits_of old)
+      ahead_taker = s.taker ∙ (h.taker ∙ taker)
+
+      ahead_stays : StaysThere w old new
+      ahead_stays = stays_put w old new (s.left ∙ w_is) ahead_taker ahead_done (s.stopped ∙ (h.stopped ∙ mid_stopped))
+
+      -- so many are there
+      ahead_wide : far ≤ length bytes → window ≤ length w
+      ahead_wide there =
+          let size = ap length w_is in
+          let all = ap length h.bytes_are in
+          let both = length-append front h.reads.bytes in
+          elim (cases_lt (length front) window) [
+            | inl less ↦ (let more = wide less in omega (arith, more, there, size))
+            | inr more ↦ omega (arith, more, all, both, size)
+          ]
+
+      pub ahead_looks : (res : Result (Unit {0}) ReadFault) → IsFar far bytes last res → Looks w old new window res
+      ahead_looks (Ok x) far_enough = record {
+        part = s.left ∙ w_is;
+        taker = ahead_taker;
+        done = ahead_done;
+        stopped = s.stopped ∙ (h.stopped ∙ mid_stopped);
+        nothing = nothing;
+        enough = elim far_enough [ inl there ↦ inl (ahead_wide there) | inr end ↦ inr (s.ended ∙ end) ];
+      }
+      ahead_looks (Err Memory) far_enough = ahead_stays
+      ahead_looks (Err (Format fault)) far_enough = absurd far_enough
+      ahead_looks (Err Device) far_enough = ahead_stays
+      ahead_looks (Err TooManyReads) far_enough = (ahead_stays, s.reads ∙ (far_enough.0 ∙ sym s.most_reads), s.ended ∙ far_enough.1)
+
+  -- the reader goes to the next message
+  pub goes_to : (window offset : ℕ) (w : List ℕ) (old mid new : RawReader R A) → LooksAhead w old mid window → offset < length w → part_of new.reader ≡ drop offset (part_of mid.reader) → new.reader.taker ≡ mid.reader.taker
+      → raw.done_of new ≡ raw.done_of mid + offset → raw.stopped_of new ≡ None → GoesTo w old new offset
+  goes_to window offset w old mid new l inside part taker done stopped =
+      let s = stands (raw.limits_of old) new (taker ∙ l.taker) in
+      record {
+        inside = inside;
+        kept = s.0 ∙ (part ∙ ap (drop offset) l.part);
+        done = done ∙ ap (λ (n : ℕ). n + offset) l.done;
+        lent = s.1;
+        stopped = stopped;
+      }
