@@ -1,0 +1,4 @@
+mod Outcomes
+mod TakeSteps
+mod ReadSteps
+mod GoSteps

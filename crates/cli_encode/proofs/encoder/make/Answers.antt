@@ -1,0 +1,31 @@
+use Rattle.std.proofs.Common.{Err, ap, sym, subst, ◌∙◌, List, ℕ}
+use Rattle.dbus_value_model.specs.declared.order.Order.{Order}
+use Rattle.dbus_message_model.specs.Messages.{message_bytes}
+use Rattle.dbus_message_model.specs.MessageViews.{message_tree}
+use Rattle.dbus_json_lines.specs.JsonLines.{IsLineOf}
+use Rattle.cli_encode.proofs.TakeSteps.{not_blank, within}
+use Rattle.cli_encode.proofs.encoder.make.Goals as goal
+
+pub returns-in_ok-encode_into-in-Ok : goal.returns-in_ok-encode_into-in-Ok
+returns-in_ok-encode_into-in-Ok g c = λ bytes fits.
+    let line = within c.args.encoding.most bytes c.args.line c.in-Some.line c.in-Some.is fits in
+    let tree = message_tree c.in-Ok.message in (
+      line.1,
+      not_blank c.is_blank.result c.in-Some.line.now bytes line.0 c.if-is_blank.false c.is_blank.ensures,
+      record {
+        order = c.in-Ok.order;
+        message = tree;
+        spelled = subst (λ (l : List ℕ). IsLineOf c.args.encoding.limits c.args.serial l c.in-Ok.order tree) line.0 c.in-Ok.ensures.ok;
+        encoded = c.in_ok-encode_into-in-Ok.ensures.written ∙ ap (λ (o : Order). message_bytes o tree) c.order_in.ensures;
+      },
+    )
+
+pub returns-in-Err-Unspelled : goal.returns-in-Err-Unspelled
+returns-in-Err-Unspelled g c = λ bytes fits.
+    let line = within c.args.encoding.most bytes c.args.line c.in-Some.line c.in-Some.is fits in (
+      line.1,
+      not_blank c.is_blank.result c.in-Some.line.now bytes line.0 c.if-is_blank.false c.is_blank.ensures,
+      λ made e.
+          c.in-Err-Unspelled.ensures.refused (ap Err c.in-Err-Unspelled.field-0-is) e.order e.message
+          (subst (λ (l : List ℕ). IsLineOf c.args.encoding.limits c.args.serial l e.order e.message) (sym line.0) e.spelled),
+    )

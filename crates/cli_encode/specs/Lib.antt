@@ -1,0 +1,4 @@
+pub mod Outcomes
+pub mod Running
+pub mod Steps
+pub mod Runs

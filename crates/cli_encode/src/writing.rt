@@ -1,0 +1,60 @@
+//! What the writers get of a line.
+#![tactic(auto)]
+
+ghost use Rattle.std.specs.Prelude.{◌≡◌, IfOk, string_bytes};
+ghost use Rattle.cli_report.specs.Gathering.{Gathers, gathered_bytes};
+ghost use Rattle.cli_encode.specs.Outcomes.{refused_line};
+ghost use Rattle.cli_encode.specs.Running.{TellsLine};
+
+use crate::ending::Stop;
+use crate::reason::LineReason;
+use cli_report::{Cause, OutputBuffer, Page, Unwritten};
+use dbus_stream::{Sink, WrittenOnly, write_all};
+use std::alloc::{AllocError, Allocator};
+
+/// Writes or gathers bytes.
+pub(crate) fn write_bytes<W: Sink>(
+    bytes: &[u8],
+    gathered: &mut OutputBuffer,
+    first: &mut W,
+) -> Result<(), Unwritten>
+    ensures { Gathers W.held W.failures bytes.now (gathered_bytes gathered.old)
+        (gathered_bytes gathered.new) first.old first.new result }
+{
+    let mut page = Page {
+        gathered,
+        first,
+        failed: false,
+    };
+    page.push_bytes(bytes);
+    if page.failed { Err(Unwritten) } else { Ok(()) }
+}
+
+// What is told of a line that is refused.
+fn refused_line<A: Allocator + Copy>(
+    alloc: A,
+    number: u64,
+    reason: LineReason,
+) -> Result<String<A>, AllocError>
+    ensures { IfOk result (λ line. string_bytes line ≡ refused_line number reason) }
+{
+    format!(in alloc; "refused at line {number}: {reason}\n")
+}
+
+/// Tells that the line of this number is refused.
+pub(crate) fn tell_refused<A: Allocator + Copy, E: Sink>(
+    alloc: A,
+    number: u64,
+    reason: LineReason,
+    second: &mut E,
+) -> Result<(), Stop>
+    ensures { TellsLine E.held E.failures (refused_line number reason) second.old second.new result }
+{
+    match refused_line(alloc, number, reason) {
+        Ok(line) => match write_all(second, line.as_bytes()) {
+            Ok(()) => Ok(()),
+            Err(WrittenOnly(_)) => Err(Stop::Untold),
+        },
+        Err(AllocError) => Err(Stop::Cause(Cause::Memory)),
+    }
+}
