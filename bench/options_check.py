@@ -68,7 +68,10 @@ def zsh(command):
     lists = {name: body for name, body in re.findall(r"local -a (\w+)=\(\n(.*?)\n    \)", text, re.S)}
     lists["going"] = re.search(r"local going=(.*)", text)[1]
     body = re.search(rf"^        (?:\w+ \| )*{command}(?: \| \w+)*\)\n(.*?);;", text, re.M | re.S)
-    whole = re.sub(r"\$(options|window|going|selection)", lambda it: lists[it[1]], body[1] if body else "")
+    whole = body[1] if body else ""
+    # A list may name another one.
+    for _ in range(2):
+        whole = re.sub(r"\$(options|limits|window|going|selection)", lambda it: lists[it[1]], whole)
     return set(OPTION.findall(re.sub(r"\[[^]]*\]", "", whole)))
 
 

@@ -8,7 +8,7 @@ from read_cases import read_bytes
 from runs import ORDERS, ask_match, ask_printed, ask_rule, ask_stream, ask_tool
 from streams import ask_message
 
-COMMANDS = ("show", "json", "list", "check", "count", "calls", "swap", "filter")
+COMMANDS = ("show", "json", "list", "check", "count", "calls", "swap", "filter", "encode")
 
 
 def asker_of_messages(decides=False):

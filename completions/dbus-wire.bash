@@ -21,7 +21,7 @@ _dbus_wire_rule() {
 
 _dbus_wire() {
     local word=${COMP_WORDS[COMP_CWORD]} option=${COMP_WORDS[COMP_CWORD-1]}
-    local commands='show json list check count calls swap filter handshake help'
+    local commands='show json list check count calls swap filter encode handshake help'
     local options='--json --explain --max-message --max-array --max-depth --fds --handshake -h --help'
     COMPREPLY=()
     # A redirection names a file, which bash completes.
@@ -86,6 +86,9 @@ _dbus_wire() {
             ;;
         calls)
             COMPREPLY=($(compgen -W "--members --unanswered --errors --slower --keep-going $options" -- "$word"))
+            ;;
+        encode)
+            COMPREPLY=($(compgen -W '--to --keep-going --max-line --max-message --max-array --max-depth --fds -h --help' -- "$word"))
             ;;
         handshake)
             COMPREPLY=($(compgen -W '--side -h --help' -- "$word"))

@@ -14,7 +14,7 @@ function __dbus_wire_rule
     end
 end
 
-set -l commands show json list check count calls swap filter handshake help
+set -l commands show json list check count calls swap filter encode handshake help
 
 complete -c dbus-wire -n "not __fish_seen_subcommand_from $commands" -f
 complete -c dbus-wire -n "not __fish_seen_subcommand_from $commands" -a show -d 'Write each message as text'
@@ -25,15 +25,16 @@ complete -c dbus-wire -n "not __fish_seen_subcommand_from $commands" -a count -d
 complete -c dbus-wire -n "not __fish_seen_subcommand_from $commands" -a calls -d 'List the calls, and what came of each'
 complete -c dbus-wire -n "not __fish_seen_subcommand_from $commands" -a swap -d 'Write each message in another byte order'
 complete -c dbus-wire -n "not __fish_seen_subcommand_from $commands" -a filter -d 'Write the messages that match a rule'
+complete -c dbus-wire -n "not __fish_seen_subcommand_from $commands" -a encode -d 'Write the messages that lines of JSON spell'
 complete -c dbus-wire -n "not __fish_seen_subcommand_from $commands" -a handshake -d 'List the lines before the messages'
 complete -c dbus-wire -n "not __fish_seen_subcommand_from $commands" -a help -d 'Write the help'
 complete -c dbus-wire -s h -l help -f -d 'Write the help'
 complete -c dbus-wire -n "not __fish_seen_subcommand_from $commands" -s V -l version -f -d 'Write the version'
-complete -c dbus-wire -n '__fish_seen_subcommand_from help' -f -a 'show json list check count calls swap filter handshake help'
+complete -c dbus-wire -n '__fish_seen_subcommand_from help' -f -a 'show json list check count calls swap filter encode handshake help'
 complete -c dbus-wire -n '__fish_seen_subcommand_from show' -l time -f -d 'Write the time of each message before it'
 complete -c dbus-wire -n '__fish_seen_subcommand_from show' -l escape -f -d 'Escape hidden characters'
 complete -c dbus-wire -n '__fish_seen_subcommand_from json' -l no-time -f -d 'Leave out the times'
-complete -c dbus-wire -n '__fish_seen_subcommand_from swap' -l to -x -a 'l B' -d 'The byte order to write'
+complete -c dbus-wire -n '__fish_seen_subcommand_from swap encode' -l to -x -a 'l B' -d 'The byte order to write'
 complete -c dbus-wire -n '__fish_seen_subcommand_from handshake' -l side -x -a 'client server' -d 'Whose lines they are'
 complete -c dbus-wire -n '__fish_seen_subcommand_from list filter' -l invert -f -d 'Write the messages that match no rule'
 complete -c dbus-wire -n '__fish_seen_subcommand_from list filter' -l owner -x -d 'The owner of a well-known name, NAME=UNIQUE'
@@ -49,6 +50,12 @@ complete -c dbus-wire -n '__fish_seen_subcommand_from calls' -l members -f -d 'S
 complete -c dbus-wire -n '__fish_seen_subcommand_from calls' -l unanswered -f -d 'List the calls without a reply'
 complete -c dbus-wire -n '__fish_seen_subcommand_from calls' -l errors -f -d 'List the calls that an error answered'
 complete -c dbus-wire -n '__fish_seen_subcommand_from calls' -l slower -x -d 'List the calls replied to later, in milliseconds'
+complete -c dbus-wire -n '__fish_seen_subcommand_from encode' -l keep-going -f -d 'Go on after a refused line'
+complete -c dbus-wire -n '__fish_seen_subcommand_from encode' -l max-line -x -d 'Most bytes of a line'
+complete -c dbus-wire -n '__fish_seen_subcommand_from encode' -l max-message -x -d 'Most bytes of a message'
+complete -c dbus-wire -n '__fish_seen_subcommand_from encode' -l max-array -x -d 'Most bytes of an array'
+complete -c dbus-wire -n '__fish_seen_subcommand_from encode' -l max-depth -x -d 'Most containers open at once'
+complete -c dbus-wire -n '__fish_seen_subcommand_from encode' -l fds -x -a 'any below-count' -d 'Which indexes of descriptors are allowed'
 for command in show json list check count calls swap filter
     complete -c dbus-wire -n "__fish_seen_subcommand_from $command" -l json -f -d 'Tell what is refused as JSON'
     complete -c dbus-wire -n "__fish_seen_subcommand_from $command" -l explain -f -d 'Explain what is refused'

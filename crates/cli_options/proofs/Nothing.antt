@@ -3,19 +3,20 @@ use Rattle.std.proofs.Common.{◌≡◌, ℕ, List, Some, inl, inr, refl, sym, a
 use Rattle.clap.specs.Words.{Row, Text, first_of}
 use Rattle.dbus_value_model.specs.declared.order.Order.{Order}
 use Rattle.dbus_match.specs.Matching.{ownership}
-use Rattle.cli_options.specs.Named.{GiveOwners, HasLines, HasRefused, HasSettings, HasWanted, Names, NamesCommand, IsSelectionGiven, TakesRules, order_word, side_word, words_of}
+use Rattle.cli_options.specs.Named.{GiveOwners, HasEncoding, HasLines, HasRefused, HasSettings, HasWanted, Names, NamesCommand, IsSelectionGiven, TakesRules, order_word, side_word, words_of}
 use Rattle.cli_options.proofs.Numbers.{each_can}
 use Rattle.cli_options.specs.Limiting.{HasWidth}
 use Rattle.cli_options.specs.Told.{IsNoCommand, NamesNothing}
 use Rattle.dbus_handshake_input.specs.declared.side.Side.{Side}
 use Rattle.cli_options.specs.declared.asked.Asked.{Asked}
-use Rattle.cli_options.specs.declared.asked.Asked.TheVariants.{Messages, Count, List as Listing, Calls, Handshake}
+use Rattle.cli_options.specs.declared.asked.Asked.TheVariants.{Messages, Count, List as Listing, Calls, Encode, Handshake}
 use Rattle.cli_options.specs.declared.command.Command.{Command}
 use Rattle.cli_options.specs.declared.command.Command.TheVariants.{Show, Json, Check, Swap, Filter}
 use Rattle.cli_options.specs.declared.selection.Selection.{Selection}
 use Rattle.cli_options.specs.declared.settings.Settings.{Settings}
 use Rattle.cli_options.specs.declared.usage_fault.RefusedRule.{RefusedRule}
 use Rattle.cli_options.specs.declared.wanted_calls.WantedCalls.{WantedCalls}
+use Rattle.cli_options.specs.declared.wanted_encoding.WantedEncoding.{WantedEncoding}
 use Rattle.cli_options.specs.declared.wanted_lines.WantedLines.{WantedLines}
 
 -- a name that does not begin with `f` or `l` is none of a command that takes rules
@@ -23,13 +24,14 @@ takes_none : (name : Text) (rows : List Row) (first : ℕ) → slice_index name 
 takes_none name rows first is f l (inl named) = f (sym is ∙ ap (λ t. slice_index t 0) named)
 takes_none name rows first is f l (inr named) = l (sym is ∙ ap (λ t. slice_index t 0) named.0)
 
--- a name other than `handshake`
-module _ (sub : Text × List Row) (other : sub.0 ≡ codes "handshake" → ⊥) where
+-- a name other than `handshake` and `encode`
+module _ (sub : Text × List Row) (other : sub.0 ≡ codes "handshake" → ⊥) (unencoded : sub.0 ≡ codes "encode" → ⊥) where
   unset : ((settings : Settings) → HasSettings sub.1 settings → ⊥) → (asked : Asked) → Names (Some sub) asked → ⊥
   unset none (Messages command settings) named = none settings named.1
   unset none (Count settings) named = none settings named.1
   unset none (Listing settings wanted) named = none settings named.1
   unset none (Calls settings wanted) named = none settings named.1
+  unset none (Encode wanted) named = unencoded named.0
   unset none (Handshake side) named = other named.0
 
   -- with options that name no settings
@@ -43,6 +45,7 @@ module _ (sub : Text × List Row) (other : sub.0 ≡ codes "handshake" → ⊥) 
     unnamed none (Count settings) named = uncounted named.0
     unnamed none (Listing settings wanted) named = unlined named.0
     unnamed none (Calls settings wanted) named = unlisted named.0
+    unnamed none (Encode wanted) named = unencoded named.0
     unnamed none (Handshake side) named = other named.0
 
     -- of a command, with words that name none
@@ -63,6 +66,7 @@ module _ (rows : List Row) (no_side : (side : Side) → first_of (codes "side") 
   unsided (Count settings) named = let bad : ◌≡◌ {A = ℕ} 104 99 = ap (λ t. slice_index t 0) named.0 in absurd (omega arith)
   unsided (Listing settings wanted) named = let bad : ◌≡◌ {A = ℕ} 104 108 = ap (λ t. slice_index t 0) named.0 in absurd (omega arith)
   unsided (Calls settings wanted) named = let bad : ◌≡◌ {A = ℕ} 104 99 = ap (λ t. slice_index t 0) named.0 in absurd (omega arith)
+  unsided (Encode wanted) named = let bad : ◌≡◌ {A = ℕ} 104 101 = ap (λ t. slice_index t 0) named.0 in absurd (omega arith)
   unsided (Handshake side) named = no_side side named.1
 
   pub unsided_names_nothing : NamesNothing (Some (codes "handshake", rows))
@@ -85,12 +89,36 @@ module _ (rows : List Row) (no_wanted : (wanted : WantedCalls) → HasWanted row
   unlisted (Count settings) named = let bad : ◌≡◌ {A = ℕ} 97 111 = ap (λ t. slice_index t 1) named.0 in absurd (omega arith)
   unlisted (Listing settings wanted) named = let bad : ◌≡◌ {A = ℕ} 99 108 = ap (λ t. slice_index t 0) named.0 in absurd (omega arith)
   unlisted (Calls settings wanted) named = no_wanted wanted named.2
+  unlisted (Encode wanted) named = let bad : ◌≡◌ {A = ℕ} 99 101 = ap (λ t. slice_index t 0) named.0 in absurd (omega arith)
   unlisted (Handshake side) named = let bad : ◌≡◌ {A = ℕ} 99 104 = ap (λ t. slice_index t 0) named.0 in absurd (omega arith)
 
   pub unlisted_names_nothing : NamesNothing (Some (codes "calls", rows))
   unlisted_names_nothing = record {
     none_asked = unlisted;
     no_rule = λ refused found. takes_none (codes "calls") rows 99 refl (λ e. omega (arith, e)) (λ e. omega (arith, e)) found.0.named;
+  }
+
+-- `encode`, of whose words there is nothing that is wanted
+module _ (rows : List Row) (no_encoding : (wanted : WantedEncoding) → HasEncoding rows wanted → ⊥) where
+  no_encode : (command : Command) → NamesCommand (codes "encode") rows command → ⊥
+  no_encode (Show times escapes) named = let bad : ◌≡◌ {A = ℕ} 101 115 = ap (λ t. slice_index t 0) named.0 in absurd (omega arith)
+  no_encode (Json times) named = let bad : ◌≡◌ {A = ℕ} 101 106 = ap (λ t. slice_index t 0) named.0 in absurd (omega arith)
+  no_encode Check named = let bad : ◌≡◌ {A = ℕ} 101 99 = ap (λ t. slice_index t 0) named in absurd (omega arith)
+  no_encode (Swap order form) named = let bad : ◌≡◌ {A = ℕ} 101 115 = ap (λ t. slice_index t 0) named.0 in absurd (omega arith)
+  no_encode (Filter selection form) named = let bad : ◌≡◌ {A = ℕ} 101 102 = ap (λ t. slice_index t 0) named.0 in absurd (omega arith)
+
+  unencoded_asked : (asked : Asked) → Names (Some (codes "encode", rows)) asked → ⊥
+  unencoded_asked (Messages command settings) named = no_encode command named.0
+  unencoded_asked (Count settings) named = let bad : ◌≡◌ {A = ℕ} 101 99 = ap (λ t. slice_index t 0) named.0 in absurd (omega arith)
+  unencoded_asked (Listing settings wanted) named = let bad : ◌≡◌ {A = ℕ} 101 108 = ap (λ t. slice_index t 0) named.0 in absurd (omega arith)
+  unencoded_asked (Calls settings wanted) named = let bad : ◌≡◌ {A = ℕ} 101 99 = ap (λ t. slice_index t 0) named.0 in absurd (omega arith)
+  unencoded_asked (Encode wanted) named = no_encoding wanted named.1
+  unencoded_asked (Handshake side) named = let bad : ◌≡◌ {A = ℕ} 101 104 = ap (λ t. slice_index t 0) named.0 in absurd (omega arith)
+
+  pub unencoded_names_nothing : NamesNothing (Some (codes "encode", rows))
+  unencoded_names_nothing = record {
+    none_asked = unencoded_asked;
+    no_rule = λ refused found. takes_none (codes "encode") rows 101 refl (λ e. omega (arith, e)) (λ e. omega (arith, e)) found.0.named;
   }
 
 module _ (rows : List Row) (no_order : (order : Order) → first_of (codes "to") rows ≡ Some (order_word order) → ⊥) where
@@ -122,6 +150,7 @@ module _ (rows : List Row) (no_lines : (wanted : WantedLines) → HasLines rows 
   unlined (Count settings) named = let bad : ◌≡◌ {A = ℕ} 108 99 = ap (λ t. slice_index t 0) named.0 in absurd (omega arith)
   unlined (Listing settings wanted) named = no_lines wanted named.2
   unlined (Calls settings wanted) named = let bad : ◌≡◌ {A = ℕ} 108 99 = ap (λ t. slice_index t 0) named.0 in absurd (omega arith)
+  unlined (Encode wanted) named = let bad : ◌≡◌ {A = ℕ} 108 101 = ap (λ t. slice_index t 0) named.0 in absurd (omega arith)
   unlined (Handshake side) named = let bad : ◌≡◌ {A = ℕ} 108 104 = ap (λ t. slice_index t 0) named.0 in absurd (omega arith)
 
   pub unlined_names_nothing : (TakesRules (codes "list") rows → (refused : RefusedRule) → HasRefused rows refused → ⊥) → NamesNothing (Some (codes "list", rows))

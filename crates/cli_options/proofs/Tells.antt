@@ -13,9 +13,9 @@ use Rattle.cli_options.specs.CommandLine.{wire_app}
 use Rattle.dbus_match.specs.Matching.{Ownership}
 use Rattle.cli_options.specs.Limiting.{HasWidth, IsGiven, TellsNamed}
 use Rattle.cli_options.specs.Told.{TellsFault, TellsKind, Tells, TellsCommand, TellsOwner, TellsOwners, TellsRules, TellsSelection, IsUsageOrMemory, IsNoCommand, NamesNothing}
-use Rattle.cli_options.specs.Named.{GiveOwners, HasRuleFault, HasSettings, IsNamedBy, Names, rules_given, words_of}
+use Rattle.cli_options.specs.Named.{GiveOwners, HasEncoding, HasRuleFault, HasSettings, IsNamedBy, Names, rules_given, words_of}
 use Rattle.cli_options.specs.Owners.{IsOwnerWord}
-use Rattle.cli_options.proofs.Nothing.{no_command_names_nothing, unset_names_nothing, unowned_is_no_command, unowned_names_nothing}
+use Rattle.cli_options.proofs.Nothing.{no_command_names_nothing, unencoded_names_nothing, unset_names_nothing, unowned_is_no_command, unowned_names_nothing}
 use Rattle.cli_options.specs.declared.asked.Asked.{Asked}
 use Rattle.cli_options.specs.declared.settings.Settings.{Settings}
 use Rattle.cli_options.specs.declared.usage_fault.UsageFault.{UsageFault}
@@ -117,22 +117,30 @@ part_told Part Is has (Version text) h = h
 part_told Part Is has (Usage text) h = λ y is. let part = has y is in h part.0 part.1
 part_told Part Is has (Rule refused) h = h
 
+-- and of `encode`
+pub told_without_encoding : (rows : List Row) (told : UsageFault) → TellsNamed (HasEncoding rows) (Err told) → Tells (Some (codes "encode", rows)) (Err told)
+told_without_encoding rows Memory h = tt
+told_without_encoding rows (Help text) h = h
+told_without_encoding rows (Version text) h = h
+told_without_encoding rows (Usage text) h = unencoded_names_nothing rows h
+told_without_encoding rows (Rule refused) h = absurd h
+
 -- and of a command after options that name no settings
-pub told_without_settings : (sub : Text × List Row) (told : UsageFault) → (sub.0 ≡ codes "handshake" → ⊥) → TellsNamed (HasSettings sub.1) (Err told) → Tells (Some sub) (Err told)
-told_without_settings sub Memory other h = tt
-told_without_settings sub (Help text) other h = h
-told_without_settings sub (Version text) other h = h
-told_without_settings sub (Usage text) other h = unset_names_nothing sub other h
-told_without_settings sub (Rule refused) other h = absurd h
+pub told_without_settings : (sub : Text × List Row) (told : UsageFault) → (sub.0 ≡ codes "handshake" → ⊥) → (sub.0 ≡ codes "encode" → ⊥) → TellsNamed (HasSettings sub.1) (Err told) → Tells (Some sub) (Err told)
+told_without_settings sub Memory other unencoded h = tt
+told_without_settings sub (Help text) other unencoded h = h
+told_without_settings sub (Version text) other unencoded h = h
+told_without_settings sub (Usage text) other unencoded h = unset_names_nothing sub other unencoded h
+told_without_settings sub (Rule refused) other unencoded h = absurd h
 
 -- what is told of the words after a name, where they name settings
-pub told_under_settings : (sub : Text × List Row) (settings : Settings) (told : UsageFault) → (sub.0 ≡ codes "handshake" → ⊥) → (sub.0 ≡ codes "count" → ⊥) → (sub.0 ≡ codes "calls" → ⊥) → (sub.0 ≡ codes "list" → ⊥) → HasSettings sub.1 settings → TellsCommand sub.0 sub.1 (Err told)
+pub told_under_settings : (sub : Text × List Row) (settings : Settings) (told : UsageFault) → (sub.0 ≡ codes "handshake" → ⊥) → (sub.0 ≡ codes "encode" → ⊥) → (sub.0 ≡ codes "count" → ⊥) → (sub.0 ≡ codes "calls" → ⊥) → (sub.0 ≡ codes "list" → ⊥) → HasSettings sub.1 settings → TellsCommand sub.0 sub.1 (Err told)
     → Tells (Some sub) (Err told)
-told_under_settings sub settings Memory other uncounted unlisted unlined given h = tt
-told_under_settings sub settings (Help text) other uncounted unlisted unlined given h = h
-told_under_settings sub settings (Version text) other uncounted unlisted unlined given h = h
-told_under_settings sub settings (Usage text) other uncounted unlisted unlined given h = no_command_names_nothing sub other uncounted unlisted unlined h
-told_under_settings sub settings (Rule refused) other uncounted unlisted unlined given h = (h, (settings, given))
+told_under_settings sub settings Memory other unencoded uncounted unlisted unlined given h = tt
+told_under_settings sub settings (Help text) other unencoded uncounted unlisted unlined given h = h
+told_under_settings sub settings (Version text) other unencoded uncounted unlisted unlined given h = h
+told_under_settings sub settings (Usage text) other unencoded uncounted unlisted unlined given h = no_command_names_nothing sub other unencoded uncounted unlisted unlined h
+told_under_settings sub settings (Rule refused) other unencoded uncounted unlisted unlined given h = (h, (settings, given))
 
 pub named_of_matches : (words : List Text) (sub : Option (Text × List Row)) (answer : Result Asked UsageFault) → subcommand_of wire_app words ≡ sub
     → Tells sub answer → IfOk answer (IsNamedBy words)

@@ -38,16 +38,16 @@ limit_rule name most = record (word_rule name) { parser = Some (Signed (pos 0) (
 abbrev pub most_messages : ℕ
 most_messages = 4294967295
 
--- the command with the options that each has: `--json`, `--explain`, four for limits, and
--- `--handshake`
+-- the command with the options of the four limits
+abbrev pub with_limits : App → App
+with_limits app = with_rule
+    (with_rule (with_rule (with_rule app (limit_rule (codes "max-message") MESSAGE_LIMIT)) (limit_rule (codes "max-array") ARRAY_LIMIT)) (limit_rule (codes "max-depth") DEPTH_LIMIT))
+    (word_rule (codes "fds"))
+
+-- with the options that each command over messages has: `--json`, `--explain`, those of the limits,
+-- and `--handshake`
 abbrev pub with_options : App → App
-with_options app = with_rule
-    (with_rule
-    (with_rule
-    (with_rule
-    (with_rule (with_rule (with_rule app (flag_rule (codes "json"))) (flag_rule (codes "explain"))) (limit_rule (codes "max-message") MESSAGE_LIMIT))
-    (limit_rule (codes "max-array") ARRAY_LIMIT))
-    (limit_rule (codes "max-depth") DEPTH_LIMIT)) (word_rule (codes "fds"))) (word_rule (codes "handshake"))
+with_options app = with_rule (with_limits (with_rule (with_rule app (flag_rule (codes "json"))) (flag_rule (codes "explain")))) (word_rule (codes "handshake"))
 
 -- and with `--keep-going`, which all but `swap` have
 abbrev pub with_keep_going : App → App
@@ -91,6 +91,13 @@ abbrev pub calls_app : App
 calls_app = with_keep_going (with_rule (with_rule (with_rule (with_rule (new_app (codes "calls")) (flag_rule (codes "members"))) (flag_rule (codes "unanswered"))) (flag_rule (codes "errors")))
     (limit_rule (codes "slower") most_messages))
 
+-- the most bytes that `--max-line` names: 1 GiB
+abbrev pub most_line : ℕ
+most_line = 1073741824
+
+abbrev pub encode_app : App
+encode_app = with_limits (with_rule (with_rule (with_rule (new_app (codes "encode")) (word_rule (codes "to"))) (flag_rule (codes "keep-going"))) (limit_rule (codes "max-line") most_line))
+
 abbrev pub handshake_app : App
 handshake_app = with_rule (new_app (codes "handshake")) (needed_rule (codes "side"))
 
@@ -98,13 +105,14 @@ handshake_app = with_rule (new_app (codes "handshake")) (needed_rule (codes "sid
 abbrev pub bare_app : App
 bare_app = on_top (λ s. record s { subcommand_required = true; has_version = true }) (new_app (codes "dbus-wire"))
 
--- the program, with its nine subcommands
+-- the program, with its ten subcommands
 abbrev pub wire_app : App
 wire_app = with_subcommand
     (with_subcommand
     (with_subcommand
+    (with_subcommand
     (with_subcommand (with_subcommand (with_subcommand (with_subcommand (with_subcommand (with_subcommand bare_app show_app.top) json_app.top) list_app.top) check_app.top) count_app.top)
-    calls_app.top) swap_app.top) filter_app.top) handshake_app.top
+    calls_app.top) swap_app.top) filter_app.top) encode_app.top) handshake_app.top
 
 -- clap reads this of the argument, which no subcommand shares
 pub record IsArg (rule : Rule) (arg : Arg) : Type 0 where

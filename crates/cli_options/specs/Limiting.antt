@@ -70,6 +70,14 @@ abbrev pub GivesWidth : List Row → Option ℕ → Type 0
 GivesWidth rows (Some width) = HasWidth rows width
 GivesWidth rows None = (width : ℕ) → HasWidth rows width → ⊥
 
+-- the bytes that a line may have are as many as its option says, else 1 GiB
+abbrev pub HasLineLimit : List Row → ℕ → Type 0
+HasLineLimit rows most = IsNumberOf (one_of (codes "max-line") rows) 1073741824 most × (most < 2 ^ 32)
+
+abbrev pub GivesLineLimit : List Row → Option ℕ → Type 0
+GivesLineLimit rows (Some most) = HasLineLimit rows most
+GivesLineLimit rows None = (most : ℕ) → HasLineLimit rows most → ⊥
+
 abbrev pub GivesWindow : List Row → Option Window → Type 0
 GivesWindow rows (Some window) = HasWindow rows window
 GivesWindow rows None = (window : Window) → HasWindow rows window → ⊥

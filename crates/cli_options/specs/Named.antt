@@ -15,16 +15,17 @@ use Rattle.cli_options.specs.declared.file_form.FileForm.TheVariants as files
 use Rattle.dbus_handshake_input.specs.declared.side.Side.{Side}
 use Rattle.dbus_handshake_input.specs.declared.side.Side.TheVariants.{Client, Server}
 use Rattle.cli_options.specs.CommandLine.{wire_app}
-use Rattle.cli_options.specs.Limiting.{HasLimits, HasWidth, HasWindow, IsGiven, IsGivenNumber}
+use Rattle.cli_options.specs.Limiting.{HasLimits, HasLineLimit, HasWidth, HasWindow, IsGiven, IsGivenNumber}
 use Rattle.cli_options.specs.Owners.{AreOwnersOf, IsOwnerWord}
 use Rattle.cli_options.specs.declared.asked.Asked.{Asked}
-use Rattle.cli_options.specs.declared.asked.Asked.TheVariants.{Messages, Count, List as Listing, Calls, Handshake}
+use Rattle.cli_options.specs.declared.asked.Asked.TheVariants.{Messages, Count, List as Listing, Calls, Encode, Handshake}
 use Rattle.cli_options.specs.declared.command.Command.{Command}
 use Rattle.cli_options.specs.declared.command.Command.TheVariants.{Show, Json, Check, Swap, Filter}
 use Rattle.cli_options.specs.declared.selection.Selection.{Selection}
 use Rattle.cli_options.specs.declared.settings.Settings.{Settings}
 use Rattle.cli_options.specs.declared.usage_fault.RefusedRule.{RefusedRule}
 use Rattle.cli_options.specs.declared.wanted_calls.WantedCalls.{WantedCalls}
+use Rattle.cli_options.specs.declared.wanted_encoding.WantedEncoding.{WantedEncoding}
 use Rattle.cli_options.specs.declared.wanted_lines.WantedLines.{WantedLines}
 
 -- the word that stands for a byte order
@@ -111,14 +112,28 @@ pub record HasLines (rows : List Row) (wanted : WantedLines) : Type 0 where
   pub selection : IsSelectionGiven rows wanted.selection
   pub width : HasWidth rows wanted.width
 
+-- the order of all messages is the one that `--to` is given; without it there is none
+abbrev pub HasOrder : List Row → Option Order → Type 0
+HasOrder rows order = first_of (codes "to") rows ≡ option_map order_word order
+
+-- what `encode` is to write keeps the limits that its options name, in the order that they name,
+-- and goes on if that flag is given
+pub record HasEncoding (rows : List Row) (wanted : WantedEncoding) : Type 0 where
+  pub limits : HasLimits rows wanted.limits
+  pub order : HasOrder rows wanted.order
+  pub keeps_going : (wanted.keeps_going ≡ true) ↔ IsGiven (codes "keep-going") rows
+  pub max_line : HasLineLimit rows wanted.max_line
+
 -- the subcommand and the words after it name a command and its settings, those of `count`, those of
--- `list` and of `calls` and what they list, or the side whose handshake is listed
+-- `list` and of `calls` and what they list, what `encode` is to write, or the side whose handshake
+-- is listed
 abbrev pub Names : Option (Text × List Row) → Asked → Type 0
 Names None asked = ⊥
 Names (Some sub) (Messages command settings) = NamesCommand sub.0 sub.1 command × HasSettings sub.1 settings
 Names (Some sub) (Count settings) = (sub.0 ≡ codes "count") × HasSettings sub.1 settings
 Names (Some sub) (Listing settings wanted) = (sub.0 ≡ codes "list") × HasSettings sub.1 settings × HasLines sub.1 wanted
 Names (Some sub) (Calls settings wanted) = (sub.0 ≡ codes "calls") × HasSettings sub.1 settings × HasWanted sub.1 wanted
+Names (Some sub) (Encode wanted) = (sub.0 ≡ codes "encode") × HasEncoding sub.1 wanted
 Names (Some sub) (Handshake side) = (sub.0 ≡ codes "handshake") × (first_of (codes "side") sub.1 ≡ Some (side_word side))
 
 -- it is what the words name

@@ -2,6 +2,7 @@
 use crate::command::Command;
 use crate::settings::Settings;
 use crate::wanted_calls::WantedCalls;
+use crate::wanted_encoding::WantedEncoding;
 use crate::wanted_lines::WantedLines;
 use dbus_handshake_input::Side;
 
@@ -16,6 +17,8 @@ pub enum Asked {
     List(Settings, WantedLines),
     /// A list of calls and what came of them, by these settings.
     Calls(Settings, WantedCalls),
+    /// The messages of lines of JSON, so encoded.
+    Encode(WantedEncoding),
     /// A list of the lines of this side's handshake.
     Handshake(Side),
 }

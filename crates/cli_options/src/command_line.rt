@@ -1,20 +1,23 @@
 //! The command that the words of a command line name.
 ghost use Rattle.std.specs.Prelude.{◌≡◌, ◌↔◌, true, List, Some, IfOk, MatchOption, map, string_bytes, codes};
 ghost use Rattle.clap.specs.Words.{found_of, kind_of, rows_of, subcommand_rows_of};
-ghost use Rattle.cli_options.specs.Named.{GivesWanted, HasFileForm, HasSettings, HasSide, IsNamedBy, IsOrderOf, IsSideOf, rules_given, words_of};
+ghost use Rattle.cli_options.specs.Named.{GivesWanted, HasEncoding, HasFileForm, HasOrder, HasSettings, HasSide, IsNamedBy, IsOrderOf, IsSideOf, rules_given, words_of};
 ghost use Rattle.cli_options.specs.Limiting.{IsGiven, TellsNamed};
 ghost use Rattle.cli_options.specs.Told.{TellsKind, Tells, TellsCommand, TellsFault, TellsOwners, TellsRules, TellsSelection};
 
 use crate::asked::Asked;
 use crate::command::Command;
 use crate::file_form::FileForm;
-use crate::limits_named::{given_named, limits_named, width_named, window_named};
+use crate::limits_named::{
+    given_named, limits_named, line_limit_named, width_named, window_named,
+};
 use crate::owners::owners_given;
 use crate::rules::rules_spelled;
 use crate::selection::Selection;
 use crate::settings::Settings;
 use crate::usage_fault::{UsageFault, bad_value, usage};
 use crate::wanted_calls::WantedCalls;
+use crate::wanted_encoding::WantedEncoding;
 use crate::wanted_lines::WantedLines;
 use crate::wire::wire;
 use clap::ArgMatches;
@@ -38,6 +41,8 @@ use std::alloc::Global;
 /// words. `--width` of `list` is the number of cells of its lines; without it they have 80. The
 /// words that stand alone after `list` and `filter` are rules, and `--invert`, `--owner` and
 /// `--learn-owners` say more of what they select; `list` without rules selects all messages.
+/// `encode` takes the options of the limits, `--to` for the order of all messages, `--keep-going`
+/// and `--max-line`, in bytes; without it a line may have 1 GiB.
 ///
 /// `Usage`: the words name no command of the program, or have what it does not take, a limit over
 /// that of the specification, a number of messages or milliseconds over 4294967295, a width over
@@ -70,6 +75,9 @@ fn command_named(alloc: Global, matches: &ArgMatches) -> Result<Asked, UsageFaul
     if name == "handshake" {
         return handshake_named(alloc, inner);
     }
+    if name == "encode" {
+        return encode_named(alloc, inner);
+    }
     let settings = settings_named(alloc, inner)?;
     if name == "count" {
         return Ok(Asked::Count(settings));
@@ -82,6 +90,47 @@ fn command_named(alloc: Global, matches: &ArgMatches) -> Result<Asked, UsageFaul
     }
     let command = command_with(alloc, name, inner)?;
     Ok(Asked::Messages(command, settings))
+}
+
+// What `encode` is given.
+fn encode_named(alloc: Global, inner: &ArgMatches) -> Result<Asked, UsageFault>
+    ensures { Tells (Some (codes "encode", rows_of (found_of inner.now))) result }
+{
+    match encoding_named(alloc, inner) {
+        Ok(wanted) => Ok(Asked::Encode(wanted)),
+        Err(fault) => Err(fault),
+    }
+}
+
+// What `encode` is to write.
+fn encoding_named(alloc: Global, inner: &ArgMatches) -> Result<WantedEncoding, UsageFault>
+    ensures { TellsNamed (HasEncoding (rows_of (found_of inner.now))) result }
+{
+    let limits = limits_named(alloc, inner)?;
+    let order = order_given(alloc, inner)?;
+    let keeps_going = is_given(inner, "keep-going");
+    match line_limit_named(inner) {
+        Some(max_line) => Ok(WantedEncoding {
+            limits,
+            order,
+            keeps_going,
+            max_line,
+        }),
+        None => Err(usage(alloc, "error: no limit on lines\n")),
+    }
+}
+
+// The order that `encode` is given, if it is given one.
+fn order_given(alloc: Global, inner: &ArgMatches) -> Result<Option<Order>, UsageFault>
+    ensures { TellsNamed (HasOrder (rows_of (found_of inner.now))) result }
+{
+    let Some(word) = inner.get_str("to") else {
+        return Ok(None);
+    };
+    match order_of(word) {
+        Some(order) => Ok(Some(order)),
+        None => Err(bad_value(alloc, word, "--to <ORDER>", "l, B")),
+    }
 }
 
 // The side that `handshake` is given.

@@ -259,7 +259,7 @@ pub(crate) const SWAP_MORE: &str = more!(
   dbus-wire swap --to B < capture > big-endian"
 );
 
-/// What the order of `swap` is.
+/// What the order of `swap` and `encode` is.
 pub(crate) const ORDER: &str = "The byte order: l is little-endian, B is big-endian";
 
 /// What `--raw` of `swap` and `filter` does.
@@ -303,6 +303,43 @@ pub(crate) const OWNER: &str = "The owner of a name, as org.a.B=:1.7; any number
 
 /// What `--learn-owners` of `list` and `filter` does.
 pub(crate) const LEARN_OWNERS: &str = "Learns owners from the input, from then on";
+
+/// What `encode` does.
+pub(crate) const ENCODE: &str = "Writes the messages that lines of JSON spell";
+
+/// How `encode` is called.
+pub(crate) const ENCODE_USAGE: &str = "dbus-wire encode [OPTIONS] < FILE";
+
+/// What follows the help of `encode`.
+pub(crate) const ENCODE_MORE: &str = "Input:
+  Standard input: lines as json writes them, each an object of JSON. Members may
+  come in any order, but header fields are written in the order of theirs. type
+  has to be there; order is l, flags are 0 and serial is the number of the line
+  among those that are not blank if they are left out, and so may fields and
+  body be if there are none. number, offset, length and time mean nothing. Any
+  other name, or one twice, is refused. A blank line is passed over.
+
+Output:
+  The messages, on standard output. A line that spells no message within the
+  limits is refused: `refused at line N: Unspelled` on standard error, counted
+  from 1 over all lines, or `TooLong` if it has more bytes than --max-line says.
+  The messages of the lines before it stay, and with --keep-going those of the
+  lines after it follow.
+
+Exit status:
+  0  each line is a message or blank, or help was asked for
+  1  a line is refused
+  2  the command line is wrong, or a limit is out of its range
+  3  a read or a write failed, too many reads were made, or memory ran out
+
+Example:
+  dbus-wire json < capture | jq -c 'select(.member)' | dbus-wire encode > calls";
+
+/// What `--keep-going` of `encode` does.
+pub(crate) const KEEP_GOING_LINES: &str = "Goes on after a refused line";
+
+/// What the limit on lines is.
+pub(crate) const MAX_LINE: &str = "Most bytes of a line: 0 to 1073741824, the default";
 
 /// What `--json` of `check`, `count` and `calls` does.
 pub(crate) const LINES_JSON: &str = "Writes each line as JSON";

@@ -1,6 +1,6 @@
 //! The limits, the window and the width that the options of a command name.
 ghost use Rattle.clap.specs.Words.{found_of, one_of, rows_of};
-ghost use Rattle.cli_options.specs.Limiting.{GivesGiven, GivesNumber, GivesNumbers, GivesWidth, GivesWindow, HasLimits, HasWindow, IsFdsOf, TellsNamed};
+ghost use Rattle.cli_options.specs.Limiting.{GivesGiven, GivesNumber, GivesNumbers, GivesLineLimit, GivesWidth, GivesWindow, HasLimits, HasWindow, IsFdsOf, TellsNamed};
 
 use crate::command_line::is_given;
 use crate::usage_fault::{UsageFault, bad_value, usage};
@@ -11,6 +11,9 @@ use std::alloc::Global;
 
 // The cells of a line, if no width is given: those of most terminals.
 const USUAL_WIDTH: u32 = 80;
+
+// The bytes that a line may have, if no number is given: 1 GiB.
+const USUAL_LINE: u32 = 1_073_741_824;
 
 /// The limits that the options name. `Usage`: one of them is given what it may not be. `Memory`: an
 /// allocation failed.
@@ -95,6 +98,14 @@ pub(crate) fn width_named(inner: &ArgMatches) -> Option<u16>
         Some(width) => u16::try_from(width).ok(),
         None => None,
     }
+}
+
+/// The bytes that a line may have by the options, 1 GiB if they do not say. Nothing, if they are
+/// given no number of 32 bits.
+pub(crate) fn line_limit_named(inner: &ArgMatches) -> Option<u32>
+    ensures { GivesLineLimit (rows_of (found_of inner.now)) result }
+{
+    number_named(inner, "max-line", USUAL_LINE)
 }
 
 // The rule on indexes of file descriptors that a word stands for.

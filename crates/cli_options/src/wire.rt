@@ -2,13 +2,16 @@
 ghost use Rattle.std.specs.Prelude.{◌≡◌, IfOk, pos};
 ghost use Rattle.clap.specs.Words.{App, Rule, app_of, new_app, with_rule, with_subcommand};
 ghost use Rattle.clap.specs.declared.builder.value_parser.ValueParser.TheVariants.{Signed};
-ghost use Rattle.cli_options.specs.CommandLine.{IsArg, IsLocal, flag_rule, limit_rule, needed_rule, owner_rule, text_rule, word_rule, with_keep_going, with_options, with_selection, with_window, wire_app, bare_app, show_app, json_app, list_app, check_app, count_app, calls_app, swap_app, filter_app, handshake_app};
+ghost use Rattle.cli_options.specs.CommandLine.{IsArg, IsLocal, flag_rule, limit_rule, needed_rule, owner_rule, text_rule, word_rule, with_keep_going, with_limits, with_options, with_selection, with_window, wire_app, bare_app, show_app, json_app, list_app, check_app, count_app, calls_app, swap_app, filter_app, encode_app, handshake_app};
 
 use crate::help;
 use clap::builder::ValueParser;
 use clap::{Arg, ArgAction, Command};
 use dbus_value_model::{ARRAY_LIMIT, DEPTH_LIMIT, MESSAGE_LIMIT};
 use std::alloc::{AllocError, Global};
+
+// The most bytes of a line of `encode`: 1 GiB.
+const MOST_LINE: u32 = 1_073_741_824;
 
 // The most cells of a line: the greatest number of 16 bits.
 const MOST_CELLS: u32 = 65_535;
@@ -97,7 +100,26 @@ fn with_arg<'a>(
     command?.arg(arg)
 }
 
-// The command with the options that each command of the program takes, of which `--json` has this
+// The command with the options that name limits.
+fn with_limits<'a>(
+    alloc: Global,
+    command: Result<Command<'a>, AllocError>,
+) -> Result<Command<'a>, AllocError>
+    ensures { (app : App) → IfOk command.entry (IsLocal app) → IfOk result (IsLocal (with_limits app)) }
+{
+    let depth = u32::from(DEPTH_LIMIT);
+    let message = limit_option(alloc, "max-message", MESSAGE_LIMIT, help::MAX_MESSAGE);
+    let messages = with_arg(command, message);
+    let array = limit_option(alloc, "max-array", ARRAY_LIMIT, help::MAX_ARRAY);
+    let arrays = with_arg(messages, array);
+    let depths = with_arg(
+        arrays,
+        limit_option(alloc, "max-depth", depth, help::MAX_DEPTH),
+    );
+    with_arg(depths, word_option(alloc, "fds", "RULE", help::FDS))
+}
+
+// The command with the options that each command over messages takes, of which `--json` has this
 // help.
 fn with_options<'a>(
     alloc: Global,
@@ -106,20 +128,11 @@ fn with_options<'a>(
 ) -> Result<Command<'a>, AllocError>
     ensures { (app : App) → IfOk command.entry (IsLocal app) → IfOk result (IsLocal (with_options app)) }
 {
-    let depth = u32::from(DEPTH_LIMIT);
     let formed = with_arg(command, flag(alloc, "json", json));
     let explain = with_arg(formed, flag(alloc, "explain", help::EXPLAIN));
-    let message = limit_option(alloc, "max-message", MESSAGE_LIMIT, help::MAX_MESSAGE);
-    let messages = with_arg(explain, message);
-    let array = limit_option(alloc, "max-array", ARRAY_LIMIT, help::MAX_ARRAY);
-    let arrays = with_arg(messages, array);
-    let depths = with_arg(
-        arrays,
-        limit_option(alloc, "max-depth", depth, help::MAX_DEPTH),
-    );
-    let fds = with_arg(depths, word_option(alloc, "fds", "RULE", help::FDS));
+    let limits = with_limits(alloc, explain);
     with_arg(
-        fds,
+        limits,
         word_option(alloc, "handshake", "SIDE", help::HANDSHAKE),
     )
 }
@@ -270,6 +283,23 @@ fn filter_command<'a>(alloc: Global) -> Result<Command<'a>, AllocError>
     with_window(alloc, formed)
 }
 
+// `encode`, with its options, and the limits on messages.
+fn encode_command<'a>(alloc: Global) -> Result<Command<'a>, AllocError>
+    ensures { IfOk result (IsLocal encode_app) }
+{
+    let encode = bare(
+        alloc,
+        "encode",
+        help::ENCODE,
+        help::ENCODE_USAGE,
+        help::ENCODE_MORE,
+    );
+    let ordered = with_arg(encode, word_option(alloc, "to", "ORDER", help::ORDER));
+    let going = with_arg(ordered, flag(alloc, "keep-going", help::KEEP_GOING_LINES));
+    let line = limit_option(alloc, "max-line", MOST_LINE, help::MAX_LINE);
+    with_limits(alloc, with_arg(going, line))
+}
+
 // `handshake`, with its side.
 fn handshake_command<'a>(alloc: Global) -> Result<Command<'a>, AllocError>
     ensures { IfOk result (IsLocal handshake_app) }
@@ -320,5 +350,6 @@ pub(crate) fn wire<'a>(alloc: Global) -> Result<Command<'a>, AllocError>
     let pairing = with_command(counting, calls_command(alloc));
     let swapping = with_command(pairing, swap_command(alloc));
     let filtering = with_command(swapping, filter_command(alloc));
-    with_command(filtering, handshake_command(alloc))
+    let encoding = with_command(filtering, encode_command(alloc));
+    with_command(encoding, handshake_command(alloc))
 }

@@ -29,7 +29,7 @@ use Rattle.cli_options.specs.Named.{AreRulesOf, HasSettings, HasWanted, IsNamedB
 use Rattle.cli_options.specs.Owners.{AreOwnersOf, IsOwnerWord}
 use Rattle.cli_options.specs.Selections.{AreSameCommand, AreSameSelection}
 use Rattle.cli_options.specs.declared.asked.Asked.{Asked}
-use Rattle.cli_options.specs.declared.asked.Asked.TheVariants.{Messages, Count, List as Listing, Calls, Handshake}
+use Rattle.cli_options.specs.declared.asked.Asked.TheVariants.{Messages, Count, List as Listing, Calls, Encode, Handshake}
 use Rattle.cli_options.specs.declared.command.Command.{Command}
 use Rattle.cli_options.specs.declared.file_form.FileForm.{FileForm}
 use Rattle.cli_options.specs.declared.file_form.FileForm.TheVariants as files
@@ -58,6 +58,7 @@ AreSameAsked (Messages c s) (Messages d t) = AreSameCommand c d × (s ≡ t)
 AreSameAsked (Count s) (Count t) = s ≡ t
 AreSameAsked (Listing s a) (Listing t b) = (s ≡ t) × AreSameSelection a.selection b.selection × (a.width ≡ b.width)
 AreSameAsked (Calls s f) (Calls t g) = (s ≡ t) × (f ≡ g)
+AreSameAsked (Encode a) (Encode b) = Unit {0}
 AreSameAsked (Handshake a) (Handshake b) = a ≡ b
 AreSameAsked a b = ⊥
 
@@ -294,12 +295,30 @@ no_handshake name rows Check p e = omega (arith, marked name rows Check p, ap ma
 no_handshake name rows (Swap order form) p e = omega (arith, ap mark p.0, ap mark e)
 no_handshake name rows (Filter selection form) p e = omega (arith, ap mark p.0, ap mark e)
 
+no_encode : (name : Text) (rows : List Row) (command : Command) → NamesCommand name rows command → name ≡ codes "encode" → ⊥
+no_encode name rows (Show times escapes) p e = omega (arith, ap mark p.0, ap mark e)
+no_encode name rows (Json times) p e = omega (arith, ap mark p.0, ap mark e)
+no_encode name rows Check p e = omega (arith, marked name rows Check p, ap mark e)
+no_encode name rows (Swap order form) p e = omega (arith, ap mark p.0, ap mark e)
+no_encode name rows (Filter selection form) p e = omega (arith, ap mark p.0, ap mark e)
+
 same_named : (sub : Option (Text × List Row)) (a b : Asked) → Names sub a → Names sub b → AreSameAsked a b
 same_named None a b p q = absurd p
 same_named (Some sub) (Messages c s) (Messages d t) p q = (same_command sub.0 sub.1 c d p.0 q.0, same_settings sub.1 s t p.1 q.1)
 same_named (Some sub) (Count s) (Count t) p q = same_settings sub.1 s t p.1 q.1
 same_named (Some sub) (Calls s f) (Calls t g) p q = (same_settings sub.1 s t p.1 q.1, same_wanted sub.1 f g p.2 q.2)
 same_named (Some sub) (Handshake x) (Handshake y) p q = same_side_word x y (some_is (side_word x) (side_word y) (sym p.1 ∙ q.1))
+same_named (Some sub) (Encode a) (Encode b) p q = tt
+same_named (Some sub) (Messages c s) (Encode b) p q = no_encode sub.0 sub.1 c p.0 q.0
+same_named (Some sub) (Encode a) (Messages d t) p q = no_encode sub.0 sub.1 d q.0 p.0
+same_named (Some sub) (Count s f) (Encode b) p q = absurd (let e = sym (ap mark p.0) ∙ ap mark q.0 in omega (arith, e))
+same_named (Some sub) (Encode a) (Count t g) p q = absurd (let e = sym (ap mark p.0) ∙ ap mark q.0 in omega (arith, e))
+same_named (Some sub) (Listing s f) (Encode b) p q = absurd (let e = sym (ap mark p.0) ∙ ap mark q.0 in omega (arith, e))
+same_named (Some sub) (Encode a) (Listing t g) p q = absurd (let e = sym (ap mark p.0) ∙ ap mark q.0 in omega (arith, e))
+same_named (Some sub) (Calls s f) (Encode b) p q = absurd (let e = sym (ap mark p.0) ∙ ap mark q.0 in omega (arith, e))
+same_named (Some sub) (Encode a) (Calls t g) p q = absurd (let e = sym (ap mark p.0) ∙ ap mark q.0 in omega (arith, e))
+same_named (Some sub) (Handshake x) (Encode b) p q = absurd (let e = sym (ap mark p.0) ∙ ap mark q.0 in omega (arith, e))
+same_named (Some sub) (Encode a) (Handshake y) p q = absurd (let e = sym (ap mark p.0) ∙ ap mark q.0 in omega (arith, e))
 same_named (Some sub) (Listing s a) (Listing t b) p q =
     (same_settings sub.1 s t p.1 q.1, same_selection sub.1 a.selection b.selection p.2.selection q.2.selection, same_number _ 80 a.width b.width p.2.width.0 q.2.width.0)
 same_named (Some sub) (Messages c s) (Listing t b) p q = no_list sub.0 sub.1 c p.0 q.0

@@ -31,7 +31,7 @@ use Rattle.cli_options.specs.Owners.{lacks_owner}
 use Rattle.cli_options.specs.declared.asked.Asked.{Asked}
 use Rattle.cli_options.specs.declared.file_form.FileForm.{FileForm}
 use Rattle.cli_options.specs.declared.file_form.FileForm.TheVariants.{AsRead, Raw}
-use Rattle.cli_options.specs.declared.asked.Asked.TheVariants.{Messages, Count, List as Listing, Calls, Handshake}
+use Rattle.cli_options.specs.declared.asked.Asked.TheVariants.{Messages, Count, List as Listing, Calls, Encode, Handshake}
 use Rattle.dbus_handshake_input.specs.declared.side.Side.{Side}
 use Rattle.cli_options.specs.declared.command.Command.{Command}
 use Rattle.cli_options.specs.declared.command.Command.TheVariants.{Filter}
@@ -86,6 +86,7 @@ no_fault (Some sub) (Messages command settings) refused p h = takes_none sub.0 s
 no_fault (Some sub) (Count settings) refused p h = takes_none sub.0 sub.1 (mark (codes "count")) (ap mark p.0) (λ e. omega (arith, e)) (λ e. omega (arith, e)) h.0.named
 no_fault (Some sub) (Listing settings wanted) refused p h = none_refused sub.1 wanted.selection refused p.2.selection h.0.refuses
 no_fault (Some sub) (Calls settings wanted) refused p h = takes_none sub.0 sub.1 (mark (codes "calls")) (ap mark p.0) (λ e. omega (arith, e)) (λ e. omega (arith, e)) h.0.named
+no_fault (Some sub) (Encode wanted) refused p h = takes_none sub.0 sub.1 (mark (codes "encode")) (ap mark p.0) (λ e. omega (arith, e)) (λ e. omega (arith, e)) h.0.named
 no_fault (Some sub) (Handshake side) refused p h = takes_none sub.0 sub.1 (mark (codes "handshake")) (ap mark p.0) (λ e. omega (arith, e)) (λ e. omega (arith, e)) h.0.named
 
 module _ {R W E : Type 0} (left : R → Option (List ℕ)) (calls failures : R → ℕ) (packets : R → Option Packets) (packet : R → Option Packet) (old new : ReadAhead R) (w : Writing W) (e : Writing E) (words : List Text) {due : ExitStatus} (one : NameOneWay words due) (end : ExitStatus) (done : end ≢ status.Failed) where
@@ -112,6 +113,11 @@ one_way_too end (Count s) (Count t) h one = subst (λ (x : Settings). TellsOneWa
 one_way_too end (Calls s f) (Calls t g) h one = subst (λ (x : Settings). TellsOneWay x end) h.0 one
 one_way_too end (Handshake a) (Handshake b) h one = tt
 one_way_too end (Listing s a) b h one = absurd one
+one_way_too end (Encode a) b h one = absurd one
+one_way_too end (Messages c s) (Encode b) h one = absurd h
+one_way_too end (Count s) (Encode b) h one = absurd h
+one_way_too end (Calls s f) (Encode b) h one = absurd h
+one_way_too end (Handshake a) (Encode b) h one = absurd h
 one_way_too end (Messages c s) (Listing t b) h one = absurd h
 one_way_too end (Count s) (Listing t b) h one = absurd h
 one_way_too end (Calls s f) (Listing t b) h one = absurd h
@@ -339,6 +345,11 @@ module _ {R S W V E F : Type 0} (one_table : OneTable) (left : R → Option (Lis
   alike (Handshake side) (Handshake b) same one told does doing =
       listed_alike side does (subst (λ (x : Side). Does other_left other_calls other_failures other_packets other_packet s0 s1 v f (Ok (Handshake x)) other) (sym same) doing)
   alike (Listing t a) b same one told does doing = absurd one
+  alike (Encode a) b same one told does doing = absurd one
+  alike (Messages c t) (Encode b) same one told does doing = absurd same
+  alike (Count t) (Encode b) same one told does doing = absurd same
+  alike (Calls t g) (Encode b) same one told does doing = absurd same
+  alike (Handshake side) (Encode b) same one told does doing = absurd same
   alike (Messages c t) (Listing u b) same one told does doing = absurd same
   alike (Count t) (Listing u b) same one told does doing = absurd same
   alike (Calls t g) (Listing u b) same one told does doing = absurd same

@@ -10,7 +10,7 @@ use Rattle.cli_options.specs.Named.{IsNamedBy}
 use Rattle.cli_options.specs.declared.asked.Asked.{Asked}
 use Rattle.cli_options.specs.declared.file_form.FileForm.{FileForm}
 use Rattle.cli_options.specs.declared.file_form.FileForm.TheVariants.{AsRead, Raw}
-use Rattle.cli_options.specs.declared.asked.Asked.TheVariants.{Messages, Count, List as Listing, Calls, Handshake}
+use Rattle.cli_options.specs.declared.asked.Asked.TheVariants.{Messages, Count, List as Listing, Calls, Encode, Handshake}
 use Rattle.cli_options.specs.declared.settings.Settings.{Settings}
 use Rattle.cli_report.specs.Devices.{Writing}
 use Rattle.cli_report.specs.declared.ending.ExitStatus.{ExitStatus}
@@ -25,13 +25,14 @@ use Rattle.dbus_tool.specs.Words.{RunsWords}
 abbrev pub TellsOneWay : Settings → (end : ExitStatus) → Type 0
 TellsOneWay settings end = (settings.explains ≡ false) × ((settings.as_json ≡ false) ⊎ (end ≡ status.Done))
 
--- what is asked for is done in one way: it is neither `json` nor `list` and no `show` with times, and
--- so is what is told
+-- what is asked for is done in one way: it is neither `json` nor `list` nor `encode`, and no `show`
+-- with times, and so is what is told
 abbrev pub IsOneWay : (end : ExitStatus) → Asked → Type 0
 IsOneWay end (Messages command settings) = IsExact command × TellsOneWay settings end
 IsOneWay end (Count settings) = TellsOneWay settings end
 IsOneWay end (Listing settings wanted) = ⊥
 IsOneWay end (Calls settings wanted) = TellsOneWay settings end
+IsOneWay end (Encode wanted) = ⊥
 IsOneWay end (Handshake side) = Unit {0}
 
 -- words in which clap finds no fault name this
@@ -64,6 +65,7 @@ module _ {R S : Type 0} (left : R → Option (List ℕ)) (calls failures : R →
   AskAlike (Count settings) = SamePackets
   AskAlike (Listing settings wanted) = SamePackets
   AskAlike (Calls settings wanted) = SamePackets
+  AskAlike (Encode wanted) = ⊥
   AskAlike (Handshake side) = Unit {0}
 
 -- two runs of the program by such words that read the same input, and did not fail, end alike

@@ -16,19 +16,22 @@ use Rattle.cli_run.specs.ByName.{CountsByName}
 use Rattle.cli_run.specs.CallListing.{ListsCalls}
 use Rattle.cli_run.specs.CallSumming.{SumsCalls}
 use Rattle.cli_run.specs.LineListing.{ListsLines}
+use Rattle.cli_encode.specs.Runs.{EncodesLines}
+use Rattle.cli_encode.specs.declared.encoding.Encoding.{Encoding}
 use Rattle.cli_report.specs.Devices.{Reading, Writing, writing}
 use Rattle.cli_run.specs.Running.{RunsWith}
 use Rattle.cli_report.specs.Telling.{Told}
 use Rattle.dbus_handshake_input.specs.declared.fault.HandshakeFault.{HandshakeFault}
 use Rattle.dbus_handshake_input.specs.declared.read_ahead.ReadAhead.{ReadAhead}
 use Rattle.cli_options.specs.declared.asked.Asked.{Asked}
-use Rattle.cli_options.specs.declared.asked.Asked.TheVariants.{Messages, Count, List as Listing, Calls, Handshake}
+use Rattle.cli_options.specs.declared.asked.Asked.TheVariants.{Messages, Count, List as Listing, Calls, Encode, Handshake}
 use Rattle.dbus_count.specs.declared.form.Form as tables
 use Rattle.dbus_count.specs.declared.form.Form.TheVariants as written
 use Rattle.dbus_call_lines.specs.declared.form.Form.TheVariants.{Text as InWords, Json as InJson}
 use Rattle.dbus_call_lines.specs.declared.wanted.Wanted.{Wanted}
 use Rattle.cli_options.specs.declared.settings.Settings.{Settings}
 use Rattle.cli_options.specs.declared.wanted_calls.WantedCalls.{WantedCalls}
+use Rattle.cli_options.specs.declared.wanted_encoding.WantedEncoding.{WantedEncoding}
 use Rattle.cli_options.specs.declared.usage_fault.UsageFault.{UsageFault}
 use Rattle.cli_options.specs.declared.usage_fault.UsageFault.TheVariants.{Memory, Help, Version, Usage, Rule}
 use Rattle.cli_report.specs.declared.ending.ExitStatus.{ExitStatus}
@@ -71,6 +74,10 @@ table_form false = written.Text
 abbrev pub calls_wanted : (as_json : Bool) → WantedCalls → Wanted
 calls_wanted as_json wanted = record { form = if as_json then InJson else InWords; unanswered = wanted.unanswered; errors = wanted.errors; slower = wanted.slower }
 
+-- how lines are encoded, as `encode` asks for it
+abbrev pub encoding_wanted : WantedEncoding → Encoding
+encoding_wanted wanted = record { limits = wanted.limits; order = wanted.order; keeps_going = wanted.keeps_going; most = wanted.max_line }
+
 -- calls are summed up by their members, or listed
 abbrev pub DoesCalls : {R W E : Type 0} → Reading R → Writing W → Writing E → Settings → (by_member : Bool) → Wanted → ExitStatus → Type 0
 DoesCalls r w e settings true wanted end = SumsCalls r w e settings wanted (2 ^ 32) end
@@ -110,13 +117,14 @@ module _ {R W E : Type 0} (left : R → Option (List ℕ)) (calls failures : R �
       × DoesTask left calls failures packets packet old new w (writing e.held e.failures begun e.new) settings task end)
       ⊎ ((new ≡ old) × (w.new ≡ w.old) × (end ≡ status.Failed) × (n : WrittenOnly) × Notes e.held e.failures (settings.explains && lacks_owner) e.old e.new (Err n))
 
-  -- what is done for a command by its settings, for `count`, for `list`, for `calls`, for the side
-  -- whose handshake is listed, or for words that name nothing
+  -- what is done for a command by its settings, for `count`, for `list`, for `calls`, for `encode`,
+  -- for the side whose handshake is listed, or for words that name nothing
   abbrev pub Does : Result Asked UsageFault → ExitStatus → Type 0
   Does (Ok (Messages command settings)) end = RunsNoted settings (lacks_owner command) (Run command) end
   Does (Ok (Listing settings wanted)) end = RunsNoted settings (selection_lacks_owner wanted.selection) (ListLines wanted) end
   Does (Ok (Count settings)) end = DoesTask left calls failures packets packet old new w e settings CountAll end
   Does (Ok (Calls settings wanted)) end = DoesTask left calls failures packets packet old new w e settings (ListAll wanted) end
+  Does (Ok (Encode wanted)) end = EncodesLines (ahead left calls failures packets packet old new) w e (encoding_wanted wanted) (2 ^ 32) end
   Does (Ok (Handshake side)) end = Lists left calls failures packets packet old new w e side end
   Does (Err Memory) end = (new ≡ old) × (w.new ≡ w.old) × StopsBy e.held e.failures e.old e.new cause.Memory end
   Does (Err (Help text)) end = (new ≡ old) × ShowsText w e (string_bytes text) end

@@ -1,7 +1,7 @@
 //! The program `dbus-wire` over the words of its command line, with any reader and two writers.
 //!
 //! [`run_words`] does what the words name, and returns the exit status. `cli_run` has the
-//! commands over messages, which are here too. `dbus_wire` is the program.
+//! commands over messages, and `cli_encode` the one over lines, which are here too. `dbus_wire` is the program.
 #![tactic(auto)]
 
 pub mod laws;
@@ -10,9 +10,10 @@ mod listing;
 mod rule_lines;
 mod words;
 
+pub use cli_encode::{Encoding, LineReason, encode_lines};
 pub use cli_options::{
-    Asked, Command, RefusedRule, Selection, Settings, Side, UsageFault, WantedCalls, WantedLines,
-    Window, command_of,
+    Asked, Command, RefusedRule, Selection, Settings, Side, UsageFault, WantedCalls,
+    WantedEncoding, WantedLines, Window, command_of,
 };
 pub use cli_report::ExitStatus;
 pub use cli_run::{run, run_reads, run_with, run_within};

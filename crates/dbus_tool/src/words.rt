@@ -2,13 +2,15 @@
 ghost use Rattle.std.specs.Prelude.{◌≡◌, ◌&&◌, map, string_bytes};
 ghost use Rattle.cli_report.specs.Devices.{writing};
 ghost use Rattle.dbus_tool.specs.Handshaking.{Shows, TakesHandshake, TellsHandshake, Lists, ahead};
-ghost use Rattle.dbus_tool.specs.Words.{DoesCalls, DoesTask, Notes, RefusesRule, RunsWords, ShowsText, calls_wanted, table_form};
+ghost use Rattle.dbus_tool.specs.Words.{DoesCalls, DoesTask, Notes, RefusesRule, RunsWords, ShowsText, calls_wanted, encoding_wanted, table_form};
 
 use crate::lines::handshake_line;
 use crate::listing::write_lines;
 use crate::rule_lines::rule_text;
+use cli_encode::{Encoding, encode_lines};
 use cli_options::{
-    Asked, Command, RefusedRule, Settings, UsageFault, WantedCalls, WantedLines, command_of,
+    Asked, Command, RefusedRule, Settings, UsageFault, WantedCalls, WantedEncoding, WantedLines,
+    command_of,
 };
 use cli_report::{Cause, ExitStatus, Unwritten, give_up};
 use cli_run::{count_by_name, list_calls, list_lines, run_with, sum_calls};
@@ -49,6 +51,9 @@ const OWNER_NOTE: &str =
 /// If they name `calls`, the first writer gets the lines of the calls in the messages, as from
 /// [`cli_run::list_calls`], or with `--members` the table of their members, as from
 /// [`cli_run::sum_calls`].
+///
+/// If they name `encode`, the first writer gets the messages that the lines of the reader spell, as
+/// from [`cli_encode::encode_lines`].
 ///
 /// If they name `handshake` with a side, the first writer gets a line for each line of the side's
 /// handshake, its offset, the line and what it says, and then `ok N lines B bytes`; or, if the
@@ -105,6 +110,14 @@ pub fn run_words<R: Source, W: Sink, E: Sink>(
                 second,
             )
         }
+        Ok(Asked::Encode(wanted)) => encode_lines(
+            alloc,
+            encoding_wanted(wanted),
+            MOST_READS,
+            reader,
+            first,
+            second,
+        ),
         Ok(Asked::Handshake(side)) => list_handshake(alloc, side, reader, first, second),
         Err(UsageFault::Memory) => give_up(Cause::Memory, second),
         Err(UsageFault::Help(text) | UsageFault::Version(text)) => {
@@ -239,6 +252,18 @@ fn calls_wanted(as_json: bool, wanted: WantedCalls) -> Wanted
         unanswered: wanted.unanswered,
         errors: wanted.errors,
         slower: wanted.slower,
+    }
+}
+
+// How lines are encoded, as `encode` asks for it.
+fn encoding_wanted(wanted: WantedEncoding) -> Encoding
+    ensures { result ≡ encoding_wanted wanted }
+{
+    Encoding {
+        limits: wanted.limits,
+        order: wanted.order,
+        keeps_going: wanted.keeps_going,
+        most: wanted.max_line as usize,
     }
 }
 

@@ -20,6 +20,15 @@ abbrev pub passes_cut : {A : Type 0} → Result (Vec (String Global) Global) A �
 passes_cut (Ok words) = keep_going words.items
 passes_cut (Err error) = false
 
+-- one of the words is the command that reads lines, which no other command takes
+abbrev pub reads_lines : List (String Global) → Bool
+reads_lines words = list_any (λ w. bytes_eq (string_bytes w) (codes "encode")) words
+
+-- standard input is lines: the words are there, and say so
+abbrev pub takes_lines : {A : Type 0} → Result (Vec (String Global) Global) A → Bool
+takes_lines (Ok words) = reads_lines words.items
+takes_lines (Err error) = false
+
 -- how many packets were passed over
 abbrev pub cut_line : ℕ → List ℕ
 cut_line cut = if cut == 0 then [] else (if cut == 1 then codes "capture: 1 cut packet passed over\n" else codes "capture: " ++ (decimal cut ++ codes " cut packets passed over\n"))

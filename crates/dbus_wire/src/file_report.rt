@@ -1,6 +1,6 @@
 //! What is said of the file that holds the messages.
 ghost use Rattle.std.specs.Prelude.{◌≡◌, IfOk, string_bytes};
-ghost use Rattle.dbus_wire.specs.FileReports.{TellsFile, TellsLines, keep_going, file_text, cut_line};
+ghost use Rattle.dbus_wire.specs.FileReports.{TellsFile, TellsLines, keep_going, reads_lines, file_text, cut_line};
 
 use crate::tell;
 use cli_report::{Cause, give_up};
@@ -14,6 +14,13 @@ pub(crate) fn keep_going(words: &[String]) -> bool
     ensures { result ≡ keep_going words.now }
 {
     words.iter().any(|word| word.as_str() == "--keep-going")
+}
+
+// Whether one of the words is `encode`, which reads lines. No other command takes that word.
+pub(crate) fn reads_lines(words: &[String]) -> bool
+    ensures { result ≡ reads_lines words.now }
+{
+    words.iter().any(|word| word.as_str() == "encode")
 }
 
 // After a run that read all that the file gives, writes how many packets were passed over since

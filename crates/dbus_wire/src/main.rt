@@ -1,7 +1,7 @@
 //! `dbus-wire`: reads D-Bus messages from standard input, one after the other, and does with them
 //! what its command line says: `show` writes each as text, `json` as a line of JSON, `swap` in one
 //! byte order, `filter` those that match a rule as they came, `check` counts them, and `count` by
-//! names. `handshake` lists the lines before them. With `--handshake` the messages follow the
+//! names. `encode` writes the messages of lines of JSON. `handshake` lists the lines before them. With `--handshake` the messages follow the
 //! handshake of one side of a connection. From a pcap or pcapng file it reads the D-Bus packets.
 //!
 //! Output and help go to standard output. A line on standard error, of `check` on standard output,
@@ -17,7 +17,7 @@ ghost use Rattle.std.specs.IoError.{error_kind};
 ghost use Rattle.cli_report.specs.Devices.{writing};
 ghost use Rattle.dbus_tool.specs.Handshaking.{Shows};
 ghost use Rattle.dbus_tool.specs.Words.{RunsWords};
-ghost use Rattle.dbus_wire.specs.FileReports.{passes_cut};
+ghost use Rattle.dbus_wire.specs.FileReports.{passes_cut, takes_lines};
 ghost use Rattle.dbus_wire.specs.NoWords.{TellsNoWords};
 
 mod file_report;
@@ -25,7 +25,7 @@ mod file_report;
 use dbus_capture::Capture;
 use dbus_stream::{FromRead, FromWrite, Sink, Source, WrittenOnly, write_all};
 use dbus_tool::{ExitStatus, ReadAhead, run_words};
-use file_report::{keep_going, tell_file};
+use file_report::{keep_going, reads_lines, tell_file};
 use std::alloc::Global;
 use std::io::ErrorKind;
 use std::process::ExitCode;
@@ -33,10 +33,15 @@ use std::{env, io};
 
 fn main(rt: HostRuntime) -> ExitCode {
     let words = words_of(&rt);
-    let mut capture = Capture::new(FromRead::new(rt.stdin()), passes_cut(&words));
-    let mut reader = ReadAhead::new(&mut capture);
     let mut first = FromWrite::new(rt.stdout());
     let mut second = FromWrite::new(rt.stderr());
+    if takes_lines(&words) {
+        let mut reader = ReadAhead::new(FromRead::new(rt.stdin()));
+        let status = run(rt.alloc(), words, &mut reader, &mut first, &mut second);
+        return ExitCode::from(status.code());
+    }
+    let mut capture = Capture::new(FromRead::new(rt.stdin()), passes_cut(&words));
+    let mut reader = ReadAhead::new(&mut capture);
     let status = run(rt.alloc(), words, &mut reader, &mut first, &mut second);
     let (cut, fault) = (capture.cut_packets(), capture.fault());
     let status = tell_file(rt.alloc(), cut, fault, status, &mut second);
@@ -54,6 +59,16 @@ fn passes_cut(words: &io::Result<Vec<String>>) -> bool
 {
     match words {
         Ok(words) => keep_going(words.as_slice()),
+        Err(_) => false,
+    }
+}
+
+// Whether standard input is lines: no file of packets, also if its first bytes are those of one.
+fn takes_lines(words: &io::Result<Vec<String>>) -> bool
+    ensures { result ≡ takes_lines words.now }
+{
+    match words {
+        Ok(words) => reads_lines(words.as_slice()),
         Err(_) => false,
     }
 }

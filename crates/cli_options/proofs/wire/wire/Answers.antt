@@ -10,4 +10,5 @@ returns c =
     let pairing = c.with_command-pairing.ensures _ _ counting c.calls_command.ensures in
     let swapping = c.with_command-swapping.ensures _ _ pairing c.swap_command.ensures in
     let filtering = c.with_command-filtering.ensures _ _ swapping c.filter_command.ensures in
-    c.with_command.ensures _ _ filtering c.handshake_command.ensures
+    let encoding = c.with_command-encoding.ensures _ _ filtering c.encode_command.ensures in
+    c.with_command.ensures _ _ encoding c.handshake_command.ensures

@@ -1,14 +1,7 @@
-use Rattle.std.proofs.Common.{codes, subst}
-use Rattle.cli_options.specs.CommandLine.{IsArg, limit_rule}
 use Rattle.cli_options.proofs.wire.with_options.Goals as goal
 
 pub returns : goal.returns
 returns c = λ app made.
-    let depth = subst (λ most. IsArg (limit_rule (codes "max-depth") most) c.limit_option.result) c.from-depth.ensures c.limit_option.ensures in
     let formed = c.with_arg-formed.ensures app _ c.flag.ensures made in
     let explain = c.with_arg-explain.ensures _ _ c.flag-2.ensures formed in
-    let messages = c.with_arg-messages.ensures _ _ c.limit_option-message.ensures explain in
-    let arrays = c.with_arg-arrays.ensures _ _ c.limit_option-array.ensures messages in
-    let depths = c.with_arg-depths.ensures _ _ depth arrays in
-    let fds = c.with_arg-fds.ensures _ _ c.word_option.ensures depths in
-    c.with_arg.ensures _ _ c.word_option-2.ensures fds
+    c.with_arg.ensures _ _ c.word_option.ensures (c.with_limits-limits.ensures _ explain)

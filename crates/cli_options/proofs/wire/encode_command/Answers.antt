@@ -1,0 +1,7 @@
+use Rattle.cli_options.proofs.wire.encode_command.Goals as goal
+
+pub returns : goal.returns
+returns c =
+    let ordered = c.with_arg-ordered.ensures _ _ c.word_option.ensures c.bare-encode.ensures in
+    let going = c.with_arg-going.ensures _ _ c.flag.ensures ordered in
+    c.with_limits.ensures _ (c.with_arg.ensures _ _ c.limit_option-line.ensures going)
