@@ -311,8 +311,8 @@ same_named (Some sub) (Handshake x) (Handshake y) p q = same_side_word x y (some
 same_named (Some sub) (Encode a) (Encode b) p q = tt
 same_named (Some sub) (Messages c s) (Encode b) p q = no_encode sub.0 sub.1 c p.0 q.0
 same_named (Some sub) (Encode a) (Messages d t) p q = no_encode sub.0 sub.1 d q.0 p.0
-same_named (Some sub) (Count s f) (Encode b) p q = absurd (let e = sym (ap mark p.0) ∙ ap mark q.0 in omega (arith, e))
-same_named (Some sub) (Encode a) (Count t g) p q = absurd (let e = sym (ap mark p.0) ∙ ap mark q.0 in omega (arith, e))
+same_named (Some sub) (Count s) (Encode b) p q = absurd (let e = sym (ap mark p.0) ∙ ap mark q.0 in omega (arith, e))
+same_named (Some sub) (Encode a) (Count t) p q = absurd (let e = sym (ap mark p.0) ∙ ap mark q.0 in omega (arith, e))
 same_named (Some sub) (Listing s f) (Encode b) p q = absurd (let e = sym (ap mark p.0) ∙ ap mark q.0 in omega (arith, e))
 same_named (Some sub) (Encode a) (Listing t g) p q = absurd (let e = sym (ap mark p.0) ∙ ap mark q.0 in omega (arith, e))
 same_named (Some sub) (Calls s f) (Encode b) p q = absurd (let e = sym (ap mark p.0) ∙ ap mark q.0 in omega (arith, e))
