@@ -12,7 +12,7 @@ use Rattle.dbus_capture.specs.Scans.{place}
 use Rattle.dbus_capture.specs.Blocks.{padded, block_stage, block_by, time_of, give_packet, pass_packet, pass_cut, block_packet, enhanced_by, simple_by, captured_length, decoded_by}
 use Rattle.dbus_capture.specs.Steps.{run, given}
 use Rattle.dbus_capture.specs.Reading.{InSection}
-use Rattle.dbus_capture.specs.Packets.{Reports, IsTimed, interface_of, packet_bytes, packet_time, block_front}
+use Rattle.dbus_capture.specs.Packets.{IsTimed, interface_of, packet_bytes, packet_time, block_front}
 use Rattle.dbus_capture.specs.BlockFiles.{FitsBody, framed_bytes, FileBlock, InterfaceBlock, PacketBlock, ObsoleteBlock, SimpleBlock, OtherBlock, block_bytes, block_body, HasInterface, IsUncut, FitsBlockIf, FitsBlock}
 use Rattle.dbus_capture.specs.CutPackets.{Captured, is_cut, whole_payload, cut_count}
 use Rattle.dbus_capture.specs.BlockPackets.{packet_by, block_packets}
@@ -382,27 +382,54 @@ block_packet_reported s i block = record { number = place (s.packets + 1); at = 
 back_eight : (a : ℕ) → place (place (a + 8) + 2 ^ 64 - 8) ≡ place a
 back_eight a = omega arith
 
--- a packet that begins is reported, and still while its bytes come
-gives_reported : (s m : Scan) (h8 h : List ℕ) (size room : ℕ) (time : Option ℕ) (bytes front back : List ℕ) → s.fault ≡ None → m.packets ≡ s.packets → m.next ≡ place (s.next + 8) → m.fault ≡ None
-    → run s h8 ≡ m → run m h ≡ give_packet m size room time (length bytes) → bytes ≡ front ++ back
-    → (run s ((h8 ++ h) ++ front)).packet ≡ Some (record { number = place (s.packets + 1); at = place s.next; time = time; length = length bytes })
-gives_reported s m h8 h size room time bytes front back u same next fine to_m to_packet e =
-    let p = give_packet m size room time (length bytes) in
+-- what comes before the bytes of a packet was taken, of which these were handed on
+pub record Begins (s : Scan) (front bytes out : List ℕ) (packet : Packet) : Type 0 where
+  pub state : Scan
+  pub ran : run s front ≡ state
+  pub gave : given s front ≡ out
+  pub unfaulted : state.fault ≡ None
+  pub filed : is_filed state.head.stage ≡ true
+  pub gives : state.give ≡ length bytes
+  pub told : state.packet ≡ Some packet
+
+-- it is reported, and still while its bytes come
+pub still_told : (s : Scan) (before bytes out front back : List ℕ) (packet : Packet) → Begins s before bytes out packet → bytes ≡ front ++ back → (run s (before ++ front)).packet ≡ Some packet
+still_told s before bytes out front back packet b e =
     let q = length-append front back in
     let z = ap length e in
-    let gives = run_gives p front fine refl (omega (arith, q, z)) in
-    ap (λ (v : Scan). v.packet) (ap (run s) (append_assoc h8 h front) ∙ run-append s h8 (h ++ front) ∙ ap (λ (v : Scan). run v (h ++ front)) to_m ∙ run-append m h front ∙ ap (λ (v : Scan). run v front) to_packet ∙ gives.0)
-    ∙ ap (λ (v : ℕ). Some (record { number = place (v + 1); at = place (m.next + 2 ^ 64 - 8); time = time; length = length bytes })) same
-    ∙ ap (λ (v : ℕ). Some (record { number = place (s.packets + 1); at = place (v + 2 ^ 64 - 8); time = time; length = length bytes })) next
-    ∙ ap (λ (v : ℕ). Some (record { number = place (s.packets + 1); at = v; time = time; length = length bytes })) (back_eight s.next)
+    let g = b.gives in
+    let law = run_gives b.state front b.unfaulted b.filed (omega (arith, q, z, g)) in
+    ap (λ (v : Scan). v.packet) (run-append s before front ∙ ap (λ (v : Scan). run v front) b.ran ∙ law.0) ∙ b.told
 
-packet_reported : (s : Scan) (order : ByteOrder) (interfaces : List Interface) (kind : ℕ) (stage : Stage) (i : Interface) (first : List ℕ) (four : length first ≡ 4) (high low original : ℕ) (bytes rest front back : List ℕ)
+-- these are handed on
+pub hands_on : (s : Scan) (before bytes out : List ℕ) (packet : Packet) → Begins s before bytes out packet → given (run s before) bytes ≡ bytes
+hands_on s before bytes out packet b =
+    let g = b.gives in
+    ap (λ (v : Scan). given v bytes) b.ran ∙ (run_gives b.state bytes b.unfaulted b.filed (omega (arith, g))).1
+
+begins_packet : (s m : Scan) (h8 h : List ℕ) (size room : ℕ) (time : Option ℕ) (bytes : List ℕ) → m.packets ≡ s.packets → m.next ≡ place (s.next + 8) → m.fault ≡ None
+    → run s h8 ≡ m → given s h8 ≡ [] → run m h ≡ give_packet m size room time (length bytes) → given m h ≡ []
+    → Begins s (h8 ++ h) bytes [] (record { number = place (s.packets + 1); at = place s.next; time = time; length = length bytes })
+begins_packet s m h8 h size room time bytes same next fine to_m quiet to_packet silent =
+    let n = length bytes in
+    record {
+      state = give_packet m size room time n;
+      ran = run-append s h8 h ∙ ap (λ (v : Scan). run v h) to_m ∙ to_packet;
+      gave = given-append s h8 h ∙ ap (λ l. l ++ given (run s h8) h) quiet ∙ ap (λ (v : Scan). given v h) to_m ∙ silent;
+      unfaulted = fine;
+      filed = refl;
+      gives = refl;
+      told = ap (λ (v : ℕ). Some (record { number = place (v + 1); at = place (m.next + 2 ^ 64 - 8); time = time; length = n })) same
+          ∙ ap (λ (v : ℕ). Some (record { number = place (s.packets + 1); at = place (v + 2 ^ 64 - 8); time = time; length = n })) next
+          ∙ ap (λ (v : ℕ). Some (record { number = place (s.packets + 1); at = v; time = time; length = n })) (back_eight s.next);
+    }
+
+packet_reported : (s : Scan) (order : ByteOrder) (interfaces : List Interface) (kind : ℕ) (stage : Stage) (i : Interface) (first : List ℕ) (four : length first ≡ 4) (high low original : ℕ) (bytes rest : List ℕ)
     → let h = packet_head order first four high low (length bytes) original in
     IsPacketBlock kind stage order interfaces h i → InSection s order interfaces → length bytes < 2 ^ 32 → padded (length bytes) ≤ length bytes + length rest → original < 2 ^ 32 → IsUncut i original bytes
-    → FitsBody (h ++ (bytes ++ rest)) → high < 2 ^ 32 → low < 2 ^ 32 → i.link_type ≡ 231 → bytes ≡ front ++ back
-    → (run s (((u32_bytes order kind ++ u32_bytes order (12 + length (h ++ (bytes ++ rest)))) ++ h) ++ front)).packet
-    ≡ Some (record { number = place (s.packets + 1); at = place s.next; time = time_of i (high * 2 ^ 32 + low); length = length bytes })
-packet_reported s order interfaces kind stage i first four high low original bytes rest front back p w fits low_room fits_original whole b fh fl link_type e =
+    → FitsBody (h ++ (bytes ++ rest)) → high < 2 ^ 32 → low < 2 ^ 32 → i.link_type ≡ 231
+    → Begins s ((u32_bytes order kind ++ u32_bytes order (12 + length (h ++ (bytes ++ rest)))) ++ h) bytes [] (record { number = place (s.packets + 1); at = place s.next; time = time_of i (high * 2 ^ 32 + low); length = length bytes })
+packet_reported s order interfaces kind stage i first four high low original bytes rest p w fits low_room fits_original whole b fh fl link_type =
     let n = length bytes in
     let h = packet_head order first four high low n original in
     let total = 12 + length (h ++ (bytes ++ rest)) in
@@ -424,12 +451,12 @@ packet_reported s order interfaces kind stage i first four high low original byt
     ∙ ap (λ (v : ℕ). block_packet m 20 12 (total - 32) i.link_type (time high low) v (u32_at order 16 h)) (captured_read order first four high low n original fits)
     ∙ ap (λ (v : ℕ). block_packet m 20 12 (total - 32) i.link_type (time high low) n v) (original_read order first four high low n original fits_original)
     ∙ packet_given m 20 12 (total - 32) i.link_type (time high low) n original (omega (arith, low_room, room)) link_type (whole link_type) in
-    gives_reported s m h8 h 20 (total - 32) (time high low) bytes front back w.ready.unfaulted refl refl w.ready.unfaulted to_m to_packet e
+    begins_packet s m h8 h 20 (total - 32) (time high low) bytes refl refl w.ready.unfaulted to_m (ap (λ (v : ByteOrder). given s (u32_bytes v kind ++ u32_bytes v total)) (sym w.order_is) ∙ opened.1) to_packet law.1
 
-simple_reported : (s : Scan) (order : ByteOrder) (interfaces : List Interface) (i : Interface) (original : ℕ) (bytes rest front back : List ℕ) → InSection s order interfaces → FitsBlock interfaces (SimpleBlock original bytes rest)
-    → FitsBody (block_body order (SimpleBlock original bytes rest)) → slice_get interfaces 0 ≡ Some i → i.link_type ≡ 231 → bytes ≡ front ++ back
-    → Reports (run s (block_front order (SimpleBlock original bytes rest) ++ front)) (block_packet_reported s i (SimpleBlock original bytes rest))
-simple_reported s order interfaces i original bytes rest front back w f b found link_type e =
+simple_reported : (s : Scan) (order : ByteOrder) (interfaces : List Interface) (i : Interface) (original : ℕ) (bytes rest : List ℕ) → InSection s order interfaces → FitsBlock interfaces (SimpleBlock original bytes rest)
+    → FitsBody (block_body order (SimpleBlock original bytes rest)) → slice_get interfaces 0 ≡ Some i → i.link_type ≡ 231
+    → Begins s (block_front order (SimpleBlock original bytes rest)) bytes [] (block_packet_reported s i (SimpleBlock original bytes rest))
+simple_reported s order interfaces i original bytes rest w f b found link_type =
     let n = length bytes in
     let h = u32_bytes order original in
     let total = 12 + length (h ++ (bytes ++ rest)) in
@@ -452,7 +479,7 @@ simple_reported s order interfaces i original bytes rest front back w f b found 
     ∙ ap (λ (v : ℕ). block_packet m 4 0 (total - 16) i.link_type None (captured_length i.snap_length v) v) read
     ∙ ap (λ (v : ℕ). block_packet m 4 0 (total - 16) i.link_type None v original) both.0
     ∙ packet_given m 4 0 (total - 16) i.link_type None n original (omega (arith, low_room, room)) link_type (both.1 link_type) in
-    gives_reported s m h8 h 4 (total - 16) None bytes front back w.ready.unfaulted refl refl w.ready.unfaulted to_m to_packet e
+    begins_packet s m h8 h 4 (total - 16) None bytes refl refl w.ready.unfaulted to_m (ap (λ (v : ByteOrder). given s (u32_bytes v 3 ++ u32_bytes v total)) (sym w.order_is) ∙ opened.1) to_packet law.1
 
 -- the interface that was found is the one that is there
 uncut_as : (interfaces : List Interface) (number : ℕ) (i : Interface) (original : ℕ) (bytes : List ℕ) → HasInterface interfaces number (λ v. IsUncut v original bytes) → slice_get interfaces number ≡ Some i → IsUncut i original bytes
@@ -460,15 +487,15 @@ uncut_as interfaces number i original bytes there found =
     let same : there.0 ≡ i = let x = there.1 in cc (x, found) in
     subst (λ (v : Interface). IsUncut v original bytes) same there.2
 
-pub block_reported : (s : Scan) (order : ByteOrder) (interfaces : List Interface) (i : Interface) (block : FileBlock) (front back : List ℕ) → InSection s order interfaces
-    → FitsBlock interfaces block → FitsBody (block_body order block) → IsTimed block → slice_get interfaces (interface_of block) ≡ Some i → i.link_type ≡ 231 → packet_bytes block ≡ front ++ back
-    → Reports (run s (block_front order block ++ front)) (block_packet_reported s i block)
-block_reported s order interfaces i (PacketBlock number high low original bytes rest) front back w f b t found link_type e =
+pub block_reported : (s : Scan) (order : ByteOrder) (interfaces : List Interface) (i : Interface) (block : FileBlock) → InSection s order interfaces
+    → FitsBlock interfaces block → FitsBody (block_body order block) → IsTimed block → slice_get interfaces (interface_of block) ≡ Some i → i.link_type ≡ 231
+    → Begins s (block_front order block) (packet_bytes block) [] (block_packet_reported s i block)
+block_reported s order interfaces i (PacketBlock number high low original bytes rest) w f b t found link_type =
     let four = u32_size order number in
-    packet_reported s order interfaces 6 stages.Enhanced i (u32_bytes order number) four high low original bytes rest front back (enhanced_is order interfaces i number high low (length bytes) original f.0 found) w f.1 f.2 f.3 (uncut_as interfaces number i original bytes f.4 found) b t.0 t.1 link_type e
-block_reported s order interfaces i (ObsoleteBlock number drops high low original bytes rest) front back w f b t found link_type e =
-    packet_reported s order interfaces 2 stages.ObsoletePacket i (u16_bytes order number ++ u16_bytes order drops) (halves_size order number drops) high low original bytes rest front back
-    (obsolete_is order interfaces i number drops high low (length bytes) original f.0 found) w f.1 f.2 f.3 (uncut_as interfaces number i original bytes f.4 found) b t.0 t.1 link_type e
-block_reported s order interfaces i (SimpleBlock original bytes rest) front back w f b t found link_type e = simple_reported s order interfaces i original bytes rest front back w f b found link_type e
-block_reported s order interfaces i (InterfaceBlock a b c d z) front back w f x t found link_type e = absurd t
-block_reported s order interfaces i (OtherBlock kind body) front back w f b t found link_type e = absurd t
+    packet_reported s order interfaces 6 stages.Enhanced i (u32_bytes order number) four high low original bytes rest (enhanced_is order interfaces i number high low (length bytes) original f.0 found) w f.1 f.2 f.3 (uncut_as interfaces number i original bytes f.4 found) b t.0 t.1 link_type
+block_reported s order interfaces i (ObsoleteBlock number drops high low original bytes rest) w f b t found link_type =
+    packet_reported s order interfaces 2 stages.ObsoletePacket i (u16_bytes order number ++ u16_bytes order drops) (halves_size order number drops) high low original bytes rest
+    (obsolete_is order interfaces i number drops high low (length bytes) original f.0 found) w f.1 f.2 f.3 (uncut_as interfaces number i original bytes f.4 found) b t.0 t.1 link_type
+block_reported s order interfaces i (SimpleBlock original bytes rest) w f b t found link_type = simple_reported s order interfaces i original bytes rest w f b found link_type
+block_reported s order interfaces i (InterfaceBlock a b c d z) w f x t found link_type = absurd t
+block_reported s order interfaces i (OtherBlock kind body) w f b t found link_type = absurd t

@@ -1,23 +1,25 @@
 -- What is read of the sections of a pcapng file: its packets, whole or past those that were cut.
-use Rattle.std.proofs.Common.{◌≡◌, inl, inr, ℕ, ◌+◌, Bool, true, false, cond, List, [], ◌∷◌, ◌++◌, length, Option, Some, refl, sym, ap, subst, ◌∙◌, arith, append-nil, length-append}
+use Rattle.std.proofs.Common.{◌≡◌, inl, inr, ℕ, ◌+◌, ◌<◌, Bool, true, false, cond, List, [], ◌∷◌, ◌++◌, length, Option, Some, refl, sym, ap, subst, ◌∙◌, arith, append_assoc, append-nil, length-append}
 use Rattle.std.specs.Prelude.{slice_get}
 use Rattle.std.proofs.lemmas.Bool.{cases_lt}
 use Rattle.dbus_capture.specs.declared.stage.Stage.TheVariants as stages
 use Rattle.dbus_capture.specs.declared.interface.Interface.{Interface}
 use Rattle.dbus_capture.specs.declared.scan.Scan.{Scan}
 use Rattle.dbus_capture.specs.Scans.{place, fresh}
-use Rattle.dbus_capture.specs.Steps.{run, ended}
+use Rattle.dbus_capture.specs.Steps.{run, given, packet_given, ended}
 use Rattle.dbus_capture.specs.Reading.{IsRead}
 use Rattle.dbus_capture.specs.CutPackets.{Captured, is_cut, whole_payload, cut_count, IsReadPast}
 use Rattle.dbus_capture.specs.BlockFiles.{FitsBody, FileBlock, InterfaceBlock, PacketBlock, ObsoleteBlock, SimpleBlock, OtherBlock, block_body, interfaces_after, block_payload, blocks_payload, bytes_by, HasInterface, IsUncut, FitsBlock, AllFitBlocks, FileSection, FitsSection, AllFitSections, FitsSectionIf, AllFitSectionsIf, sections_bytes, sections_payload}
 use Rattle.dbus_capture.specs.BlockPackets.{IsPart, packet_by, block_packets, blocks_packets, sections_packets}
 use Rattle.dbus_capture.specs.BlockFaults.{interfaces_all, last_section}
 use Rattle.dbus_capture.specs.Packets.{Reports, IsTimed, interface_of, packet_bytes, packet_time, block_front, pcapng_packet_reported}
-use Rattle.dbus_capture.proofs.StepLaws.{run-append}
+use Rattle.dbus_device.specs.declared.packet.Packet.{Packet}
+use Rattle.dbus_capture.proofs.PacketSteps.{packet_after}
+use Rattle.dbus_capture.proofs.StepLaws.{run-append, given-append}
 use Rattle.dbus_capture.proofs.PcapOutcomes.{eq_is, eq_not, cases_same}
 use Rattle.dbus_capture.proofs.BlockTurns.{when_true, when_false, lt_false}
 use Rattle.dbus_capture.proofs.KeptLaws.{whole_count, payload_both, whole_both}
-use Rattle.dbus_capture.proofs.BlockLaws.{Takes, block_reported}
+use Rattle.dbus_capture.proofs.BlockLaws.{Takes, Begins, still_told, hands_on, block_reported}
 use Rattle.dbus_capture.proofs.SectionLaws.{file_read, block_ends}
 
 -- ---- packets that were captured whole
@@ -114,21 +116,46 @@ place_after a n e = omega (arith, e)
 place_zero : (n : ℕ) → place (place (0 + n)) ≡ place n
 place_zero n = omega arith
 
-pub pcapng_reported : (passes : Bool) (x : FileSection) (sections : List FileSection) (i : Interface) (block : FileBlock) (front back : List ℕ)
-    → let last = last_section x sections in
-    let interfaces = interfaces_all [] last.blocks in
-    FitsSection x → AllFitSections sections → FitsBlock interfaces block → FitsBody (block_body last.order block) → IsTimed block → slice_get interfaces (interface_of block) ≡ Some i → i.link_type ≡ 231 → packet_bytes block ≡ front ++ back
-    → Reports (run (fresh passes stages.Start) (sections_bytes (x ∷ sections) ++ (block_front last.order block ++ front))) (pcapng_packet_reported (x ∷ sections) i block)
-pcapng_reported passes x sections i block front back f g fits body timed found link_type e =
-    let s = fresh passes stages.Start in
-    let last = last_section x sections in
-    let w = file_read IsUncut passes (takes_uncut passes) x sections f g in
-    let before = sections_bytes (x ∷ sections) in
-    let here = block_front last.order block ++ front in
-    let packets = sections_packets (x ∷ sections) in
-    let count : place w.final.packets ≡ place (0 + length packets) = w.kept.packets ∙ ap (λ (v : ℕ). place (0 + v)) (sections_whole (x ∷ sections) (f, g)).count in
-    let at : place w.final.next ≡ place (length before) = ap place (w.kept.next refl) ∙ place_zero (length before) in
-    ap (λ (v : Scan). v.packet) (run-append s before here ∙ ap (λ (v : Scan). run v here) w.ran)
-    ∙ block_reported w.final last.order (interfaces_all [] last.blocks) i block front back w.stands fits body timed found link_type e
-    ∙ ap (λ (n : ℕ). Some (record { number = n; at = place w.final.next; time = packet_time i block; length = length (packet_bytes block) })) (place_after w.final.packets (length packets) count)
-    ∙ ap (λ (n : ℕ). Some (record { number = place (length packets + 1); at = n; time = packet_time i block; length = length (packet_bytes block) })) at
+module _ (passes : Bool) (x : FileSection) (sections : List FileSection) (i : Interface) (block : FileBlock) (f : FitsSection x) (g : AllFitSections sections) (fits : FitsBlock (interfaces_all [] (last_section x sections).blocks) block)
+    (body : FitsBody (block_body (last_section x sections).order block)) (timed : IsTimed block) (found : slice_get (interfaces_all [] (last_section x sections).blocks) (interface_of block) ≡ Some i) (link_type : i.link_type ≡ 231) where
+  abbrev s : Scan
+  s = fresh passes stages.Start
+
+  abbrev before : List ℕ
+  before = sections_bytes (x ∷ sections)
+
+  abbrev head : List ℕ
+  head = block_front (last_section x sections).order block
+
+  abbrev packet : Packet
+  packet = pcapng_packet_reported (x ∷ sections) i block
+
+  -- its bytes come after the sections and the front of its block
+  begun : Begins s (before ++ head) (packet_bytes block) (sections_payload (x ∷ sections)) packet
+  begun =
+      let last = last_section x sections in
+      let w = file_read IsUncut passes (takes_uncut passes) x sections f g in
+      let whole = sections_whole (x ∷ sections) (f, g) in
+      let payload = sections_payload (x ∷ sections) in
+      let packets = sections_packets (x ∷ sections) in
+      let b = block_reported w.final last.order (interfaces_all [] last.blocks) i block w.stands fits body timed found link_type in
+      let count : place w.final.packets ≡ place (0 + length packets) = w.kept.packets ∙ ap (λ (v : ℕ). place (0 + v)) whole.count in
+      let at : place w.final.next ≡ place (length before) = ap place (w.kept.next refl) ∙ place_zero (length before) in
+      record {
+        state = b.state;
+        ran = run-append s before head ∙ ap (λ (v : Scan). run v head) w.ran ∙ b.ran;
+        gave = given-append s before head ∙ ap (λ l. l ++ given (run s before) head) (w.gave ∙ whole.payload) ∙ ap (λ (v : Scan). payload ++ given v head) w.ran ∙ ap (λ l. payload ++ l) b.gave ∙ append-nil payload;
+        unfaulted = b.unfaulted;
+        filed = b.filed;
+        gives = b.gives;
+        told = b.told ∙ ap (λ (n : ℕ). Some (record { number = n; at = place w.final.next; time = packet_time i block; length = length (packet_bytes block) })) (place_after w.final.packets (length packets) count)
+            ∙ ap (λ (n : ℕ). Some (record { number = place (length packets + 1); at = n; time = packet_time i block; length = length (packet_bytes block) })) at;
+      }
+
+  pub pcapng_reported : (front back : List ℕ) → packet_bytes block ≡ front ++ back → Reports (run s (before ++ (head ++ front))) packet
+  pcapng_reported front back e = ap (λ (l : List ℕ). (run s l).packet) (sym (append_assoc before head front)) ∙ still_told s (before ++ head) (packet_bytes block) (sections_payload (x ∷ sections)) front back packet begun e
+
+  pub pcapng_packet_of : (more : List ℕ) (n : ℕ) → n < length (packet_bytes block) → packet_given s ((before ++ head) ++ (packet_bytes block ++ more)) (length (sections_payload (x ∷ sections)) + n) ≡ Some packet
+  pcapng_packet_of more n low =
+      packet_after s (before ++ head) (packet_bytes block) more (length (sections_payload (x ∷ sections))) n (ap length begun.gave) (hands_on s (before ++ head) (packet_bytes block) (sections_payload (x ∷ sections)) packet begun) low
+      ∙ ap (λ (v : Scan). v.packet) begun.ran ∙ begun.told

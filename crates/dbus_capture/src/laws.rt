@@ -124,6 +124,21 @@ pub fn pcap_bytes_have_packets()
         Some (pcap_packet_reported header packets packet) }
 {}
 
+/// The same of each byte of such a packet of a pcapng file.
+pub fn pcapng_bytes_have_packets()
+    ensures { (passes_cut : Bool) (x : FileSection) (sections : List FileSection) (i : Interface)
+        (block : FileBlock) (more : List ℕ) (n : ℕ) → let last = last_section x sections in
+        let interfaces = interfaces_all [] last.blocks in
+        FitsSection x → AllFitSections sections → FitsBlock interfaces block →
+        FitsBody (block_body last.order block) → IsTimed block →
+        slice_get interfaces (interface_of block) ≡ Some i → i.link_type ≡ 231 →
+        n < length (packet_bytes block) →
+        packet_given (fresh passes_cut stages.Start)
+        ((sections_bytes (x ∷ sections) ++ block_front last.order block) ++
+        (packet_bytes block ++ more)) (length (sections_payload (x ∷ sections)) + n) ≡
+        Some (pcapng_packet_reported (x ∷ sections) i block) }
+{}
+
 /// A capture gives what begins as a message or a handshake as it is.
 pub fn streams_are_no_files()
     ensures { (first : ℕ) → IsFirstOfStream first → first_stage first ≡ stages.Raw }
