@@ -1,6 +1,6 @@
 -- Header fields that have one text in JSON are one row of fields.
-use Rattle.std.proofs.Common.{◌≡◌, ℕ, ◌+◌, ◌*◌, ◌^◌, ◌<◌, ◌≤◌, Bool, true, false, cond, eqb, List, [], ◌∷◌, ◌++◌, length, get_or, map, filter, Option, Some, None, inl, inr, codes, decimal, refl, sym, ap, ◌∙◌, subst, arith, append_assoc}
-use Rattle.std.proofs.lemmas.Bool.{cases_Bool, ne_eqb, eq-eqb, eqb-true, true≢false}
+use Rattle.std.proofs.Common.{◌≡◌, ℕ, ◌+◌, ◌^◌, ◌<◌, ◌≤◌, Bool, true, false, cond, eqb, List, [], ◌∷◌, ◌++◌, length, get_or, map, filter, Option, Some, None, inl, inr, codes, decimal, refl, sym, ap, ◌∙◌, subst, arith, append_assoc}
+use Rattle.std.proofs.lemmas.Bool.{cases_Bool, eq-eqb, eqb-true, true≢false}
 use Rattle.std.proofs.lemmas.Fmt.{decimal_injective}
 use Rattle.std.proofs.lemmas.List.{append-nil, append_cancel_left, length-append}
 use Rattle.std.specs.List.{enumerate_from}
@@ -16,6 +16,7 @@ use Rattle.dbus_json.specs.JsonValues.{plain, member, object, listed}
 use Rattle.dbus_json.specs.JsonMessages.{IsKnown, IsOther, place_members, end_text}
 use Rattle.dbus_json.proofs.FieldTexts.{other_text}
 use Rattle.dbus_json_laws.proofs.Numbers.{Bare, AreAll, cut, decimal_bare, bare_literal, plain_same}
+use Rattle.dbus_json_reader.proofs.KnownNames.{code_in, unknown}
 use Rattle.dbus_json_reader.proofs.NumberTexts.{same_head}
 use Rattle.dbus_json_reader.proofs.SoundValues.{Sound, AreSound}
 use Rattle.dbus_json_laws.proofs.Values.{Stop, more, comma_ends, after_item, brace_stop, same_json, same_signature}
@@ -68,12 +69,6 @@ few_fields order o (f ∷ fs) =
 
 -- ---- known fields
 
--- which code a name is of, by its first two letters
-abbrev code_in : List ℕ → ℕ
-code_in t =
-    let k = get_or t 0 0 * 256 + get_or t 1 0 in
-    cond (eqb k 28769) 1 (cond (eqb k 26990) 2 (cond (eqb k 28005) 3 (cond (eqb k 25970) 4 (cond (eqb k 29285) 5 (cond (eqb k 25701) 6 (cond (eqb k 29541) 7 (cond (eqb k 29545) 8 (cond (eqb k 30062) 9 0))))))))
-
 -- the name of a known code, read back
 abbrev Named : ℕ → Type 0
 Named code = (code_in (field_name code) ≡ code) × AreAll Bare (field_name code)
@@ -81,9 +76,6 @@ Named code = (code_in (field_name code) ≡ code) × AreAll Bare (field_name cod
 named_if : (b : Bool) (code k : ℕ) (name rest : List ℕ) → eqb code k ≡ b → code_in name ≡ k → AreAll Bare name → ((code ≡ k → ⊥) → (code_in rest ≡ code) × AreAll Bare rest) → (code_in (cond b name rest) ≡ code) × AreAll Bare (cond b name rest)
 named_if true code k name rest e is bare other = (is ∙ sym (eqb-true code k e), bare)
 named_if false code k name rest e is bare other = other (λ same. true≢false (sym (eq-eqb code k same) ∙ e))
-
-unknown : (code : ℕ) → (code ≡ 1 → ⊥) → (code ≡ 2 → ⊥) → (code ≡ 3 → ⊥) → (code ≡ 4 → ⊥) → (code ≡ 5 → ⊥) → (code ≡ 6 → ⊥) → (code ≡ 7 → ⊥) → (code ≡ 8 → ⊥) → (code ≡ 9 → ⊥) → is_known code ≡ false
-unknown code a b c d e f g h i = rw (ne_eqb code 1 a, ne_eqb code 2 b, ne_eqb code 3 c, ne_eqb code 4 d, ne_eqb code 5 e, ne_eqb code 6 f, ne_eqb code 7 g, ne_eqb code 8 h, ne_eqb code 9 i) refl
 
 named : (code : ℕ) → is_known code ≡ true → Named code
 named code known =

@@ -1,5 +1,6 @@
 -- No JSON spells two messages.
 use Rattle.std.proofs.Common.{◌≡◌, ℕ, suc, ◌+◌, ◌-◌, ◌^◌, ◌<◌, List, [], ◌∷◌, length, map, get_or, Option, Some, None, inl, inr, codes, refl, sym, ap, ◌∙◌, subst, arith}
+use Rattle.std.proofs.lemmas.Option.{same_Some}
 use Rattle.json.specs.Find.{get}
 use Rattle.json.specs.Json.{Json, string}
 use Rattle.json.specs.Json as json
@@ -15,7 +16,7 @@ use Rattle.dbus_json_reader.specs.JsonMembers.{SpellsKind}
 use Rattle.dbus_json_reader.specs.JsonMessages.{SpellsOrder, IsReadMessage}
 use Rattle.dbus_json_reader.specs.JsonParts.{AreReadFields, IsOtherField}
 use Rattle.dbus_json_reader.proofs.Merging.{Mixed, next_object, one_other, only_known}
-use Rattle.dbus_json_reader.proofs.Messages.{fields_of, known_of, body_of, one_kind, one_number, one_body, same_message, some_json}
+use Rattle.dbus_json_reader.proofs.Messages.{fields_of, known_of, body_of, one_kind, one_number, one_body, same_message}
 use Rattle.dbus_json_reader.proofs.Placing.{field_of, read_row, read_known}
 use Rattle.dbus_json_reader.proofs.Shapes.{strings_same}
 use Rattle.dbus_json_laws.specs.Reading.{IsOneMessageEach}
@@ -102,7 +103,7 @@ same_within number order other m w j h k =
     let mine = u.serial_fits in
     let ms = h.spelled.ms in
     let is = h.spelled.is in
-    let type = some_json _ _ (sym h.spelled.told ∙ k.spelled.told) in
+    let type = same_Some _ _ (sym h.spelled.told ∙ k.spelled.told) in
     let known = known_of specification number order m j h ms is in
     let few = few_fields Little (contents_start field_type 12) m.fields in
     let most = v.within_fields.0 in

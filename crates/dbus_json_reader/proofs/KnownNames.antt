@@ -1,6 +1,7 @@
 -- The codes and the names of the known header fields.
-use Rattle.std.proofs.Common.{◌≡◌, ℕ, ◌+◌, ◌*◌, ◌<◌, ◌≤◌, Bool, true, false, cond, eqb, List, get_or, inl, inr, Some, refl, sym, ap, ◌∙◌, subst, arith}
+use Rattle.std.proofs.Common.{◌≡◌, ℕ, ◌+◌, ◌*◌, ◌<◌, ◌≤◌, Bool, true, false, cond, eqb, List, get_or, inl, inr, refl, sym, ap, ◌∙◌, subst, arith}
 use Rattle.std.proofs.lemmas.Bool.{cases_eq, ne_eqb, eq-eqb, eqb-true, true≢false}
+use Rattle.std.proofs.lemmas.Option.{same_Some}
 use Rattle.json.specs.Json.{Json}
 use Rattle.dbus_texts.specs.Types.{TypeTree}
 use Rattle.dbus_message_model.specs.Messages.{FieldTree, want, is_known}
@@ -11,11 +12,11 @@ use Rattle.dbus_json_reader.specs.JsonParts.{IsKnownField}
 use Rattle.dbus_json_reader.specs.JsonValues.{IsRead}
 use Rattle.dbus_json_reader.proofs.OneValue.{one_value}
 
-unknown : (code : ℕ) → (code ≡ 1 → ⊥) → (code ≡ 2 → ⊥) → (code ≡ 3 → ⊥) → (code ≡ 4 → ⊥) → (code ≡ 5 → ⊥) → (code ≡ 6 → ⊥) → (code ≡ 7 → ⊥) → (code ≡ 8 → ⊥) → (code ≡ 9 → ⊥) → is_known code ≡ false
+pub unknown : (code : ℕ) → (code ≡ 1 → ⊥) → (code ≡ 2 → ⊥) → (code ≡ 3 → ⊥) → (code ≡ 4 → ⊥) → (code ≡ 5 → ⊥) → (code ≡ 6 → ⊥) → (code ≡ 7 → ⊥) → (code ≡ 8 → ⊥) → (code ≡ 9 → ⊥) → is_known code ≡ false
 unknown code a b c d e f g h i = rw (ne_eqb code 1 a, ne_eqb code 2 b, ne_eqb code 3 c, ne_eqb code 4 d, ne_eqb code 5 e, ne_eqb code 6 f, ne_eqb code 7 g, ne_eqb code 8 h, ne_eqb code 9 i) refl
 
 -- which code a name is of, by its first two letters
-abbrev code_in : List ℕ → ℕ
+abbrev pub code_in : List ℕ → ℕ
 code_in t =
     let k = get_or t 0 0 * 256 + get_or t 1 0 in
     cond (eqb k 28769) 1 (cond (eqb k 26990) 2 (cond (eqb k 28005) 3 (cond (eqb k 25970) 4 (cond (eqb k 29285) 5 (cond (eqb k 25701) 6 (cond (eqb k 29541) 7 (cond (eqb k 29545) 8 (cond (eqb k 30062) 9 0))))))))
@@ -89,12 +90,9 @@ low_known code low high =
 pub same_field : (f g : FieldTree) → f.code ≡ g.code → f.value ≡ g.value → f ≡ g
 same_field f g code value = ap (λ (c : ℕ). record { code = c; value = f.value }) code ∙ ap (λ (v : ValueTree). record { code = g.code; value = v }) value
 
-some_types : (t u : TypeTree) → Some t ≡ Some u → t ≡ u
-some_types t u e = cc
-
 -- no member spells two known fields
 pub one_known : (depth other : ℕ) (f g : FieldTree) (m : List ℕ × Json) → IsKnownField depth f m → IsKnownField other g m → f ≡ g
 one_known depth other f g m a b =
     let code = one_code f.code g.code a.known b.known (sym a.named ∙ b.named) in
-    let type = some_types a.type b.type (sym a.wanted ∙ ap (λ (c : ℕ). type_wanted (want c)) code ∙ b.wanted) in
+    let type = same_Some a.type b.type (sym a.wanted ∙ ap (λ (c : ℕ). type_wanted (want c)) code ∙ b.wanted) in
     same_field f g code (one_value depth other b.type f.value g.value m.1 (subst (λ (t : TypeTree). IsRead depth t f.value m.1) type a.read) b.read)

@@ -2,10 +2,10 @@
 use Rattle.std.proofs.Common.{◌≡◌, ◌⊎◌, ℕ, zero, suc, ◌+◌, ◌^◌, ◌<◌, ◌≤◌, ltb, true, false, List, [], ◌∷◌, ◌++◌, length, take, drop, Option, Some, None, inl, inr, codes, refl, sym, ap, ◌∙◌, subst, arith, append_assoc, length-drop}
 use Rattle.std.proofs.lemmas.Bool.{cases_lt, lt-ltb, true≢false}
 use Rattle.std.proofs.lemmas.Fmt.{decimal_injective}
+use Rattle.std.proofs.lemmas.Option.{same_Some}
 use Rattle.std.proofs.lemmas.List.{take-append-drop}
 use Rattle.std.specs.List.{insert}
 use Rattle.json.specs.Find.{get}
-use Rattle.json.specs.Json as json
 use Rattle.json.specs.Json.{Json}
 use Rattle.dbus_texts.specs.Types.{TypeTree}
 use Rattle.dbus_message_model.specs.Messages.{FieldTree, is_known}
@@ -14,8 +14,8 @@ use Rattle.dbus_json_reader.specs.JsonMessages.{SpellsPlace}
 use Rattle.dbus_json_reader.specs.JsonParts.{IsOtherField, AreAllKnown}
 use Rattle.dbus_json_reader.specs.JsonValues.{IsRead}
 use Rattle.dbus_json_reader.proofs.KnownNames.{same_field}
-use Rattle.dbus_json_reader.proofs.OneValue.{one_value}
-use Rattle.dbus_json_reader.proofs.Shapes.{one_type}
+use Rattle.dbus_json_reader.proofs.OneValue.{numbers_same, one_value}
+use Rattle.dbus_json_reader.proofs.Shapes.{strings_same, one_type}
 
 -- These fields, of which the first has this place among all, are the known ones and those of these
 -- objects.
@@ -27,30 +27,21 @@ Mixed depth n ks js (f ∷ fs) =
 
 -- ---- one object is of one field
 
-numbers : (s t : List ℕ) → Some (json.number s) ≡ Some (json.number t) → s ≡ t
-numbers s t e = cc
-
-strings : (s t : List ℕ) → Some (json.string s) ≡ Some (json.string t) → s ≡ t
-strings s t e = cc
-
-somes : (i j : Json) → Some i ≡ Some j → i ≡ j
-somes i j e = cc
-
-not_below : (p e : ℕ) → p ≤ e → ltb p e ≡ false → p ≡ e
+pub not_below : (p e : ℕ) → p ≤ e → ltb p e ≡ false → p ≡ e
 not_below p e within none = elim (cases_lt p e) [ inl lt ↦ absurd (true≢false (sym (lt-ltb p e lt) ∙ none)) | inr le ↦ omega (arith, within, le) ]
 
 one_place : (e p q : ℕ) (told : Option Json) → e < 2 ^ 64 → p ≤ e → q ≤ e → SpellsPlace (ltb p e) p told → SpellsPlace (ltb q e) q told → p ≡ q
 one_place e p q None most h k a b = not_below p e h a ∙ sym (not_below q e k b)
-one_place e p q (Some j) most h k a b = decimal_injective p q (omega (arith, most, h)) (omega (arith, most, k)) (numbers _ _ (ap Some (sym a ∙ b)))
+one_place e p q (Some j) most h k a b = decimal_injective p q (omega (arith, most, h)) (omega (arith, most, k)) (numbers_same _ _ j a b)
 
 pub one_other : (depth e p q : ℕ) (f g : FieldTree) (j : Json) → e < 2 ^ 64 → IsOtherField depth e p f j → IsOtherField depth e q g j → (p ≡ q) × (f ≡ g)
 one_other depth e p q f g j most a b =
     let place = one_place e p q (get (codes "place") j) most a.within b.within a.spelled.placed b.spelled.placed in
     let coded = a.formed.code in
     let other = b.formed.code in
-    let code : f.code ≡ g.code = decimal_injective f.code g.code (omega (arith, coded)) (omega (arith, other)) (numbers _ _ (sym a.spelled.code ∙ b.spelled.code)) in
-    let type : type_of f.value ≡ type_of g.value = one_type _ _ (strings _ _ (sym a.spelled.type ∙ b.spelled.type)) in
-    let value : a.spelled.value ≡ b.spelled.value = somes _ _ (sym a.spelled.held ∙ b.spelled.held) in
+    let code : f.code ≡ g.code = decimal_injective f.code g.code (omega (arith, coded)) (omega (arith, other)) (numbers_same _ _ _ refl (same_Some _ _ (sym a.spelled.code ∙ b.spelled.code))) in
+    let type : type_of f.value ≡ type_of g.value = one_type _ _ (strings_same _ _ (same_Some _ _ (sym a.spelled.type ∙ b.spelled.type))) in
+    let value : a.spelled.value ≡ b.spelled.value = same_Some _ _ (sym a.spelled.held ∙ b.spelled.held) in
     let first : IsRead depth (type_of f.value) f.value a.spelled.value = record { spelled = a.spelled.spelled; typed = refl; formed = a.formed.formed } in
     let second : IsRead depth (type_of g.value) g.value b.spelled.value = record { spelled = b.spelled.spelled; typed = refl; formed = b.formed.formed } in
     let typed = subst (λ (t : TypeTree). IsRead depth t f.value a.spelled.value) type first in

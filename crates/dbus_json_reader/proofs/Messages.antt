@@ -2,6 +2,7 @@
 use Rattle.std.proofs.Common.{◌≡◌, ℕ, zero, suc, ◌+◌, ◌-◌, ◌^◌, ◌<◌, Bool, true, false, cond, not, eqb, List, [], ◌∷◌, length, map, filter, Option, Some, None, Ok, Err, inl, inr, codes, refl, sym, ap, ◌∙◌, subst, arith}
 use Rattle.std.proofs.lemmas.Bool.{cases_Bool, eqb-true, true≢false}
 use Rattle.std.proofs.lemmas.Fmt.{decimal_injective}
+use Rattle.std.proofs.lemmas.Option.{same_Some}
 use Rattle.std.specs.List.{AllZip, enumerate_from}
 use Rattle.json.specs.Find.{get}
 use Rattle.json.specs.Json as json
@@ -35,9 +36,9 @@ use Rattle.dbus_json_reader.specs.JsonParts.{IsHead, IsKnownField, IsFormedField
 use Rattle.dbus_json_reader.specs.JsonValues.{AllSpell}
 use Rattle.dbus_json_reader.proofs.KnownFields.{one_row}
 use Rattle.dbus_json_reader.proofs.KnownNames.{known_codes}
-use Rattle.dbus_json_reader.proofs.OneValue.{same_values}
+use Rattle.dbus_json_reader.proofs.OneValue.{numbers_same, same_values}
 use Rattle.dbus_json_reader.proofs.Placing.{Placed, field_of, items_same}
-use Rattle.dbus_json_reader.proofs.Shapes.{arrays_same, objects_same}
+use Rattle.dbus_json_reader.proofs.Shapes.{strings_same, arrays_same, objects_same}
 use Rattle.dbus_json_reader.proofs.SoundValues.{are_sound, alike_types}
 
 -- ---- the fields of a valid message
@@ -221,14 +222,11 @@ all_hold depth n (f ∷ fs) h k =
 kind_in : List ℕ → ℕ
 kind_in s = cond (eqb (length s) 11) 1 (cond (eqb (length s) 13) 2 (cond (eqb (length s) 5) 3 (cond (eqb (length s) 6) 4 0)))
 
-some_texts : (s t : List ℕ) → Some s ≡ Some t → s ≡ t
-some_texts s t e = cc
-
 no_text : (s : List ℕ) → None ≡ Some s → ⊥
 no_text s e = cc
 
 kind_if : (b : Bool) (k c : ℕ) (name s : List ℕ) (rest : Option (List ℕ)) → eqb k c ≡ b → kind_in name ≡ c → (rest ≡ Some s → kind_in s ≡ k) → cond b (Some name) rest ≡ Some s → kind_in s ≡ k
-kind_if true k c name s rest e is more h = ap kind_in (sym (some_texts _ _ h)) ∙ is ∙ sym (eqb-true k c e)
+kind_if true k c name s rest e is more h = ap kind_in (sym (same_Some _ _ h)) ∙ is ∙ sym (eqb-true k c e)
 kind_if false k c name s rest e is more h = more h
 
 kind_named : (k : ℕ) (s : List ℕ) → type_name k ≡ Some s → kind_in s ≡ k
@@ -239,27 +237,18 @@ kind_named k s =
     (kind_if (eqb k 3) k 3 (codes "error") s _ refl refl
     (kind_if (eqb k 4) k 4 (codes "signal") s _ refl refl (λ h. absurd (no_text s h)))))
 
-numbers : (s t : List ℕ) → json.number s ≡ json.number t → s ≡ t
-numbers s t e = cc
-
-strings : (s t : List ℕ) → json.string s ≡ json.string t → s ≡ t
-strings s t e = cc
-
 not_both : (s t : List ℕ) → json.number s ≡ json.string t → ⊥
 not_both s t e = cc
 
 pub one_kind : (a b : ℕ) (j : Json) → a < 256 → b < 256 → SpellsKind a j → SpellsKind b j → a ≡ b
-one_kind a b j h k (inl x) (inl y) = decimal_injective a b (omega (arith, h)) (omega (arith, k)) (numbers _ _ (sym x ∙ y))
+one_kind a b j h k (inl x) (inl y) = decimal_injective a b (omega (arith, h)) (omega (arith, k)) (numbers_same _ _ j x y)
 one_kind a b j h k (inl x) (inr y) = absurd (not_both _ _ (sym x ∙ y.2))
 one_kind a b j h k (inr x) (inl y) = absurd (not_both _ _ (sym y ∙ x.2))
-one_kind a b j h k (inr x) (inr y) = sym (kind_named a x.0 x.1) ∙ ap kind_in (strings _ _ (sym x.2 ∙ y.2)) ∙ kind_named b y.0 y.1
+one_kind a b j h k (inr x) (inr y) = sym (kind_named a x.0 x.1) ∙ ap kind_in (strings_same _ _ (sym x.2 ∙ y.2)) ∙ kind_named b y.0 y.1
 
 pub one_number : (default a b : ℕ) (told : Option Json) → a < 2 ^ 64 → b < 2 ^ 64 → SpellsOr default a told → SpellsOr default b told → a ≡ b
 one_number default a b None h k x y = x ∙ sym y
-one_number default a b (Some j) h k x y = decimal_injective a b h k (numbers _ _ (sym x ∙ y))
-
-pub some_json : (i j : Json) → Some i ≡ Some j → i ≡ j
-some_json i j e = cc
+one_number default a b (Some j) h k x y = decimal_injective a b h k (numbers_same _ _ j x y)
 
 -- ---- bodies
 
@@ -328,7 +317,7 @@ module _ (limits : Limits) (number : ℕ) (order : Order) (m : MessageTree) (j :
       let serial = v.serial_fits in
       let mine = p.flags_fit in
       let own = p.serial_fits in
-      let type = some_json _ _ (sym h.spelled.told ∙ p.head.told) in
+      let type = same_Some _ _ (sym h.spelled.told ∙ p.head.told) in
       let fields = p.only w.fields (fields_of limits number other w j h p.ms p.is p.ks p.known) in
       same_message w m
       (one_kind w.kind m.kind p.head.type v.kind_fits p.kind_fits (subst (SpellsKind w.kind) type h.spelled.kind) p.head.kind_is)

@@ -1,6 +1,7 @@
 -- The objects of fields that are not known, and bodies.
-use Rattle.std.proofs.Common.{◌≡◌, ◌↔◌, ℕ, ◌<◌, ◌≤◌, ltb, Bool, true, false, List, [], ◌∷◌, length, Option, Some, None, Result, Ok, Err, IfOk, IsTrue, refl, sym, ap, ◌∙◌, subst, arith, inl, inr, codes}
-use Rattle.std.proofs.lemmas.Bool.{cases_lt, lt-ltb, le-ltb, true≢false}
+use Rattle.std.proofs.Common.{◌≡◌, ◌↔◌, ℕ, ◌<◌, ◌≤◌, ltb, Bool, true, false, List, [], ◌∷◌, length, Option, Some, None, Result, Ok, Err, IfOk, IsTrue, refl, sym, ap, ◌∙◌, subst, arith, codes}
+use Rattle.std.proofs.lemmas.Bool.{le-ltb, true≢false}
+use Rattle.std.proofs.lemmas.Option.{same_Some}
 use Rattle.std.specs.List.{list_all}
 use Rattle.json.specs.Find.{get}
 use Rattle.json.specs.Json as json
@@ -16,7 +17,8 @@ use Rattle.dbus_value_model.specs.Values.{ValueTree, ValueTrees, NoValues, type_
 use Rattle.dbus_json_reader.specs.JsonMessages.{is_among, other_names, SpellsOr, SpellsPlace, AreBody}
 use Rattle.dbus_json_reader.specs.JsonParts.{IsNamedOther, IsOtherObject, IsOtherField, IsReadBody}
 use Rattle.dbus_json_reader.specs.JsonValues.{Spells, AllSpell, IsRead, AreRead}
-use Rattle.dbus_json_reader.proofs.Shapes.{objects_same, one_type}
+use Rattle.dbus_json_reader.proofs.Merging.{not_below}
+use Rattle.dbus_json_reader.proofs.Shapes.{strings_same, objects_same, one_type}
 
 -- ---- names
 
@@ -33,9 +35,6 @@ not_named j ms is none b other = (
 )
 
 -- ---- places
-
-not_below : (p e : ℕ) → p ≤ e → ltb p e ≡ false → p ≡ e
-not_below p e within none = elim (cases_lt p e) [ inl lt ↦ absurd (true≢false (sym (lt-ltb p e lt) ∙ none)) | inr le ↦ omega (arith, within, le) ]
 
 place_or : (p e : ℕ) (told : Option Json) → p ≤ e → SpellsPlace (ltb p e) p told → SpellsOr e p told
 place_or p e None within h = not_below p e within h
@@ -78,22 +77,16 @@ field_in depth e p code t text v value j o fits single spelled read = record {
   };
 }
 
-strings : (s t : List ℕ) → Some (json.string s) ≡ Some (json.string t) → s ≡ t
-strings s t e = cc
-
-somes : (i j : Json) → Some i ≡ Some j → i ≡ j
-somes i j e = cc
-
 -- the value of the field, as it is in the object
 pub value_in : (depth e p place code : ℕ) (text : List ℕ) (t : TypeTree) (value j : Json) (f : FieldTree) → IsOtherObject e place code text value j → sig t ≡ text → IsOtherField depth e p f j → IsRead depth t f.value value
 value_in depth e p place code text t value j f o spelled h =
-    let type : type_of f.value ≡ t = one_type _ _ (strings _ _ (sym h.spelled.type ∙ o.typed) ∙ sym spelled) in
-    let same : h.spelled.value ≡ value = somes _ _ (sym h.spelled.held ∙ o.held) in
+    let type : type_of f.value ≡ t = one_type _ _ (strings_same _ _ (same_Some _ _ (sym h.spelled.type ∙ o.typed)) ∙ sym spelled) in
+    let same : h.spelled.value ≡ value = same_Some _ _ (sym h.spelled.held ∙ o.held) in
     record { spelled = subst (λ (i : Json). Spells f.value i) same h.spelled.spelled; typed = type; formed = h.formed.formed }
 
 -- its signature
 pub text_in : (depth e p place code : ℕ) (text : List ℕ) (value j : Json) (f : FieldTree) → IsOtherObject e place code text value j → IsOtherField depth e p f j → sig (type_of f.value) ≡ text
-text_in depth e p place code text value j f o h = strings _ _ (sym h.spelled.type ∙ o.typed)
+text_in depth e p place code text value j f o h = strings_same _ _ (same_Some _ _ (sym h.spelled.type ∙ o.typed))
 
 -- ---- bodies
 

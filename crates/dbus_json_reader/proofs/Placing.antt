@@ -152,12 +152,6 @@ items_same [] (j ∷ js) e = absurd (none_more _ _ e)
 items_same (i ∷ is) [] e = absurd (none_more _ _ (sym e))
 items_same (i ∷ is) (j ∷ js) e = let more = one_more _ _ _ _ e in ap (λ (k : Json). k ∷ is) more.0 ∙ ap (λ (ks : List Json). j ∷ ks) (items_same is js more.1)
 
-some_json : (i j : Json) → Some i ≡ Some j → i ≡ j
-some_json i j e = cc
-
-not_told : (j : Json) → None ≡ Some j → ⊥
-not_told j e = cc
-
 module _ (depth : ℕ) (ks : List FieldTree) (told : Option Json) (j : Json) (js : List Json) (here : told ≡ Some j) (is : j ≡ json.array (items_of js)) where
   pub row_read : (fs : List FieldTree) → Mixed depth 0 ks js fs → AreReadFields depth ks told fs
   row_read fs h =
@@ -172,8 +166,8 @@ module _ (depth : ℕ) (ks : List FieldTree) (told : Option Json) (j : Json) (js
 
 -- no objects are told
 module _ (depth : ℕ) (ks : List FieldTree) (told : Option Json) (here : told ≡ None) where
-  alone : (fs : List FieldTree) → AreReadFields depth ks told fs → Mixed depth 0 ks [] fs
-  alone fs h =
+  pub read_known : (fs : List FieldTree) → AreReadFields depth ks told fs → Mixed depth 0 ks [] fs
+  read_known fs h =
       let r = subst (λ (o : Option Json). AreReadFields depth ks o fs) here h in
       to_mixed depth (is_before_known fs) 0 fs ks [] (all_behind fs) r.knowns (subst (λ (ps : List Placed). AreSpelled (is_before_known fs) ps []) (sym r.others) tt) r.formed
 
@@ -186,9 +180,6 @@ module _ (depth : ℕ) (ks : List FieldTree) (told : Option Json) (here : told �
   known_read fs h =
       let r = from_mixed depth (is_before_known fs) 0 fs ks [] (all_behind fs) h in
       subst (λ (o : Option Json). AreReadFields depth ks o fs) (sym here) (record { knowns = r.known; others = none_of _ _ r.spelled; formed = r.formed })
-
-  pub read_known : (fs : List FieldTree) → AreReadFields depth ks told fs → Mixed depth 0 ks [] fs
-  read_known fs h = alone fs h
 
 -- what is told is no array
 pub no_row : (depth : ℕ) (ks : List FieldTree) (told : Option Json) (j : Json) → told ≡ Some j → ((js : Items) → json.array js ≡ j → ⊥) → (fs : List FieldTree) → AreReadFields depth ks told fs → ⊥

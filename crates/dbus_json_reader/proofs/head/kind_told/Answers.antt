@@ -1,13 +1,10 @@
-use Rattle.std.proofs.Common.{◌≡◌, Some, sym, ◌∙◌, subst}
-use Rattle.json.specs.Json.{Json}
+use Rattle.std.proofs.Common.{◌≡◌, sym, ◌∙◌, subst}
+use Rattle.std.proofs.lemmas.Option.{same_Some}
 use Rattle.json.specs.Value.{value_view}
 use Rattle.dbus_json_reader.specs.JsonMembers.{SpellsKind}
 use Rattle.dbus_json_reader.proofs.head.kind_told.Goals as goal
 
-somes : (i j : Json) → Some i ≡ Some j → i ≡ j
-somes i j e = cc
-
 pub returns-in-Some-clause-none : goal.returns-in-Some-clause-none
 returns-in-Some-clause-none g c = λ none kind fits type told spelled.
-    let same : type ≡ value_view c.in-Some.value.now = somes _ _ (sym told ∙ sym c.in-Some.ensures) in
+    let same : type ≡ value_view c.in-Some.value.now = same_Some _ _ (sym told ∙ sym c.in-Some.ensures) in
     c.kind.ensures.none none kind fits (subst (SpellsKind kind) same spelled)
