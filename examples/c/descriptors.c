@@ -110,12 +110,16 @@ static void drop(struct bus *bus, const struct dbus_wire_parts *parts) {
     memmove(bus->bytes, bus->bytes + parts->length, bus->length);
 }
 
+typedef uint32_t build_call(const struct dbus_wire_parts *, const void *, size_t, const struct dbus_wire_limits *, uint8_t *, size_t,
+                            struct dbus_wire_checked *);
+
 /* Builds and sends a message of these parts, whose texts and body are in `bytes`. */
-static void send_parts(struct bus *bus, struct dbus_wire_parts *parts, const uint8_t *bytes, size_t length, const int *fds) {
+static void send_parts(struct bus *bus, build_call *build, struct dbus_wire_parts *parts, const uint8_t *bytes, size_t length,
+                       const int *fds) {
     static uint8_t out[1 << 16];
     struct dbus_wire_checked told;
     parts->serial = ++bus->serial;
-    if (dbus_wire_build(parts, bytes, length, &limits, out, sizeof out, &told) != DBUS_WIRE_OK) fail("not built");
+    if (build(parts, bytes, length, &limits, out, sizeof out, &told) != DBUS_WIRE_OK) fail("not built");
     send_with(bus->socket, out, (size_t)told.length, fds, parts->unix_fds);
 }
 
@@ -141,7 +145,7 @@ static struct dbus_wire_parts call(struct bus *bus, const char *name, const char
     parts.member = put(bytes, &length, member);
     parts.signature = put(bytes, &length, signature);
     parts.signature.is_there = *signature != '\0';
-    send_parts(bus, &parts, bytes, (size_t)length, fds);
+    send_parts(bus, dbus_wire_build, &parts, bytes, (size_t)length, fds);
     while ((reply = next(bus)).reply_serial != bus->serial) drop(bus, &reply);
     if (reply.kind != DBUS_WIRE_TYPE_METHOD_RETURN) fail("the call failed");
     return reply;
@@ -192,16 +196,11 @@ static void serve(struct bus *bus) {
     for (;; message = next(bus)) {
         if (message.kind == DBUS_WIRE_TYPE_METHOD_CALL && (message.flags & DBUS_WIRE_FLAG_NO_REPLY_EXPECTED) == 0) {
             struct dbus_wire_parts reply = {0};
-            reply.order = message.order;
-            reply.kind = DBUS_WIRE_TYPE_METHOD_RETURN;
-            reply.flags = DBUS_WIRE_FLAG_NO_REPLY_EXPECTED;
-            reply.reply_serial = message.serial;
-            reply.destination = message.sender;
             reply.signature = message.signature;
             reply.unix_fds = message.unix_fds;
             reply.body = message.body;
             reply.length = message.length;
-            send_parts(bus, &reply, bus->bytes, (size_t)message.length, bus->fds);
+            send_parts(bus, dbus_wire_reply_to, &reply, bus->bytes, (size_t)message.length, bus->fds);
         }
         drop(bus, &message);
     }

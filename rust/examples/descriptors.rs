@@ -6,12 +6,11 @@ use std::error::Error;
 use std::ffi::{c_int, c_void};
 use std::io::{self, Read, Write};
 use std::mem::size_of;
-use std::num::NonZeroU32;
 use std::os::fd::{AsRawFd, FromRawFd, OwnedFd, RawFd};
 use std::os::unix::net::UnixStream;
 use std::ptr;
 
-use dbus_wire::{build, wanted, Body, Client, Descriptors, External, Kind, Limits, Message, Order, Parts, Status};
+use dbus_wire::{build, reply_to, wanted, Body, Client, Descriptors, External, Kind, Limits, Message, Order, Parts, Status};
 
 // As the C library has them on Linux, on 64-bit processors.
 #[repr(C)]
@@ -138,16 +137,13 @@ fn main() -> Result<(), Box<dyn Error>> {
         let rest = fds.split_off(message.unix_fds() as usize);
         if message.kind() == Kind::MethodCall && !message.flags().no_reply_expected() {
             serial += 1;
-            let reply_serial = NonZeroU32::new(message.serial());
-            let asked = Parts {
-                order: message.order(),
-                reply_serial,
-                destination: message.sender(),
+            let echo = Parts {
+                signature: message.signature(),
+                unix_fds: message.unix_fds(),
+                body: message.body_bytes(),
                 ..Parts::new(Kind::MethodReturn, serial)
             };
-            let reply =
-                Parts { signature: message.signature(), unix_fds: message.unix_fds(), body: message.body_bytes(), ..asked };
-            send(&bus, &build(&reply, &limits)?, &fds)?;
+            send(&bus, &reply_to(&message, &echo, &limits)?, &fds)?;
         }
         let length = message.bytes().len();
         bytes.drain(..length);
