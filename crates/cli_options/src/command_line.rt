@@ -8,9 +8,7 @@ ghost use Rattle.cli_options.specs.Told.{TellsKind, Tells, TellsCommand, TellsFa
 use crate::asked::Asked;
 use crate::command::Command;
 use crate::file_form::FileForm;
-use crate::limits_named::{
-    given_named, limits_named, line_limit_named, width_named, window_named,
-};
+use crate::limits_named::{given_named, limits_named, line_limit_named, width_named, window_named};
 use crate::owners::owners_given;
 use crate::rules::rules_spelled;
 use crate::selection::Selection;
