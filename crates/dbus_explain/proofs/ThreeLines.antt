@@ -81,7 +81,7 @@ line_part (Some text) =
 line_in_fields : (bytes : List ℕ) (at : ℕ) (name : List ℕ) → IsFieldName bytes at name → IsOneLine name
 line_in_fields bytes at name (in_field p code text is there) = after_literal (codes "header field ") (code_name code ++ text_part text) refl
     (line_append (code_name code) (text_part text) (line_code code) (line_part text))
-line_in_fields bytes at name behind_fields = literal (codes "the header fields") refl
+line_in_fields bytes at name (behind_fields none) = literal (codes "the header fields") refl
 
 line_in_body : (bytes : List ℕ) (at : ℕ) (name : List ℕ) → IsValueName bytes at name → IsOneLine name
 line_in_body bytes at name (in_value ts number t p steps u q text types among path there) =

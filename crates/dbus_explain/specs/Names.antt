@@ -56,11 +56,11 @@ IsTextIf Is None = (start stated : ℕ) → Is start stated → ⊥
 IsTextIf Is (Some text) = Is text.start text.stated
 
 -- the name of a place in the header fields: of the field that it is in, with the text that it is in
--- there, or behind the fields
+-- there; or that it is in none whose code is read
 pub data IsFieldName (bytes : List ℕ) (at : ℕ) : List ℕ → Type 0 where
   in_field : (p code : ℕ) (text : Option StatedText) → IsInField bytes at p code → IsTextIf (IsInFieldText bytes at p) text
       → IsFieldName bytes at (codes "header field " ++ (code_name code ++ text_part text))
-  behind_fields : IsFieldName bytes at (codes "the header fields")
+  behind_fields : ((p code : ℕ) → IsInField bytes at p code → ⊥) → IsFieldName bytes at (codes "the header fields")
 
 -- the name of a place in the body: the path to the value that it is in, by its number among the
 -- values of the body and the steps from there on, and the text that it is in; or behind the values

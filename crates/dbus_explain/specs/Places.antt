@@ -103,11 +103,13 @@ module _ (bytes : List ℕ) (at : ℕ) where
   IsPath t p [] u q = (u ≡ t) × (q ≡ p)
   IsPath t p (step ∷ steps) u q = (v : TypeTree) × (r : ℕ) × Enters t p step v r × IsPath v r steps u q
 
-  -- the place is in the header field at p, of this code, which is its first byte, after the padding
+  -- the place is in the header field at p, of this code, which is its first byte, after the padding,
+  -- and comes at the place or before it
   pub record IsInField (p code : ℕ) : Type 0 where
     pub n : ℕ
     pub before : Pass field_type n 16 p
     pub is_in : IsIn field_type p
+    pub reached : p + gap_to 8 p ≤ at
     pub read : p + gap_to 8 p < length bytes
     pub code_is : code ≡ slice_index bytes (p + gap_to 8 p)
 

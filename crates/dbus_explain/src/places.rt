@@ -1,7 +1,7 @@
 //! Where in a message a fault is, by name. D-Bus Specification, "Message Format", "Header Fields".
 #![tactic(auto)]
 
-ghost use Rattle.std.specs.Prelude.{◌≡◌, ◌<◌, ◌≤◌, ◌^◌, ℕ, List, IfSome, length, true};
+ghost use Rattle.std.specs.Prelude.{◌≡◌, ◌<◌, ◌≤◌, ◌^◌, ℕ, List, IfSome, None, length, true};
 ghost use Rattle.dbus_texts.specs.Types.{TypeTree, TypeTrees, IsShaped, AreShaped, sig, sigs};
 ghost use Rattle.dbus_explain.specs.Names.{IsFieldName, IsNameOf, IsValueName, code_name};
 ghost use Rattle.dbus_explain.specs.Names.{first_part, path_text, text_part};
@@ -105,7 +105,9 @@ fn write_field<D: Draft>(draft: &mut D, search: &Search)
 // Where the header field is in which the fault is, and its code.
 fn field_at(search: &Search) -> Option<(usize, u8)>
     requires { 16 ≤ search.now.at }
-    ensures { IfSome result (λ r. IsInField search.now.bytes.now search.now.at r.0 r.1) }
+    ensures some { IfSome result (λ r. IsInField search.now.bytes.now search.now.at r.0 r.1) }
+    ensures none { result ≡ None → (p code : ℕ) →
+        IsInField search.now.bytes.now search.now.at p code → ⊥ }
 {
     let first = ValuePlace {
         types: FIELD,

@@ -1,9 +1,8 @@
 use Rattle.std.proofs.Common.{take, drop, ap, ◌∙◌}
 use Rattle.dbus_value_model.specs.Reading.{number_of}
 use Rattle.dbus_value_model.specs.declared.order.Order.{Order}
-use Rattle.dbus_explain.specs.Heads.{flags_of, kind_of, serial_of}
+use Rattle.dbus_explain.specs.Heads.{flags_of, kind_of}
 use Rattle.dbus_explain.specs.Places.{order_of}
-use Rattle.dbus_explain.specs.declared.head.FirstPart.{FirstPart}
 use Rattle.dbus_explain.proofs.head.first_part.Goals as goal
 
 pub returns : goal.returns

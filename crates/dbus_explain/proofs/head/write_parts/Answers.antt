@@ -1,4 +1,4 @@
-use Rattle.std.proofs.Common.{◌++◌, ℕ, List, subst}
+use Rattle.std.proofs.Common.{◌++◌, subst}
 use Rattle.std.specs.List.{flat_map}
 use Rattle.dbus_value_model.specs.declared.order.Order.{Order}
 use Rattle.dbus_show.specs.ShownMessages.{field_text, front_text, start_text}

@@ -1,7 +1,6 @@
-use Rattle.std.proofs.Common.{◌++◌, ◌∷◌, [], ℕ, List, codes, refl, subst}
+use Rattle.std.proofs.Common.{◌∷◌, [], ℕ, List, codes, refl, subst}
 use Rattle.dbus_show.proofs.FieldTexts.{then}
 use Rattle.dbus_json.specs.JsonValues.{listed, member, string}
-use Rattle.dbus_explain.specs.Explained.{place_in}
 use Rattle.dbus_explain.specs.Members.{IsJsonHead}
 use Rattle.dbus_explain.specs.Names.{IsNameOf}
 use Rattle.dbus_explain.specs.Rules.{rule_text}

@@ -10,9 +10,9 @@ returns-in-Some g c =
     let gains = g.D.Draft.gains in
     let joins = g.met.D.Draft.joins in (
       codes "header field " ++ (code_name c.in-Some.code ++ text_part text),
-      in_field c.in-Some.field c.in-Some.code text c.in-Some.ensures (text_if _ text c.field_text.ensures.some c.field_text.ensures.none),
+      in_field c.in-Some.field c.in-Some.code text c.in-Some.ensures.some (text_if _ text c.field_text.ensures.some c.field_text.ensures.none),
       then gains joins c.push_str.ensures (then gains joins c.write_code.ensures c.write_text_part.ensures),
     )
 
 pub returns-in-None : goal.returns-in-None
-returns-in-None g c = (codes "the header fields", behind_fields, c.push_str-in-None.ensures)
+returns-in-None g c = (codes "the header fields", behind_fields (c.field_at.ensures.none c.in-None.is), c.push_str-in-None.ensures)
