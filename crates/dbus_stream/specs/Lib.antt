@@ -2,6 +2,7 @@ pub mod Lasting
 pub mod Packed
 pub mod LookingAhead
 pub mod GoingOn
+pub mod PassingPackets
 pub mod Write
 pub mod Cut
 pub mod CutEnds

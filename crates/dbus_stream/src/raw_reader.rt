@@ -49,13 +49,16 @@ pub struct RawReader<R, A: Allocator = Global> {
 impl<R: Source, A: Allocator + Copy> RawReader<R, A> {
     ghost use Rattle.std.specs.Prelude.{None, Some};
     ghost use Rattle.dbus_stream.specs.GoingOn.{GoesOn, HasFault, Looks, ReadsToGoOn};
+    ghost use Rattle.dbus_device.specs.Packets.{Packets};
     ghost use Rattle.dbus_stream.specs.Passing.{Passing, WasDropped};
+    ghost use Rattle.dbus_stream.specs.PassingPackets.{AreOfNumber, PassesPacket};
+    ghost use Rattle.dbus_stream.specs.Packed.{number_of};
     ghost use Rattle.dbus_stream.specs.Reading.{part_of};
     ghost use Rattle.dbus_stream.specs.StatedSizes.{StatesNone};
     ghost use Rattle.dbus_value_model.specs.Specification.{specification};
     ghost use Rattle.dbus_stream.specs.declared.read_fault.ReadFault.{ReadFault};
     ghost use Rattle.dbus_stream.specs.Next.{DeviceCounts};
-    ghost use Rattle.dbus_stream.specs.RawReading.{limits_of, kept, lent_of, source_of, done_of, reads_of, most_reads_of, is_ended, packed_of, stopped_of, IsNewReader, Advances, CopyAnswers, KeepsPackets, KeptAnswers, Reads, ReadsNothing, GivesLent};
+    ghost use Rattle.dbus_stream.specs.RawReading.{limits_of, kept, lent_of, source_of, done_of, read_of, reads_of, most_reads_of, is_ended, packed_of, stopped_of, IsNewReader, Advances, CopyAnswers, HasPackets, KeepsPackets, KeptAnswers, Reads, ReadsNothing, GivesLent};
 
     /// A reader as [`RawReader::within`] makes it, of at most 2^32 reads and under the limits of
     /// the specification.
@@ -361,6 +364,56 @@ impl<R: Source, A: Allocator + Copy> RawReader<R, A> {
             Found::Nowhere => Ok(Found::Nowhere),
             Found::Spent => Ok(Found::Spent),
         }
+    }
+
+    /// Passes over bytes that are no message, or those of an input that ends within one, to the
+    /// next packet, where messages begin: all that is kept is dropped, and what is read, up to the
+    /// first read that gives bytes of a packet of another number than that of the last read, or of
+    /// none. If it returns `Over`, the fault is gone, and the next call goes on with these bytes.
+    /// [`RawReader::done`] counts the bytes that are dropped.
+    ///
+    /// `Not`, and nothing is changed, if the last read was of no packet. `CutOff`: the input ends
+    /// before. `TooManyReads`: as many reads were made as it may make. `Device`: a read failed. Then
+    /// all that was kept and read is dropped, and the fault stays.
+    ///
+    /// ```rust
+    /// use dbus_stream::{FromRead, Passed, RawReader, ReadFault};
+    ///
+    /// let mut reader = RawReader::new(alloc, FromRead::new(rt.stdin()));
+    /// for _ in 0..u64::MAX {
+    ///     match reader.advance() {
+    ///         Ok(Some(validated)) => println!(rt; "serial {}", validated.serial)?,
+    ///         Ok(None) => break,
+    ///         Err(ReadFault::Format(_)) => {
+    ///             if reader.next_packet()? != Passed::Over {
+    ///                 break;
+    ///             }
+    ///         }
+    ///         Err(fault) => return Err(fault.into()),
+    ///     }
+    /// }
+    /// ```
+    pub fn next_packet(&mut self) -> Result<Passed, ReadFault>
+        requires { HasFault (stopped_of self.old) }
+        ensures passes { PassesPacket R.left R.calls R.packet self.old self.new result }
+        // What it read and dropped is of the packet of the last read.
+        ensures of_one { (all : Packets) (number : ℕ) → HasPackets R.packets R.packet all self.old →
+            number_of (R.packet (source_of self.old)) ≡ Some number →
+            AreOfNumber all number (read_of self.old) (done_of self.new) }
+        ensures failed { DeviceCounts (R.failures (source_of self.old))
+            (R.failures (source_of self.new)) result }
+        ensures same_reference { R.reference (source_of self.new) ≡
+            R.reference (source_of self.old) }
+        ensures packets { KeepsPackets R.packets R.packet self.old self.new }
+        ensures few { done_of self.new ≤ 2 ^ 50 }
+    {
+        let Some(packet) = self.packet() else {
+            return Ok(Passed::Not);
+        };
+        self.refused = Refused::nothing();
+        self.reader.taker.let_go();
+        self.reader.drop_kept();
+        self.reader.read_past(packet.number)
     }
 
     // All that was kept is in the buffer then; and what is read, if these are fewer bytes than the

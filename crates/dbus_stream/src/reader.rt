@@ -1,7 +1,7 @@
 //! Messages from a source, by what takes their bytes.
-ghost use Rattle.std.specs.Prelude.{◌≡◌, ◌≤◌, ◌<◌, ◌+◌, ◌*◌, ◌-◌, ◌^◌, ◌++◌, ℕ, [], List, length, slice_range, true, None, Some};
+ghost use Rattle.std.specs.Prelude.{◌≡◌, ◌≤◌, ◌<◌, ◌+◌, ◌*◌, ◌-◌, ◌^◌, ◌++◌, ℕ, [], List, length, slice_range, true, false, None, Some};
 ghost use Rattle.dbus_stream.specs.Lasting.{is_lasting};
-ghost use Rattle.dbus_stream.specs.Packed.{is_packed};
+ghost use Rattle.dbus_stream.specs.Packed.{IsOther, is_packed, number_of};
 ghost use Rattle.dbus_stream.specs.Rooms.{put_or};
 
 use crate::buffer::Buffer;
@@ -54,9 +54,11 @@ pub struct Reader<R, T, B: Buffer, A: Allocator = Global> {
 impl<R: Source, T: Taker, B: Buffer, A: Allocator> Reader<R, T, B, A> {
     ghost use Rattle.dbus_stream.specs.declared.read_fault.ReadFault.{ReadFault};
     ghost use Rattle.dbus_device.specs.Device.{ReadCounts};
-    ghost use Rattle.dbus_stream.specs.Reading.{limits_of, source_of, taker_of, room_of, part_of, done_of, reads_of, most_reads_of, stopped_of, Keeps, IsNewReader};
+    ghost use Rattle.dbus_stream.specs.Reading.{limits_of, source_of, taker_of, room_of, part_of, done_of, read_of, reads_of, most_reads_of, stopped_of, Keeps, IsNewReader};
     ghost use Rattle.dbus_stream.specs.Next.{NextAnswers, KeptAnswers, DeviceCounts, Reads, ReadsNothing};
-    ghost use Rattle.dbus_stream.specs.Packets.{KeepsPackets};
+    ghost use Rattle.dbus_device.specs.Packets.{Packets};
+    ghost use Rattle.dbus_stream.specs.Packets.{HasPackets, KeepsPackets};
+    ghost use Rattle.dbus_stream.specs.PassingPackets.{AreOfNumber, PastAnswers, ReadsPast};
     ghost use Rattle.dbus_stream.specs.Dropping.{AreInside, HasDropped};
     ghost use Rattle.dbus_stream.specs.Passing.{ReadsToSkip, SkipAnswers};
     ghost use Rattle.dbus_stream.specs.Steps.{TakesAll, Stops, Drops, Fills, Calls};
@@ -296,6 +298,44 @@ impl<R: Source, T: Taker, B: Buffer, A: Allocator> Reader<R, T, B, A> {
         Ok(())
     }
 
+    /// Reads on, up to the first read that gives bytes of a packet of another number, or of none.
+    /// What is read before counts as done.
+    ///
+    /// `CutOff`: the input ended before. `TooManyReads`: as many reads were made as it may make.
+    /// `Device`: a read failed. Then all that was read counts as done.
+    pub(crate) fn read_past(&mut self, number: u64) -> Result<Passed, ReadFault>
+        requires drained { part_of self.old ≡ [] }
+        requires held { self.old.held ≡ 0 }
+        ensures past { (r : ReadsPast T.known R.left R.calls R.packet number self.old self.new) ×
+            PastAnswers T.known R.left R.calls R.packet number self.old self.new r result }
+        ensures of_one { (all : Packets) → HasPackets R.packets R.packet all self.old →
+            AreOfNumber all number (read_of self.old) (done_of self.new) }
+        ensures failed { DeviceCounts (R.failures (source_of self.old))
+            (R.failures (source_of self.new)) result }
+        ensures same_reference { R.reference (source_of self.new) ≡
+            R.reference (source_of self.old) }
+        ensures packets { KeepsPackets R.packets R.packet self.old self.new }
+    {
+        'reading: loop {
+            if self.ended {
+                return Ok(Passed::CutOff);
+            }
+            if self.reads >= self.most_reads {
+                return Err(ReadFault::TooManyReads);
+            }
+            match self.fill() {
+                Ok(()) => {}
+                Err(DeviceFault) => return Err(ReadFault::Device),
+            }
+            let count = self.part().len() as u64;
+            if count > 0 && is_other(number, self.packet()) {
+                self.stopped = None;
+                return Ok(Passed::Over);
+            }
+            self.skip(count);
+        }
+    }
+
     /// These bytes, which counted as done, are what is left of the buffer.
     pub(crate) fn stand_before(&mut self, bytes: Vec<u8, A>)
         requires counted { length bytes.items ≤ done_of self.old }
@@ -414,6 +454,17 @@ fn is_packed(packed: bool, packet: Option<Packet>) -> bool
     ensures { result ≡ is_packed packed packet }
 {
     packed || packet.is_some()
+}
+
+// Whether bytes are of a packet of another number, or of none.
+fn is_other(number: u64, packet: Option<Packet>) -> bool
+    ensures other { result ≡ true → IsOther number packet }
+    ensures same { result ≡ false → number_of packet ≡ Some number }
+{
+    match packet {
+        Some(packet) => packet.number != number,
+        None => true,
+    }
 }
 
 // Bytes of a buffer, or those that were put in their place, from `start` up to `end`.
