@@ -45,7 +45,8 @@ fn has_name<A: Allocator>(members: &[(&str, Value<'_, A>)], name: &str) -> bool
     false
 }
 
-/// Whether no two members have one name. It stops at the first that is there again.
+/// Whether no two members have one name. It stops at the first that is there again, so it takes few
+/// steps if only some names may be there.
 pub(crate) fn are_distinct<A: Allocator>(members: &[(&str, Value<'_, A>)]) -> bool
     ensures { IsTrue result ↔ AreDistinct (keys (members_view members.now)) }
 {

@@ -164,6 +164,7 @@ pub(crate) fn with_others<A: Allocator + Copy>(
         if place < next {
             return Err(Unread::Unspelled);
         }
+        // Only known fields are behind the place, each at most once, so this moves few.
         fields.insert(place, field)?;
         next = place + 1;
     }
