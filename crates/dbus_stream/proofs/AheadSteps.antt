@@ -1,9 +1,9 @@
 -- The steps of looking ahead, and of going on behind a message that is refused.
-use Rattle.std.proofs.Common.{◌≡◌, ℕ, ◌+◌, ◌-◌, ◌*◌, ◌^◌, ◌<◌, ◌≤◌, List, [], ◌++◌, Bool, true, false, None, Some, Option, Result, Ok, Err, length, take, drop, min, refl, sym, ap, ◌∙◌, subst, arith, append_assoc, append-nil, length-append, inl, inr}
+use Rattle.std.proofs.Common.{◌≡◌, ℕ, ◌+◌, ◌-◌, ◌*◌, ◌<◌, ◌≤◌, List, [], ◌++◌, Bool, true, false, None, Some, Option, Result, Ok, Err, length, take, drop, min, refl, sym, ap, ◌∙◌, subst, arith, append_assoc, append-nil, length-append, inl, inr}
 use Rattle.std.specs.Prelude.{nat_eq, ◌⊎◌}
 use Rattle.std.specs.List.{slice_range}
 use Rattle.std.proofs.Math.Seq.{drop-length, take-length}
-use Rattle.std.proofs.lemmas.Bool.{cases_lt, false≢true}
+use Rattle.std.proofs.lemmas.Bool.{cases_lt}
 use Rattle.std.proofs.lemmas.List.{nil_from_length, take-append-le, take_min}
 use Rattle.dbus_device.specs.Packets.{Packets, PacketsAfter}
 use Rattle.dbus_device.specs.declared.packet.Packet.{Packet}
@@ -11,12 +11,12 @@ use Rattle.dbus_value_model.specs.declared.limits.Limits.{Limits}
 use Rattle.dbus_resync.specs.Search.{Searches}
 use Rattle.dbus_resync.specs.declared.found.Found.{Found}
 use Rattle.dbus_stream.specs.Gathering.{GathererState, gathering, fresh, under_way}
-use Rattle.dbus_stream.specs.GoingOn.{GoesOn, GoesTo, IsFoundIn, Looks, LooksAhead, MayFollow, ReadsToGoOn, StaysThere}
+use Rattle.dbus_stream.specs.GoingOn.{GoesOn, GoesTo, IsFoundIn, Looks, LooksAhead, StaysThere}
 use Rattle.dbus_stream.specs.LookingAhead.{HasAhead, IsFar, ReadsTo, StandsBefore}
 use Rattle.dbus_stream.specs.Next.{ReadsNothing, ReadsWhile}
-use Rattle.dbus_stream.specs.Packets.{HasPackets, KeepsPackets}
+use Rattle.dbus_stream.specs.Packets.{KeepsPackets}
 use Rattle.dbus_stream.specs.RawReading as raw
-use Rattle.dbus_stream.specs.Reading.{limits_of, source_of, part_of, done_of, read_of, last_of, reads_of, most_reads_of, is_ended, packed_of, stopped_of}
+use Rattle.dbus_stream.specs.Reading.{limits_of, source_of, part_of, done_of, read_of, last_of, is_ended, packed_of, stopped_of}
 use Rattle.dbus_stream.specs.Steps.{Calls, Drops, FillsBy}
 use Rattle.dbus_stream.specs.Taking.{Taking}
 use Rattle.dbus_stream.specs.contracts.buffer.LargeBuffer.TheImpl.{ghosts}

@@ -1,5 +1,5 @@
 -- The steps of passing over to the next packet.
-use Rattle.std.proofs.Common.{◌≡◌, ℕ, ◌+◌, ◌-◌, ◌<◌, ◌≤◌, List, [], ◌++◌, Bool, true, false, None, Some, Option, Result, Ok, Err, length, take, drop, refl, sym, ap, ◌∙◌, subst, arith, append-nil, length-append, inl, inr}
+use Rattle.std.proofs.Common.{◌≡◌, ℕ, ◌+◌, ◌-◌, ◌<◌, ◌≤◌, List, [], false, None, Some, Option, Result, Ok, Err, length, drop, refl, sym, ap, ◌∙◌, arith, length-append, inl, inr}
 use Rattle.std.specs.Prelude.{nat_eq}
 use Rattle.std.proofs.Math.Seq.{drop-length}
 use Rattle.std.proofs.lemmas.Bool.{cases_lt}
@@ -10,9 +10,9 @@ use Rattle.dbus_stream.specs.Gathering.{GathererState, gathering, fresh, under_w
 use Rattle.dbus_stream.specs.Next.{ReadsNothing}
 use Rattle.dbus_stream.specs.Packed.{IsOther, number_of}
 use Rattle.dbus_stream.specs.Packets.{HasPackets, KeepsPackets}
-use Rattle.dbus_stream.specs.PassingPackets.{AreOfNumber, DropsAll, GoesToPacket, IsPast, IsPastAll, PacketAnswers, PastAnswers, ReadsOnward, ReadsPast}
+use Rattle.dbus_stream.specs.PassingPackets.{AreOfNumber, DropsAll, IsPast, IsPastAll, PacketAnswers, PastAnswers, ReadsOnward, ReadsPast}
 use Rattle.dbus_stream.specs.RawReading as raw
-use Rattle.dbus_stream.specs.Reading.{source_of, room_of, part_of, done_of, read_of, last_of, is_ended, stopped_of}
+use Rattle.dbus_stream.specs.Reading.{source_of, room_of, part_of, done_of, read_of, is_ended, stopped_of}
 use Rattle.dbus_stream.specs.Steps.{Calls, Drops, FillsBy}
 use Rattle.dbus_stream.specs.Taking.{Taking}
 use Rattle.dbus_stream.specs.contracts.buffer.LargeBuffer.TheImpl.{ghosts}

@@ -1,10 +1,10 @@
-use Rattle.std.proofs.Common.{◌≡◌, ◌≤◌, Some, refl, sym, ap, ◌∙◌, arith, inl}
+use Rattle.std.proofs.Common.{◌≡◌, Some, refl, sym, ap, ◌∙◌, arith, inl}
 use Rattle.dbus_device.specs.Packets.{Packets}
 use Rattle.dbus_stream.specs.Gathering.{GathererState, gathering}
 use Rattle.dbus_stream.specs.Next.{ReadsNothing}
 use Rattle.dbus_stream.specs.Packed.{number_of}
 use Rattle.dbus_stream.specs.Packets.{HasPackets}
-use Rattle.dbus_stream.specs.RawReading.{read_of, source_of}
+use Rattle.dbus_stream.specs.RawReading.{source_of}
 use Rattle.dbus_stream.proofs.AheadSteps.{unread_both}
 use Rattle.dbus_stream.proofs.PacketPassing.{onward_reads, packet_answers}
 use Rattle.dbus_stream.proofs.PacketSteps.{unread}

@@ -1,5 +1,4 @@
-use Rattle.std.proofs.Common.{◌≡◌, ◌≤◌, ◌<◌, ◌++◌, [], length, List, ℕ, refl, sym, ap, ◌∙◌, subst, arith}
-use Rattle.dbus_stream.specs.Reading.{source_of}
+use Rattle.std.proofs.Common.{◌<◌, ◌++◌, [], length, refl, ap, ◌∙◌, arith}
 use Rattle.dbus_stream.proofs.AheadSteps.{looked_failed, looked_more, looked_none}
 use Rattle.dbus_stream.proofs.NextSteps.{adds_none}
 use Rattle.dbus_stream.proofs.PacketSteps.{unread}

@@ -1,4 +1,4 @@
-use Rattle.std.proofs.Common.{◌≡◌, ◌≤◌, ◌<◌, [], length, Some, refl, sym, ap, ◌∙◌, arith}
+use Rattle.std.proofs.Common.{◌≡◌, ◌<◌, [], length, Some, refl, sym, ap, ◌∙◌, arith}
 use Rattle.dbus_stream.specs.Packed.{number_of}
 use Rattle.dbus_stream.specs.Packets.{KeepsPackets}
 use Rattle.dbus_stream.specs.Reading.{source_of}
