@@ -1,8 +1,9 @@
 //! `dbus-wire`: reads D-Bus messages from standard input, one after the other, and does with them
 //! what its command line says: `show` writes each as text, `json` as a line of JSON, `swap` in one
 //! byte order, `filter` those that match a rule as they came, `check` counts them, and `count` by
-//! names. `encode` writes the messages of lines of JSON. `handshake` lists the lines before them. With `--handshake` the messages follow the
-//! handshake of one side of a connection. From a pcap or pcapng file it reads the D-Bus packets.
+//! names. `encode` writes the messages of lines of JSON. `handshake` lists the lines before them.
+//! With `--handshake` the messages follow the handshake of one side of a connection. From a pcap or
+//! pcapng file it reads the D-Bus packets, but for `encode`.
 //!
 //! Output and help go to standard output. A line on standard error, of `check` on standard output,
 //! reports that the input is refused. Standard error also has how many packets of a file were passed
