@@ -5,7 +5,7 @@ ghost use Rattle.dbus_message_model.specs.Messages.{MessageTree};
 ghost use Rattle.dbus_view.specs.Views.{Views};
 ghost use Rattle.dbus_calls.specs.OwnerChanges.{is_text};
 ghost use Rattle.dbus_names.specs.Kept.{state_of};
-ghost use Rattle.cli_run.specs.Learning.{ask_sender, known_after};
+ghost use Rattle.cli_run.specs.Learning.{ask_sender, known_after, name_sender};
 
 use cli_options::Selection;
 use dbus_calls::is_ownable;
@@ -43,8 +43,15 @@ impl<'a> NameFilter for AskedNames<'a> {
     ghost wanted = { λ asked. ask_sender asked.rules.now };
 
     fn wants(&self, name: &str) -> bool {
-        is_ownable(name) && self.rules.iter().any(|rule| is_text(rule.sender(), name))
+        is_ownable(name) && name_sender(self.rules, name)
     }
+}
+
+// Whether one of the rules asks for messages from this name.
+fn name_sender(rules: &[Rule], name: &str) -> bool
+    ensures { result ≡ name_sender rules.now name.now }
+{
+    rules.iter().any(|rule| is_text(rule.sender(), name))
 }
 
 // Whether the text is there, and it is this.
