@@ -1,5 +1,6 @@
 mod Strings
 mod Numbers
+mod Lexed
 mod Values
 mod Mixing
 mod Fields

@@ -57,7 +57,7 @@ unit_read u h =
 
 -- ---- a unit of UTF-16
 
-abbrev unit : ℕ → List ℕ
+abbrev pub unit : ℕ → List ℕ
 unit u = codes "\\u" ++ encode_with lower_digits (u / 256 ∷ u % 256 ∷ [])
 
 -- what a unit stands for, before what follows
@@ -93,10 +93,10 @@ no_surrogate c s =
 small_read : (c : ℕ) → scalar c ≡ true → c < 65536 → (r : List ℕ) → content plain (unit c ++ r) ≡ prepend (encode_utf8 c) (content plain r)
 small_read c s h r = let no = no_surrogate c s in first_read c h r ∙ rw (no.0, no.1) refl
 
-abbrev high_of : ℕ → ℕ
+abbrev pub high_of : ℕ → ℕ
 high_of c = 0xD800 + (c - 0x10000) / 0x400
 
-abbrev low_of : ℕ → ℕ
+abbrev pub low_of : ℕ → ℕ
 low_of c = 0xDC00 + (c - 0x10000) % 0x400
 
 large_read : (c : ℕ) → scalar c ≡ true → 65536 ≤ c → (r : List ℕ) → content plain (unit (high_of c) ++ (unit (low_of c) ++ r)) ≡ prepend (encode_utf8 c) (content plain r)
@@ -135,14 +135,14 @@ prepend_twice a s None = refl
 prepend_twice a s (Some t) = refl
 
 -- a byte that is itself
-byte_read : (x : ℕ) → (x ≡ 34 → ⊥) → (x ≡ 92 → ⊥) → 32 ≤ x → (r : List ℕ) → content plain (x ∷ r) ≡ prepend (x ∷ []) (content plain r)
+pub byte_read : (x : ℕ) → (x ≡ 34 → ⊥) → (x ≡ 92 → ⊥) → 32 ≤ x → (r : List ℕ) → content plain (x ∷ r) ≡ prepend (x ∷ []) (content plain r)
 unfolding content
 byte_read x q b l r = rw (ne_eqb x 34 q, ne_eqb x 92 b, le-ltb x 32 l) refl
 
 high_read : (x : ℕ) → 128 ≤ x → (r : List ℕ) → content plain (x ∷ r) ≡ prepend (x ∷ []) (content plain r)
 high_read x h r = byte_read x (λ e. omega arith) (λ e. omega arith) (omega (arith, h)) r
 
-abbrev AllHigh : List ℕ → Type 0
+abbrev pub AllHigh : List ℕ → Type 0
 AllHigh [] = Unit {0}
 AllHigh (x ∷ xs) = (128 ≤ x) × AllHigh xs
 
@@ -166,7 +166,7 @@ four : (c : ℕ) → 65536 ≤ c → encode c ≡ (240 + c / 262144) ∷ next (c
 unfolding encode
 four c h = rw (le-ltb c 128 (omega (arith, h)), le-ltb c 2048 (omega (arith, h)), le-ltb c 65536 h) refl
 
-long_high : (c : ℕ) → 128 ≤ c → AllHigh (encode c)
+pub long_high : (c : ℕ) → 128 ≤ c → AllHigh (encode c)
 long_high c h =
     elim (cases_lt c 2048) [
       | inl a ↦ subst AllHigh (sym (two c h a)) (omega arith, (omega arith, tt))
@@ -177,7 +177,7 @@ long_high c h =
     ]
 
 -- what is not escaped is no quotation mark, no backslash and no control character
-plain_byte : (c : ℕ) → is_escaped Json c ≡ false → (c ≡ 34 → ⊥) × (c ≡ 92 → ⊥) × (32 ≤ c)
+pub plain_byte : (c : ℕ) → is_escaped Json c ≡ false → (c ≡ 34 → ⊥) × (c ≡ 92 → ⊥) × (32 ≤ c)
 plain_byte c e =
     let marks = or_parts (is_quote c) (is_ascii_control c) (or_parts (is_quote c || is_ascii_control c) (is_hidden c) e).0 in
     let quotes = or_parts (eqb c 34) (eqb c 92) marks.0 in
@@ -219,7 +219,7 @@ escape_read : (c : ℕ) (quote : Bool) → is_quote c ≡ quote → scalar c ≡
 escape_read c true e s = quote_read c e
 escape_read c false e s = units_read c s
 
-abbrev written : ℕ → List ℕ
+abbrev pub written : ℕ → List ℕ
 written c = cond (is_escaped Json c) (escape Json c) (encode_utf8 c)
 
 written_read : (c : ℕ) (is : Bool) → is_escaped Json c ≡ is → scalar c ≡ true → Passes c (cond is (escape Json c) (encode_utf8 c))

@@ -1,6 +1,7 @@
 //! Laws of lines. A function's contract is its law; it does nothing when it runs.
 #![tactic(auto)]
 
+ghost use Rattle.dbus_json_laws.specs.Kept.{IsTextKept};
 ghost use Rattle.dbus_json_laws.specs.Laws.{IsOneMessageALine};
 ghost use Rattle.dbus_json_laws.specs.Reading.{IsDoubleKept, IsOneMessageEach, IsOneValueEach};
 
@@ -22,4 +23,9 @@ pub fn one_message_for_json()
 /// The text of a DOUBLE spells that DOUBLE, with its bits.
 pub fn doubles_kept()
     ensures { IsDoubleKept }
+{}
+
+/// The string that is written of a text, with its escapes, is read as that text.
+pub fn texts_kept()
+    ensures { IsTextKept }
 {}
