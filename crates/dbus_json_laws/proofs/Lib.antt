@@ -1,9 +1,11 @@
 mod Strings
 mod Numbers
 mod Lexed
+mod Tokens
 mod Values
 mod Mixing
 mod Fields
 mod Lines
 mod OneValue
+mod KeptValues
 mod OneMessage

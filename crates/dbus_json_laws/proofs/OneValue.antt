@@ -16,7 +16,7 @@ one_each = one_value
 
 -- ---- the text of a DOUBLE
 
-each_byte : (bytes : List ℕ) → IsBytes bytes → (i : ℕ) → get_or bytes i 0 < 256
+pub each_byte : (bytes : List ℕ) → IsBytes bytes → (i : ℕ) → get_or bytes i 0 < 256
 each_byte [] h i = omega arith
 each_byte (b ∷ bytes) h zero = h.0
 each_byte (b ∷ bytes) h (suc i) = each_byte bytes h.1 i

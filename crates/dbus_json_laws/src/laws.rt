@@ -1,7 +1,7 @@
 //! Laws of lines. A function's contract is its law; it does nothing when it runs.
 #![tactic(auto)]
 
-ghost use Rattle.dbus_json_laws.specs.Kept.{IsTextKept};
+ghost use Rattle.dbus_json_laws.specs.Kept.{IsTextKept, IsValueKept};
 ghost use Rattle.dbus_json_laws.specs.Laws.{IsOneMessageALine};
 ghost use Rattle.dbus_json_laws.specs.Reading.{IsDoubleKept, IsOneMessageEach, IsOneValueEach};
 
@@ -28,4 +28,9 @@ pub fn doubles_kept()
 /// The string that is written of a text, with its escapes, is read as that text.
 pub fn texts_kept()
     ensures { IsTextKept }
+{}
+
+/// What is written of a value is JSON that spells it, and nests at most twice as deep.
+pub fn values_kept()
+    ensures { IsValueKept }
 {}
