@@ -7,6 +7,7 @@ const fs = require("node:fs");
 const { Reader, answersOf, entries } = require("./reader.js");
 const { readRule, matchesRule } = require("./rule.js");
 const { handshakeLength } = require("./side.js");
+const { Tables } = require("./tables.js");
 
 const compiled = new WebAssembly.Module(fs.readFileSync(process.argv[2]));
 
@@ -26,7 +27,7 @@ function answer(data, rule) {
     return null;
   }
   const reader = new Reader(new WebAssembly.Instance(compiled), data.subarray(skipped));
-  return { ...answersOf(reader), matching: rule === undefined ? null : matching(reader, rule) };
+  return { ...answersOf(reader, new Tables(reader)), matching: rule === undefined ? null : matching(reader, rule) };
 }
 
 for (const line of fs.readFileSync(0, "latin1").split("\n").slice(0, -1)) {

@@ -78,10 +78,10 @@ class Browser {
     if (await this.value("find('count').textContent === ''")) {
       return null;
     }
-    const answers = JSON.parse(await this.value(`JSON.stringify({ ...answersOf(state.reader), seen: [0, state.rows.length - 1].map((it) => {
+    const answers = JSON.parse(await this.value(`JSON.stringify({ ...answersOf(state.reader, new Tables(state.reader)), seen: [0, state.rows.length - 1].map((it) => {
       choose(it);
       const row = find(\`row-\${it}\`);
-      return row ? [[...row.children].map((cell) => cell.textContent), find("details").querySelector("pre").textContent] : null;
+      return row ? [[...row.children].map((cell) => cell.textContent), find("details").querySelector("pre").textContent, find("details").querySelector(".line").textContent] : null;
     }) })`));
     return { ...answers, calls: await this.shownBy("type='method_call'") };
   }

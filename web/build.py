@@ -12,7 +12,7 @@ import pathlib
 import sys
 
 HERE = pathlib.Path(__file__).resolve().parent
-BEFORE_MODULE = ("reader.js", "side.js", "rule.js")
+BEFORE_MODULE = ("reader.js", "tables.js", "side.js", "rule.js")
 
 
 def hash_of(text):

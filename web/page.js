@@ -8,7 +8,7 @@ const MOST_LIFELINES = 8, LIFELINE_GAP = 24;
 const COLUMNS = ["number", "time", "kind", "arrow", "sender", "destination", "member", "size"];
 
 const find = (id) => document.getElementById(id);
-const state = { module: null, reader: null, rows: [], shown: [], words: [], rule: null, skipped: 0, active: -1, run: 0, isReading: false, texts: new Map(), peers: new Map(), lifelines: [], calls: new Map() };
+const state = { module: null, reader: null, rows: [], shown: [], words: [], rule: null, skipped: 0, active: -1, run: 0, isReading: false, texts: new Map(), peers: new Map(), lifelines: [], tables: null };
 
 // ---- Reading
 
@@ -30,7 +30,7 @@ async function readBytes(bytes, name) {
       return;
     }
     const reader = new Reader(instance, bytes.subarray(skipped));
-    Object.assign(state, { reader, skipped, rows: [], shown: [], active: -1, texts: new Map(), peers: new Map(), lifelines: [], calls: new Map() });
+    Object.assign(state, { reader, skipped, rows: [], shown: [], active: -1, texts: new Map(), peers: new Map(), lifelines: [], tables: new Tables(reader) });
     find("details").replaceChildren();
     draw();
     await inTurns(run, entries(reader), (entry) => addRow(entry));
@@ -101,30 +101,34 @@ function messageRow(entry) {
     destination: peer(said.destination ?? ""),
     member: kept(said.member ?? said.error_name ?? ""),
     time: said.time ?? "",
-    serial: said.serial,
     reply: null,
     call: null,
+    beside: state.tables.take(entry, said),
   };
-  join(row, said.reply_serial);
+  join(row);
   return row;
 }
 
-// Joins a reply to the last call before it of the serial that it names, if that came from where it goes to.
-function join(row, replySerial) {
-  if (row.kind === "method_call") {
-    state.calls.set(`${row.sender} ${row.serial}`, state.rows.length);
-  } else if (replySerial !== undefined) {
-    const call = state.calls.get(`${row.destination} ${replySerial}`);
-    if (call !== undefined && state.rows[call].reply === null) {
-      row.call = call;
-      state.rows[call].reply = state.rows.length;
-    }
+// Joins a reply to the call that it answers. The messages and refusals are counted from 1, and each has a row.
+function join(row) {
+  if (row.beside.call) {
+    row.call = row.beside.call.number - 1;
+    state.rows[row.call].reply = row.number - 1;
   }
 }
 
 function refusedRow(entry) {
   const kind = entry.isPartial ? "cut off" : "refused";
-  return { ...entry, kind, sender: "", destination: "", member: `at byte ${entry.at}`, time: "", reply: null, call: null };
+  const member = `at ${entry.offset + entry.at}: ${state.reader.reason(entry.offset)}`;
+  return { ...entry, kind, sender: "", destination: "", member, time: "", reply: null, call: null };
+}
+
+// What dbus-wire writes of a row: the line of `list`, or that of a refusal.
+function listed(row) {
+  if (row.isWhole) {
+    return state.reader.line(row.number, row.offset, row.length, row.beside, 0).slice(0, -1);
+  }
+  return `refused ${row.member} in message ${row.number} at ${row.offset}`;
 }
 
 function tellEnd(name) {
@@ -349,7 +353,7 @@ function arrowLabel(row) {
 function openRow(row) {
   const title = row.isWhole ? `Message ${row.number}` : `No message: number ${row.number}, ${row.kind}`;
   const where = `${row.isWhole ? `${row.length} bytes` : "refused"} at offset ${row.offset}${row.time ? `, captured ${fullTime(row.time)}` : ""}`;
-  const parts = [element("h2", title), element("p", where), ...joined(row)];
+  const parts = [element("h2", title), element("p", where), element("p", listed(row), { class: "line" }), ...joined(row)];
   parts.push(element("h3", row.isWhole ? "Values" : "Why"), element("pre", row.isWhole ? pretty(lineOf(row)) : textOf(row), { tabindex: 0 }));
   const end = row.isWhole ? row.length : Math.max(row.length, row.at + HEX_BYTES * 4);
   parts.push(element("h3", "Bytes"), hexElement(row, end));

@@ -3,9 +3,10 @@
 
 const WHOLE = 0, PARTIAL = 1, REFUSED = 2, NO_ROOM = 3;
 const PAGE_BYTES = 65536;
-// The bytes of `Unpacked`, `Next`, `PagePlace` and a count, one after another, and of a `PagePart`.
-const UNPACKED = 0, NEXT = 32, PLACE = 48, COUNT = 80, TOLD_BYTES = 128, PART_BYTES = 24;
+// The bytes of `Unpacked`, `Next`, `PagePlace`, a count, `PageBeside`, `PageEvent` and a call's member with two names, one after another; and of a `PagePart`.
+const UNPACKED = 0, NEXT = 32, PLACE = 48, COUNT = 80, BESIDE = 88, EVENT = 144, TEXTS = 216, TOLD_BYTES = 1024, PART_BYTES = 24;
 const FIRST_TEXT_BYTES = 65536;
+const ENCODER = new TextEncoder(), DECODER = new TextDecoder("utf-8", { ignoreBOM: true });
 
 // One input, in the memory of an instance of its own.
 class Reader {
@@ -72,11 +73,52 @@ class Reader {
     return { answer, length: this.number(NEXT), at: this.number(NEXT + 8) };
   }
 
-  // The line of the message at the offset.
-  json(number, offset, length) {
+  // Writes numbers at a place, one after another.
+  tell(place, numbers) {
+    numbers.forEach((it, at) => this.view.setBigUint64(this.told + place + 8 * at, BigInt(it), true));
+  }
+
+  tellPlace(number, offset, length) {
     const time = this.timeAt(offset + length - 1);
-    [BigInt(number), BigInt(offset), time ?? 0n, time === null ? 0n : 1n].forEach((it, place) => this.view.setBigUint64(this.told + PLACE + 8 * place, it, true));
+    this.tell(PLACE, [number, offset, time ?? 0, time === null ? 0 : 1]);
+  }
+
+  // The message at the offset as JSON.
+  json(number, offset, length) {
+    this.tellPlace(number, offset, length);
     return this.written((room, count) => this.calls.dbus_page_json(...slice(this.data + offset, length), BigInt(this.told + PLACE), ...room, count));
+  }
+
+  // The line of `dbus-wire list`, of at most so many cells, or 0. `beside` is what `Tables` has of the message.
+  line(number, offset, length, beside, width) {
+    const texts = [beside.call?.member, beside.sender, beside.destination].map((it) => ENCODER.encode(it ?? ""));
+    const time = beside.call?.time ?? null;
+    this.tellPlace(number, offset, length);
+    this.tell(BESIDE, [beside.call?.number ?? 0, time ?? 0, time === null ? 0 : 1, ...texts.map((it) => it.length)]);
+    this.view.setUint16(this.told + BESIDE + 48, width, true);
+    const all = texts.flatMap((it) => [...it]);
+    this.bytes.set(all, this.told + TEXTS);
+    return this.written((room, count) =>
+      this.calls.dbus_page_line(
+        ...slice(this.data + offset, length), BigInt(this.told + PLACE), BigInt(this.told + BESIDE), ...slice(this.told + TEXTS, all.length), ...room, count));
+  }
+
+  // What the message tells of calls and of names.
+  event(offset, length) {
+    const bytes = this.writtenBytes((room, count) => this.calls.dbus_page_event(...slice(this.data + offset, length), BigInt(this.told + EVENT), ...room, count));
+    const [event, serial, says] = [0, 4, 8].map((it) => this.view.getUint32(this.told + EVENT + it, true));
+    let end = 0;
+    const [caller, sender, name, unique, forCaller, forOwner, byName] = [0, 1, 2, 3, 4, 5, 6].map((it) => {
+      const start = end;
+      end += this.number(EVENT + 16 + 8 * it);
+      return start === end ? "" : DECODER.decode(bytes.subarray(start, end));
+    });
+    return { event, serial, says, caller, sender, name, unique, forCaller, forOwner, byName };
+  }
+
+  // The name of the reason why no message begins at the offset.
+  reason(offset) {
+    return this.written((room, count) => this.calls.dbus_page_reason(...slice(this.data + offset, this.length - offset), ...room, count));
   }
 
   // Why no message begins at the offset: the lines of `dbus-wire check --explain`.
@@ -87,11 +129,15 @@ class Reader {
 
   // The text that a call writes, with as much room as it takes.
   written(call) {
+    return DECODER.decode(this.writtenBytes(call));
+  }
+
+  writtenBytes(call) {
     for (;;) {
       const room = this.memory.buffer.byteLength - this.text;
       const answer = call(slice(this.text, room), BigInt(this.told + COUNT));
       if (answer !== NO_ROOM) {
-        return new TextDecoder().decode(this.bytes.subarray(this.text, this.text + this.number(COUNT)));
+        return this.bytes.subarray(this.text, this.text + this.number(COUNT));
       }
       this.reach(this.text + 2 * room);
     }
@@ -133,14 +179,18 @@ function* entries(reader) {
   }
 }
 
-// All that the module gives of an input: the lines of its messages, and of what is refused the number, the offset, the place of the fault and the explanation.
-function answersOf(reader) {
-  const answers = { lines: "", refused: [], fault: reader.fileFault };
+// All that the module gives of an input: its messages as JSON, and as lines of 80 cells and of as many as they take; and of what is refused the number, the
+// offset, the place of the fault, the name of the reason and the explanation. `tables` are those of the reader, which took no message.
+function answersOf(reader, tables) {
+  const answers = { lines: "", listed: "", cut: "", refused: [], fault: reader.fileFault };
   for (const it of entries(reader)) {
     if (it.isWhole) {
-      answers.lines += reader.json(it.number, it.offset, it.length);
+      const line = reader.json(it.number, it.offset, it.length), beside = tables.take(it, JSON.parse(line));
+      answers.lines += line;
+      answers.listed += reader.line(it.number, it.offset, it.length, beside, 0);
+      answers.cut += reader.line(it.number, it.offset, it.length, beside, 80);
     } else {
-      answers.refused.push([it.number, it.offset, it.offset + it.at, reader.explain(it.number, it.offset)]);
+      answers.refused.push([it.number, it.offset, it.offset + it.at, reader.reason(it.offset), reader.explain(it.number, it.offset)]);
     }
   }
   return answers;

@@ -2,9 +2,10 @@
 """test.py PROGRAM MODULE PAGE: compares what the page gives with what dbus-wire writes, over the samples and the bytes of cases: by the module in Node, and
 by the page in a headless Chromium, if there is one. BROWSER names another. The exit status is 1 if something differs.
 
-What is compared of each input: the lines of `json --keep-going`, with `--handshake` if it begins as one side of a connection; the number, offset and place of
-each fault; its explanation, of which the bytes are left out if the input is a capture, since dbus-wire shows only those that it has read; and the place of the
-fault of a file. Of rules: which messages of the samples `filter` writes; and what the cases say of rules and of messages that match.
+What is compared of each input: the lines of `json --keep-going`, with `--handshake` if it begins as one side of a connection; those of `list` with it, of 80
+cells and of as many as they take; the number, offset, place and reason of each fault; its explanation, of which the bytes are left out if the input is a
+capture, since dbus-wire shows only those that it has read; and the place of the fault of a file. Of rules: which messages of the samples `filter` writes; and
+what the cases say of rules and of messages that match.
 """
 
 import concurrent.futures as futures
@@ -25,7 +26,7 @@ sys.path.insert(0, str(ROOT / "cases"))
 
 from read_cases import DATA, read_bytes, read_cases, read_parts  # noqa: E402
 
-REFUSED = re.compile(r"refused at (\d+): \S+ in message (\d+) at (\d+)(?: in packet \d+)?\n((?:  .*\n){3,4})?")
+REFUSED = re.compile(r"refused at (\d+): (\S+) in message (\d+) at (\d+)(?: in packet \d+)?\n((?:  .*\n){3,4})?")
 CUT = re.compile(rb"^capture: \d+ cut packets? passed over$", re.M)
 FAULT = re.compile(r"^capture refused at (\d+): ", re.M)
 # The files with bytes of messages, and the columns that have them.
@@ -73,25 +74,27 @@ def side_of(data):
 
 def written(program, data):
     """What the program writes of an input, as the module's answers; None if it begins with a handshake that is refused."""
-    words = ["--keep-going", "--explain", *side_of(data)]
-    ran = subprocess.run([program, "json", *words], input=data, capture_output=True)
+    going, side = ["--keep-going"], side_of(data)
+    ran = subprocess.run([program, "json", "--explain", *going, *side], input=data, capture_output=True)
     if CUT.search(ran.stderr):
         # The page shows a file up to a packet that was cut, as the program does that does not go on.
-        ran = subprocess.run([program, "json", *words[1:]], input=data, capture_output=True)
+        going = []
+        ran = subprocess.run([program, "json", "--explain", *side], input=data, capture_output=True)
     said = ran.stderr.decode()
     if said.startswith("handshake refused"):
         return None
-    refused = [[int(number), int(offset), int(place), why] for place, number, offset, why in REFUSED.findall(said)]
+    listed, cut = (subprocess.run([program, "list", "--width", it, *going, *side], input=data, capture_output=True).stdout.decode() for it in ("0", "80"))
+    refused = [[int(number), int(offset), int(place), reason, why] for place, reason, number, offset, why in REFUSED.findall(said)]
     fault = FAULT.search(said)
-    return {"lines": ran.stdout.decode(), "refused": refused, "fault": int(fault[1]) if fault else None}
+    return {"lines": ran.stdout.decode(), "listed": listed, "cut": cut, "refused": refused, "fault": int(fault[1]) if fault else None}
 
 
 def compared(answers, data):
     """What of the answers is compared."""
     if answers is None:
         return None
-    refused = [[*it[:3], without_bytes(it[3]) if is_capture(data) else it[3]] for it in answers["refused"]]
-    return {"lines": answers["lines"], "refused": refused, "fault": answers["fault"]}
+    refused = [[*it[:4], without_bytes(it[4]) if is_capture(data) else it[4]] for it in answers["refused"]]
+    return {**{it: answers[it] for it in ("lines", "listed", "cut", "fault")}, "refused": refused}
 
 
 def differs(kind, all_inputs, wanted, given):
@@ -113,12 +116,17 @@ def unseen(all_inputs, given):
         if answers["calls"] != [it["number"] for it in lines if it["type"] == "method_call"]:
             wrong += 1
             print(f"{name}: the page shows {answers['calls']} as calls of methods")
-        numbers = sorted([it["number"] for it in lines] + [it[0] for it in answers["refused"]])
+        listed = {it["number"]: line for it, line in zip(lines, answers["listed"].split("\n")[:-1], strict=True)}
+        refused = {it[0]: it for it in answers["refused"]}
+        numbers = sorted([*listed, *refused])
         for number, seen in zip((numbers[:1] + numbers[-1:]), answers["seen"]):
-            line = next((it for it in lines if it["number"] == number), None)
-            row, said = seen
-            is_right = row[0] == str(number) and (json.loads(said) == line if line else said in [it[3] for it in answers["refused"]])
-            if not is_right:
+            row, said, line = seen
+            if number in listed:
+                is_right = json.loads(said) == next(it for it in lines if it["number"] == number) and line == listed[number]
+            else:
+                _, offset, place, reason, why = refused[number]
+                is_right = said == why and row[6] == f"at {place}: {reason}" and line == f"refused at {place}: {reason} in message {number} at {offset}"
+            if not is_right or row[0] != str(number):
                 wrong += 1
                 print(f"{name}: the page shows {seen} of message {number}")
     return wrong

@@ -17,4 +17,6 @@ mod names;
 mod telling;
 
 pub use filter::{NameFilter, WellKnownNames};
-pub use names::Names;
+pub use name_call::{Holder, NameCall};
+pub use names::{Names, asked_by};
+pub use telling::holder_told;

@@ -17,7 +17,7 @@ use dbus_view::MessageView;
 
 /// Who has the name of a call, if its reply says that some connection does.
 #[derive(Clone, Copy)]
-pub(crate) enum Holder {
+pub enum Holder {
     /// The caller: it asked the bus for the name, by `RequestName`.
     Caller,
     /// The connection that the reply names: the caller asked who has the name, by `GetNameOwner`.
@@ -28,11 +28,11 @@ pub(crate) enum Holder {
 
 /// A call whose reply tells who has a name.
 #[derive(Clone, Copy)]
-pub(crate) struct NameCall<'a> {
+pub struct NameCall<'a> {
     /// The name.
-    pub(crate) name: &'a str,
+    pub name: &'a str,
     /// Who has it.
-    pub(crate) holder: Holder,
+    pub holder: Holder,
 }
 
 /// What the message of the view asks, if it is such a call. It allocates nothing. D-Bus

@@ -156,8 +156,9 @@ impl Names {
     }
 }
 
-// What the message asks of a name that is wanted.
-fn asked_by<'a, F: NameFilter>(view: &MessageView<'a>, filter: &F) -> Option<NameCall<'a>>
+/// What the message of the view asks of a name that is wanted, if it is a call whose reply tells who
+/// has it. It allocates nothing. D-Bus Specification, "Message Bus Messages".
+pub fn asked_by<'a, F: NameFilter>(view: &MessageView<'a>, filter: &F) -> Option<NameCall<'a>>
     ensures { (order : Order) (m : MessageTree) → Views view.now order m →
         option_map call_seen result ≡ asked_by (F.wanted filter.now) m }
 {

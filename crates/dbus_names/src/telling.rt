@@ -25,7 +25,7 @@ const ALREADY_OWNER: u32 = 4;
 
 /// The unique name of the connection that has the name of a call, if the message of the view says so
 /// as the reply to it. It allocates nothing. D-Bus Specification, "Message Bus Messages".
-pub(crate) fn holder_told<'a>(view: &MessageView<'a>, holder: Holder) -> Option<&'a str>
+pub fn holder_told<'a>(view: &MessageView<'a>, holder: Holder) -> Option<&'a str>
     ensures { (order : Order) (m : MessageTree) → Views view.now order m →
         option_map (λ text. text.now) result ≡ holder_told holder m }
 {

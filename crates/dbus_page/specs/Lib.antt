@@ -2,6 +2,8 @@ pub mod Written
 pub mod Rooms
 pub mod RoomLaws
 pub mod Places
+pub mod Beside
+pub mod Events
 pub mod Telling
 pub mod Parts
 pub mod Failing

@@ -1,8 +1,9 @@
 -- When bytes were captured, by the parts that are of one packet.
-use Rattle.std.specs.Prelude.{◌≡◌, ◌⊎◌, ℕ, ◌<◌, ◌≤◌, length, List, [], ◌∷◌, Option, None, Some, nat_eq, if◌then◌else◌}
+use Rattle.std.specs.Prelude.{◌≡◌, ◌⊎◌, ℕ, ◌<◌, ◌≤◌, length, List, [], ◌∷◌, Option, None, Some}
 use Rattle.dbus_device.specs.Packets.{Packets}
 use Rattle.dbus_device.specs.declared.packet.Packet.{Packet}
 use Rattle.dbus_capture.specs.declared.fault.CaptureFault.{CaptureFault}
+use Rattle.dbus_page.specs.Places.{time_if}
 use Rattle.dbus_page.specs.declared.unpacking.PagePart.{PagePart}
 use Rattle.dbus_page.specs.declared.unpacking.Unpacked.{Unpacked}
 
@@ -12,7 +13,7 @@ time_in None = None
 time_in (Some packet) = packet.time
 
 abbrev pub time_of : PagePart → Option ℕ
-time_of part = if nat_eq part.has_time 0 then None else Some part.time
+time_of part = time_if part.has_time part.time
 
 -- The parts are those of the bytes from a place on up to another: each begins where the one before
 -- it ends, and has the time of the packet of each of its bytes.

@@ -13,6 +13,7 @@ ghost use Rattle.dbus_page.specs.Written.{IsWritten, IsNoText};
 
 use crate::answers::NO_TEXT;
 use crate::room::Room;
+use crate::time::time_if;
 use dbus_json::{LinePlace, write_json};
 use dbus_validate::validate;
 use dbus_value_model::Limits;
@@ -31,18 +32,14 @@ pub struct PagePlace {
     pub has_time: u64,
 }
 
-// The same, as a line of JSON takes it.
-fn line_place(place: &PagePlace) -> LinePlace
+/// The same, as a line takes it.
+pub(crate) fn line_place(place: &PagePlace) -> LinePlace
     ensures { result ≡ line_place place.now }
 {
     LinePlace {
         number: place.number,
         offset: place.offset,
-        time: if place.has_time == 0 {
-            None
-        } else {
-            Some(place.time)
-        },
+        time: time_if(place.has_time, place.time),
     }
 }
 

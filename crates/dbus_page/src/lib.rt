@@ -9,15 +9,25 @@
 #![tactic(auto)]
 
 mod answers;
+mod event;
 mod explaining;
 mod json_line;
+mod line;
 mod memory;
 mod next;
+mod reason;
 mod room;
+mod time;
 mod unpacking;
 
 pub use answers::{NO_ROOM, NO_TEXT, PARTIAL, REFUSED, WHOLE};
+pub use event::{
+    ASKED_BY_NAME, ASKED_FOR_CALLER, ASKED_FOR_OWNER, CALL, CALL_WITHOUT_REPLY, DEPARTURE, FREE,
+    LOST, NOTHING, OTHER, OWNED, PageEvent, REPLY, dbus_page_event,
+};
 pub use explaining::dbus_page_explain;
 pub use json_line::{PagePlace, dbus_page_json};
+pub use line::{PageBeside, dbus_page_line};
 pub use next::{Next, dbus_page_next};
+pub use reason::dbus_page_reason;
 pub use unpacking::{PagePart, Unpacked, dbus_page_unpack};
