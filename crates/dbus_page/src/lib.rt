@@ -1,11 +1,11 @@
 //! Captures read in a browser: calls that a module of WebAssembly exports, over the bytes of a
 //! page. D-Bus Specification, "Message Protocol".
 //!
-//! [`dbus_page_unpack`] takes the bytes of messages out of a file, [`dbus_page_next`] returns
-//! whether bytes begin with a message, [`dbus_page_json`] writes the message as a line of JSON, and
-//! [`dbus_page_explain`] writes why there is none. Bytes are given as an address and a number, and
-//! structs as an address, as in C. No call allocates, and the module imports nothing.
-//! `web/reader.js` calls it.
+//! [`dbus_page_unpack`] takes messages out of a file, [`dbus_page_next`] returns whether bytes
+//! begin with one, [`dbus_page_json`] and [`dbus_page_line`] write it, [`dbus_page_event`] what it
+//! tells of calls and names, and [`dbus_page_explain`] and [`dbus_page_reason`] why there is none.
+//! Bytes are given as an address and a number, and structs as an address, as in C. No call
+//! allocates, and the module imports nothing. `web/reader.js` calls it.
 #![tactic(auto)]
 
 mod answers;
