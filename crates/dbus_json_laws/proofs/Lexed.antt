@@ -1,6 +1,6 @@
 -- The strings that `json` writes, through the lexer.
 -- RFC 8259, section 7.
-use Rattle.std.proofs.Common.{◌≡◌, ◌≢◌, ℕ, zero, suc, ◌/◌, ◌%◌, ◌<◌, ◌≤◌, Bool, true, false, cond, eqb, ltb, not, ◌&&◌, List, [], ◌∷◌, ◌++◌, length, get_or, Some, Option, inl, inr, chars, encode_utf8, IsUtf8, refl, sym, ap, ap₂, ◌∙◌, subst, arith, append_assoc}
+use Rattle.std.proofs.Common.{◌≡◌, ◌≢◌, ℕ, zero, suc, ◌/◌, ◌%◌, ◌<◌, ◌≤◌, Bool, true, false, cond, eqb, ltb, not, ◌&&◌, List, [], ◌∷◌, ◌++◌, length, get_or, Some, Option, inl, inr, chars, decimal, encode_utf8, IsUtf8, refl, sym, ap, ap₂, ◌∙◌, subst, arith, append_assoc}
 use Rattle.std.proofs.lemmas.Bool.{cases_lt, ne_eqb, lt-ltb, le-ltb, and_parts, not-true, ltb-false, true≢false}
 use Rattle.std.proofs.lemmas.Str.{encode_ascii, scalars-chars}
 use Rattle.std.specs.List.{flat_map, list_all}
@@ -15,7 +15,7 @@ use Rattle.dbus_value_model.specs.ByteNumbers.{IsBytes}
 use Rattle.dbus_show.specs.declared.escapes.Escapes.TheVariants.{Json}
 use Rattle.dbus_show.specs.Escapes.{escape, escaped, is_escaped, is_quote, units_text}
 use Rattle.dbus_json.specs.JsonValues as json
-use Rattle.dbus_json_laws.proofs.Numbers.{AreAll, all_append}
+use Rattle.dbus_json_laws.proofs.Numbers.{AreAll, all_append, decimal_all}
 use Rattle.dbus_json_laws.proofs.Strings.{AllHigh, byte_read, long_high, plain_byte, unit, high_of, low_of, written, string_read, string_cut}
 
 -- ---- what the lexer passes over within a string
@@ -74,6 +74,12 @@ pub hex_inside : (bytes : List ℕ) → IsBytes bytes → AreAll Inside (encode_
 unfolding encode_with
 hex_inside [] h = tt
 hex_inside (b ∷ bytes) h = (hex_digit (b / 16) (omega (arith, h.0)), (hex_digit (b % 16) (omega arith), hex_inside bytes h.1))
+
+pub digit_inside : (c : ℕ) → 48 ≤ c → c < 58 → Inside c
+digit_inside c low high = rw (ne_eqb c 34 (λ e. omega (arith, low, e)), ne_eqb c 92 (λ e. omega (arith, high, e)), le-ltb c 32 (omega (arith, low))) refl
+
+pub decimal_inside : (n : ℕ) → AreAll Inside (decimal n)
+decimal_inside n = decimal_all Inside digit_inside n
 
 number_inside : (k : NumberCode) → Inside (number_code k)
 number_inside BYTE = refl

@@ -8,4 +8,7 @@ mod Fields
 mod Lines
 mod OneValue
 mod KeptValues
+mod Named
+mod KeptFields
+mod KeptLines
 mod OneMessage

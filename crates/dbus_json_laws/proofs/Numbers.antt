@@ -1,5 +1,5 @@
 -- Texts of numbers and of digits: which bytes they have, and that each is of one number.
-use Rattle.std.proofs.Common.{◌≡◌, ◌≢◌, ℕ, zero, suc, ◌+◌, ◌/◌, ◌%◌, ◌^◌, ◌<◌, ℤ, pos, negsuc, Bool, true, false, cond, eqb, not, ◌&&◌, List, [], ◌∷◌, ◌++◌, length, get_or, drop, inl, inr, Some, codes, decimal, from_bits, refl, sym, ap, ◌∙◌, subst, arith, append_assoc}
+use Rattle.std.proofs.Common.{◌≡◌, ◌≢◌, ℕ, zero, suc, ◌+◌, ◌/◌, ◌%◌, ◌^◌, ◌<◌, ◌≤◌, ℤ, pos, negsuc, Bool, true, false, cond, eqb, not, ◌&&◌, List, [], ◌∷◌, ◌++◌, length, get_or, drop, inl, inr, Some, codes, decimal, from_bits, refl, sym, ap, ◌∙◌, subst, arith, append_assoc}
 use Rattle.std.proofs.lemmas.Bool.{cases_Bool, lt-ltb, and_parts, true≢false}
 use Rattle.std.proofs.lemmas.Fmt.{decimal_nonempty}
 use Rattle.std.specs.Char.{digit_value}
@@ -60,22 +60,27 @@ cut P (b ∷ s) (c ∷ t) x y r q g h nx ny e =
 pub low : (c : ℕ) → 44 < c → c < 93 → Bare c
 low c g h = record { quote = λ e. omega (arith, g, e); comma = λ e. omega (arith, g, e); bracket = λ e. omega (arith, h, e); brace = λ e. omega (arith, h, e) }
 
-glyph : (d : ℕ) → d < 10 → Bare (digit_glyph false d)
-glyph d h = subst (λ (b : Bool). Bare (cond b (48 + d) (87 + d))) (sym (lt-ltb d 10 h)) (low (48 + d) (omega arith) (omega (arith, h)))
-
 either : (P : List ℕ → Type 0) (b : Bool) (s t : List ℕ) → P s → P t → P (cond b s t)
 either P true s t g h = g
 either P false s t g h = h
 
-digits_bare : (k n : ℕ) (acc : List ℕ) → AreAll Bare acc → AreAll Bare (digits_onto k 10 false n acc)
-digits_bare zero n acc h = h
-digits_bare (suc k) n acc h =
-    let more : AreAll Bare (digit_glyph false (n % 10) ∷ acc) = (glyph (n % 10) (omega arith), h) in
-    either (AreAll Bare) (eqb (n / 10) 0) (digit_glyph false (n % 10) ∷ acc) (digits_onto k 10 false (n / 10) (digit_glyph false (n % 10) ∷ acc)) more (digits_bare k (n / 10) (digit_glyph false (n % 10) ∷ acc) more)
+-- what holds of each digit holds of all bytes of a number
+module _ (P : ℕ → Type 0) (each : (c : ℕ) → 48 ≤ c → c < 58 → P c) where
+  glyph : (d : ℕ) → d < 10 → P (digit_glyph false d)
+  glyph d h = subst (λ (b : Bool). P (cond b (48 + d) (87 + d))) (sym (lt-ltb d 10 h)) (each (48 + d) (omega arith) (omega (arith, h)))
+
+  digits_all : (k n : ℕ) (acc : List ℕ) → AreAll P acc → AreAll P (digits_onto k 10 false n acc)
+  digits_all zero n acc h = h
+  digits_all (suc k) n acc h =
+      let more : AreAll P (digit_glyph false (n % 10) ∷ acc) = (glyph (n % 10) (omega arith), h) in
+      either (AreAll P) (eqb (n / 10) 0) (digit_glyph false (n % 10) ∷ acc) (digits_onto k 10 false (n / 10) (digit_glyph false (n % 10) ∷ acc)) more (digits_all k (n / 10) (digit_glyph false (n % 10) ∷ acc) more)
+
+  pub decimal_all : (n : ℕ) → AreAll P (decimal n)
+  unfolding digits
+  decimal_all n = digits_all 64 n [] tt
 
 pub decimal_bare : (n : ℕ) → AreAll Bare (decimal n)
-unfolding digits
-decimal_bare n = digits_bare 64 n [] tt
+decimal_bare n = decimal_all Bare (λ c g h. low c (omega (arith, g)) (omega (arith, h))) n
 
 -- whether a byte is bare
 abbrev is_bare : ℕ → Bool

@@ -37,6 +37,10 @@ pub at_end : Ended []
 unfolding lex
 at_end = (refl, refl)
 
+pub at_line_feed : Ended (10 ∷ [])
+unfolding lex
+at_line_feed = (refl, refl)
+
 pub at_bracket : (r : List ℕ) → Ended (93 ∷ r)
 unfolding lex
 at_bracket r = (refl, refl)

@@ -1,14 +1,21 @@
 -- What `json` writes is read as it is meant.
--- RFC 8259, of the values of the D-Bus Specification, "Type System".
-use Rattle.std.specs.Prelude.{◌≡◌, ◌∷◌, ◌++◌, ℕ, ◌*◌, List, [], Some}
+-- RFC 8259, of the values and the messages of the D-Bus Specification, "Type System" and "Message
+-- Format".
+use Rattle.std.specs.Prelude.{◌≡◌, ◌∷◌, ◌++◌, ℕ, ◌+◌, ◌*◌, ◌^◌, ◌<◌, List, [], Some}
 use Rattle.std.specs.Str.{IsUtf8}
 use Rattle.json.specs.Json.{Json, value}
 use Rattle.json.specs.Token as tokens
 use Rattle.json.specs.Lex as lexer
 use Rattle.json.specs.Lex.{lex, between, token}
 use Rattle.dbus_texts.specs.Types.{IsSingleType}
+use Rattle.dbus_value_model.specs.declared.limits.Limits.{Limits}
+use Rattle.dbus_value_model.specs.declared.order.Order.{Order}
 use Rattle.dbus_value_model.specs.Values.{ValueTree, type_of, IsWellFormed}
+use Rattle.dbus_message_model.specs.Messages.{MessageTree, IsValidMessage}
+use Rattle.dbus_json.specs.declared.place.LinePlace.{LinePlace}
+use Rattle.dbus_json.specs.JsonMessages.{IsJsonLine}
 use Rattle.dbus_json.specs.JsonValues.{string, IsJson}
+use Rattle.dbus_json_reader.specs.JsonMessages.{IsReadMessage}
 use Rattle.dbus_json_reader.specs.JsonValues.{Spells}
 
 -- What `json` writes of a text, with its escapes, is one token, the string of that text, and what
@@ -21,3 +28,10 @@ IsTextKept = (text rest : List ℕ) → IsUtf8 text → lex between (string text
 abbrev pub IsValueKept : Type 0
 IsValueKept = (depth : ℕ) (v : ValueTree) (text : List ℕ) → IsSingleType (type_of v) → IsWellFormed depth v → IsJson v text
     → (j : Json) × Spells v j × (value (2 * depth) (lexer.tokens text) ≡ Some (j, []))
+
+-- The line that `json` writes of a valid message is JSON that spells this message, and nothing
+-- after it, whatever serial a message with none would have. It nests two deeper than twice the
+-- limit on depth: the body is an array in an object. A place is told in numbers of 64 bits.
+abbrev pub IsLineKept : Type 0
+IsLineKept = (limits : Limits) (number : ℕ) (order : Order) (m : MessageTree) (place : LinePlace) (text : List ℕ) → IsValidMessage limits m → place.number < 2 ^ 64 → place.offset < 2 ^ 64 → IsJsonLine order m place text
+    → (j : Json) × IsReadMessage limits number order m j × (value (2 + 2 * limits.depth) (lexer.tokens text) ≡ Some (j, []))

@@ -1,7 +1,7 @@
 //! Laws of lines. A function's contract is its law; it does nothing when it runs.
 #![tactic(auto)]
 
-ghost use Rattle.dbus_json_laws.specs.Kept.{IsTextKept, IsValueKept};
+ghost use Rattle.dbus_json_laws.specs.Kept.{IsLineKept, IsTextKept, IsValueKept};
 ghost use Rattle.dbus_json_laws.specs.Laws.{IsOneMessageALine};
 ghost use Rattle.dbus_json_laws.specs.Reading.{IsDoubleKept, IsOneMessageEach, IsOneValueEach};
 
@@ -33,4 +33,9 @@ pub fn texts_kept()
 /// What is written of a value is JSON that spells it, and nests at most twice as deep.
 pub fn values_kept()
     ensures { IsValueKept }
+{}
+
+/// The line of a message is JSON that spells it: what `json` writes, `encode` reads as the message.
+pub fn lines_kept()
+    ensures { IsLineKept }
 {}
