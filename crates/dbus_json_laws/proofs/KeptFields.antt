@@ -21,7 +21,7 @@ use Rattle.dbus_json.specs.JsonMessages as lines
 use Rattle.dbus_json.specs.JsonMessages.{place_members}
 use Rattle.dbus_json_reader.specs.JsonMessages.{IsKnown, IsOther, field_members}
 use Rattle.dbus_json_laws.proofs.KeptValues.{Kept, kept}
-use Rattle.dbus_json_laws.proofs.Lexed.{Inside, inside_literal, sig_inside}
+use Rattle.dbus_json_laws.proofs.Lexed.{Inside, inside_literal, decimal_inside, sig_inside}
 use Rattle.dbus_json_laws.proofs.Mixing.{Placed}
 use Rattle.dbus_json_laws.proofs.Named.{Has, named, names, distinct_new}
 use Rattle.dbus_json_laws.proofs.Numbers.{AreAll}
@@ -110,7 +110,7 @@ record KeptOther (most : ℕ) (before_known : Bool) (p : Placed) (text : List �
   reads : Reads text j
 
 pub count_reads : (name : List ℕ) (n : ℕ) → AreAll Inside name → n < 2 ^ 64 → MemberReads (written.member name (decimal n)) name (json.number (decimal n))
-count_reads name n inside few = member_reads name (decimal n) (json.number (decimal n)) inside (number_reads (decimal n) (IsNumber-decimal n few))
+count_reads name n inside few = member_reads name (decimal n) (json.number (decimal n)) inside (number_reads (decimal n) (decimal_inside n) (IsNumber-decimal n few))
 
 abbrev other_members : (code : ℕ) (signature : List ℕ) (value : Json) → Members → Members
 other_members code signature value rest = member (codes "code") (json.number (decimal code)) (member (codes "type") (json.string signature) (member (codes "value") value rest))

@@ -1,20 +1,18 @@
 -- The line that `json` writes of a message is JSON that spells the message.
 -- RFC 8259, of the messages of the D-Bus Specification, "Message Format".
-use Rattle.std.proofs.Common.{◌≡◌, ℕ, zero, suc, ◌+◌, ◌-◌, ◌*◌, ◌/◌, ◌^◌, ◌<◌, ◌≤◌, Bool, true, false, cond, not, eqb, ◌||◌, List, [], ◌∷◌, ◌++◌, length, map, Option, Some, None, option_map, inl, inr, codes, decimal, refl, sym, ap, ap₂, ◌∙◌, subst, arith}
-use Rattle.std.proofs.lemmas.List.{append-nil}
+use Rattle.std.proofs.Common.{◌≡◌, ℕ, zero, suc, ◌+◌, ◌-◌, ◌*◌, ◌/◌, ◌^◌, ◌<◌, ◌≤◌, Bool, true, false, cond, not, eqb, ◌||◌, List, [], ◌∷◌, ◌++◌, length, map, Option, Some, None, option_map, option_and_then, inl, inr, codes, decimal, refl, sym, ap, ap₂, ◌∙◌, subst, arith}
+use Rattle.std.proofs.lemmas.List.{append_cancel_right}
 use Rattle.std.proofs.lemmas.Option.{same_Some}
 use Rattle.std.specs.List.{AllZip, AllByRecursion, enumerate_from}
 use Rattle.std.specs.Option.{unwrap_or}
 use Rattle.std.specs.Str.{bytes_eq}
 use Rattle.json.specs.Find.{get}
-use Rattle.json.specs.Json.{Json, Items, no_items, item, Members, no_members, member, value}
+use Rattle.json.specs.Json.{Json, if_last, Items, no_items, item, Members, no_members, member, value}
 use Rattle.json.specs.Json as json
-use Rattle.json.specs.Lex.{lex, fresh, punctuate, tokens}
 use Rattle.json.specs.Strict.{keys}
-use Rattle.json.specs.Tree.{json_tokens, depth, members_depth}
+use Rattle.json.specs.Tree.{depth, members_depth}
 use Rattle.json.specs.Value.{items_of}
 use Rattle.json.proofs.Printed.Decimals.{IsNumber-decimal}
-use Rattle.json.proofs.Printed.Trees.{value-json_tokens}
 use Rattle.dbus_texts.specs.Types.{TypeTree}
 use Rattle.dbus_value_model.specs.declared.limits.Limits.{Limits}
 use Rattle.dbus_value_model.specs.declared.order.Order.{Order}
@@ -32,15 +30,17 @@ use Rattle.dbus_json.specs.JsonMessages.{type_text, first_members, head_members,
 use Rattle.dbus_json_reader.specs.JsonMembers.{SpellsKind}
 use Rattle.dbus_json_reader.specs.JsonMessages.{SpellsOrder, SpellsOr, SpellsMessage, IsReadMessage, IsKnown, AreOthers, AreBody, field_members, is_among, plain_names}
 use Rattle.dbus_json_reader.specs.JsonValues.{AllSpell}
-use Rattle.dbus_json_laws.specs.Kept.{IsLineKept}
+use Rattle.dbus_json_lines.specs.JsonLines.{IsLineOf, line_depth}
+use Rattle.dbus_json_laws.specs.Kept.{IsLineKept, IsOneMessageOfALine}
 use Rattle.dbus_json_laws.proofs.Fields.{few_fields}
 use Rattle.dbus_json_laws.proofs.KeptFields.{Held, KeptKnown, KeptOthers, IsHeldKnown, fields_held, passing, known_kept, others_kept, count_reads}
-use Rattle.dbus_json_laws.proofs.KeptValues.{AllKept, all_kept, fields}
+use Rattle.dbus_json_laws.proofs.KeptValues.{AllKept, all_kept, fields, whole_value}
 use Rattle.dbus_json_laws.proofs.Lexed.{Inside, inside_literal, decimal_inside, digit_inside}
 use Rattle.dbus_json_laws.proofs.Mixing.{Placed}
 use Rattle.dbus_json_laws.proofs.Named.{AreNew, Has, distinct_new, found, front_new, last_names, new_names}
+use Rattle.dbus_json_laws.proofs.OneMessage.{one_message}
 use Rattle.dbus_json_laws.proofs.Numbers.{AreAll, all_append}
-use Rattle.dbus_json_laws.proofs.Tokens.{Reads, AllNamed, at_line_feed, number_reads, plain_reads, member_reads, array_reads, object_reads}
+use Rattle.dbus_json_laws.proofs.Tokens.{Reads, AllNamed, number_reads, plain_reads, member_reads, array_reads, object_reads}
 
 -- ---- a time, which may be told
 
@@ -89,7 +89,7 @@ record KeptKind (kind : ℕ) (text : List ℕ) : Type 0 where
   reads : Reads text j
 
 kind_kept : (kind : ℕ) (name : Option (List ℕ)) → type_name kind ≡ name → kind < 256 → ((text : List ℕ) → type_name kind ≡ Some text → AreAll Inside text) → KeptKind kind (unwrap_or (option_map plain name) (decimal kind))
-kind_kept kind None e few inside = record { j = json.number (decimal kind); spelled = inl refl; flat = refl; reads = number_reads (decimal kind) (IsNumber-decimal kind (omega (arith, few))) }
+kind_kept kind None e few inside = record { j = json.number (decimal kind); spelled = inl refl; flat = refl; reads = number_reads (decimal kind) (decimal_inside kind) (IsNumber-decimal kind (omega (arith, few))) }
 kind_kept kind (Some text) e few inside = record { j = json.string text; spelled = inr (text, e, refl); flat = refl; reads = plain_reads text (inside text e) }
 
 name_inside : (b : Bool) (name : List ℕ) (rest : Option (List ℕ)) → AreAll Inside name → ((text : List ℕ) → rest ≡ Some text → AreAll Inside text) → (text : List ℕ) → cond b (Some name) rest ≡ Some text → AreAll Inside text
@@ -104,13 +104,6 @@ type_inside kind =
     (name_inside (eqb kind 4) (codes "signal") None (inside_literal (codes "signal") refl) (λ text e. absurd (cc)))))
 
 -- ---- the object of a message
-
-line_tokens : (s : List ℕ) (j : Json) → Reads s j → tokens (s ++ codes "\n") ≡ json_tokens j
-unfolding lex punctuate
-line_tokens s j reads = reads fresh (codes "\n") refl at_line_feed ∙ append-nil (json_tokens j)
-
-line_value : (text s : List ℕ) (j : Json) (d : ℕ) → text ≡ s ++ codes "\n" → Reads s j → depth j ≤ d → value d (tokens text) ≡ Some (j, [])
-line_value text s j d is reads few = ap (value d) (ap tokens is ∙ line_tokens s j reads ∙ sym (append-nil (json_tokens j))) ∙ value-json_tokens j d [] few
 
 abbrev list_of : Items → List Json
 list_of no_items = []
@@ -136,7 +129,7 @@ all_held : (room : ℕ) (ps : List Placed) → AllByRecursion (λ (p : Placed). 
 all_held room [] h = tt
 all_held room (p ∷ ps) h = (h.0.0, all_held room ps h.1)
 
-module _ (limits : Limits) (order : Order) (m : MessageTree) (place : LinePlace) (text : List ℕ) (valid : IsMessage limits order m) (numbered : place.number < 2 ^ 64) (starts : place.offset < 2 ^ 64) (is : IsJsonLine order m place text) where
+module _ (limits : Limits) (order : Order) (m : MessageTree) (place : LinePlace) (line : List ℕ) (valid : IsMessage limits order m) (numbered : place.number < 2 ^ 64) (starts : place.offset < 2 ^ 64) (is : IsJsonLine order m place (line ++ codes "\n")) where
   abbrev room : ℕ
   room = limits.depth - 3
 
@@ -261,13 +254,24 @@ module _ (limits : Limits) (order : Order) (m : MessageTree) (place : LinePlace)
       let whole = time_depth place.time later most more in
       omega (arith, whole)
 
-  read : value (2 + 2 * limits.depth) (tokens text) ≡ Some (json.object ms, [])
-  read =
-      let texts = first_members place order size m.kind m.flags m.serial ++ (is.known ++ last_texts) in
-      line_value text (written.object texts) (json.object ms) (2 + 2 * limits.depth) is.is (object_reads texts ms all_reads) nests
+  abbrev texts : List (List ℕ)
+  texts = first_members place order size m.kind m.flags m.serial ++ (is.known ++ last_texts)
 
-  pub kept_line : (number : ℕ) → IsValidMessage limits m → (j : Json) × IsReadMessage limits number order m j × (value (2 + 2 * limits.depth) (tokens text) ≡ Some (j, []))
-  kept_line number all = (json.object ms, record { spelled = spelled number; valid = all }, read)
+  reads : Reads line (json.object ms)
+  reads = subst (λ (s : List ℕ). Reads s (json.object ms)) (sym (append_cancel_right line (written.object texts) (codes "\n") is.is)) (object_reads texts ms all_reads)
+
+  pub kept_line : (number : ℕ) → IsValidMessage limits m → IsLineOf limits number line order m
+  kept_line number all = record {
+    text = reads.utf8;
+    json = json.object ms;
+    read = ap (option_and_then (λ p. if_last p.0 p.1)) (whole_value line (json.object ms) line_depth reads (omega (arith, nests, limits.depth_in)));
+    spelled = record { spelled = spelled number; valid = all };
+  }
 
 pub line_kept : IsLineKept
-line_kept limits number order m place text valid numbered starts is = kept_line limits order m place text (valid order) numbered starts is number valid
+line_kept limits number order m place line valid numbered starts is = kept_line limits order m place line (valid order) numbered starts is number valid
+
+pub one_message_of : IsOneMessageOfALine
+one_message_of limits bounds number order other m w line h k =
+    let same = same_Some h.json k.json (sym h.read ∙ k.read) in
+    one_message limits bounds number order other m w k.json (subst (IsReadMessage limits number order m) same h.spelled) k.spelled

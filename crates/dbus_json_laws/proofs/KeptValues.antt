@@ -31,7 +31,8 @@ use Rattle.dbus_json_reader.specs.JsonValues.{Spells, AllSpell}
 use Rattle.dbus_json_reader.proofs.NumberTexts.{half_fits, num_bytes}
 use Rattle.dbus_json_reader.proofs.SoundValues.{bytes_of, are_bytes, are_sound}
 use Rattle.dbus_json_laws.specs.Kept.{IsValueKept}
-use Rattle.dbus_json_laws.proofs.Lexed.{inside_literal, hex_inside, sig_inside, lex_string}
+use Rattle.dbus_json_laws.proofs.Lexed.{Inside, inside_literal, decimal_inside, signed_inside, float_inside, hex_inside, sig_inside, string_utf8, lex_string}
+use Rattle.dbus_json_laws.proofs.Numbers.{AreAll}
 use Rattle.dbus_json_laws.proofs.OneValue.{each_byte}
 use Rattle.dbus_json_laws.proofs.Tokens.{Reads, AllRead, at_end, number_reads, true_reads, false_reads, signed_number, string_reads, plain_reads, member_reads, array_reads, object_reads}
 
@@ -56,8 +57,8 @@ record KeptNumber (k : NumberCode) (n : ℕ) (text : List ℕ) : Type 0 where
   flat : depth j ≡ 0
   reads : Reads text j
 
-decimal_kept : (k : NumberCode) (n : ℕ) (text : List ℕ) → text ≡ number_text k n → print.IsNumber (number_text k n) → SpellsNumber k n (json.number (number_text k n)) → KeptNumber k n text
-decimal_kept k n text is number spelled = record { j = json.number (number_text k n); spelled = spelled; flat = refl; reads = subst (λ (s : List ℕ). Reads s (json.number (number_text k n))) (sym is) (number_reads (number_text k n) number) }
+decimal_kept : (k : NumberCode) (n : ℕ) (text : List ℕ) → text ≡ number_text k n → AreAll Inside (number_text k n) → print.IsNumber (number_text k n) → SpellsNumber k n (json.number (number_text k n)) → KeptNumber k n text
+decimal_kept k n text is inside number spelled = record { j = json.number (number_text k n); spelled = spelled; flat = refl; reads = subst (λ (s : List ℕ). Reads s (json.number (number_text k n))) (sym is) (number_reads (number_text k n) inside number) }
 
 one : (n : ℕ) → n < 2 → (n ≡ 0 → ⊥) → n ≡ 1
 one zero h other = absurd (other refl)
@@ -73,7 +74,7 @@ boolean_kept n text h is =
 double_kept : (n : ℕ) (text : List ℕ) → IsDouble n text → KeptNumber DOUBLE n text
 double_kept n text is =
     elim (cases_Bool (float_is_finite (from_bits binary64 n))) [
-      | inl finite ↦ (let whole = is.finite finite in record { j = json.number text; spelled = (whole.1, finite); flat = refl; reads = number_reads text (IsNumber-plain text whole.0) })
+      | inl finite ↦ (let whole = is.finite finite in record { j = json.number text; spelled = (whole.1, finite); flat = refl; reads = number_reads text (float_inside text whole.0) (IsNumber-plain text whole.0) })
       | inr other ↦ (
           let bytes = num Big 8 n in
           let small = num_bytes 8 n in
@@ -87,16 +88,16 @@ double_kept n text is =
     ]
 
 number_kept : (k : NumberCode) (n : ℕ) (text : List ℕ) → values.IsNumber k n → IsNumber k n text → KeptNumber k n text
-number_kept BYTE n text h is = decimal_kept BYTE n text is (IsNumber-decimal n (omega (arith, h))) refl
+number_kept BYTE n text h is = decimal_kept BYTE n text is (decimal_inside n) (IsNumber-decimal n (omega (arith, h))) refl
 number_kept BOOLEAN n text h is = boolean_kept n text h is
-number_kept INT16 n text h is = decimal_kept INT16 n text is (signed_number (cast_signed w16 n) (half_fits (2 ^ 16) (2 ^ 15) n h (omega arith) (omega arith))) refl
-number_kept UINT16 n text h is = decimal_kept UINT16 n text is (IsNumber-decimal n (omega (arith, h))) refl
-number_kept INT32 n text h is = decimal_kept INT32 n text is (signed_number (cast_signed w32 n) (half_fits (2 ^ 32) (2 ^ 31) n h (omega arith) (omega arith))) refl
-number_kept UINT32 n text h is = decimal_kept UINT32 n text is (IsNumber-decimal n (omega (arith, h))) refl
-number_kept INT64 n text h is = decimal_kept INT64 n text is (signed_number (cast_signed w64 n) (half_fits (2 ^ 64) (2 ^ 63) n h (omega arith) (omega arith))) (inl refl)
-number_kept UINT64 n text h is = decimal_kept UINT64 n text is (IsNumber-decimal n h) (inl refl)
+number_kept INT16 n text h is = decimal_kept INT16 n text is (signed_inside (cast_signed w16 n)) (signed_number (cast_signed w16 n) (half_fits (2 ^ 16) (2 ^ 15) n h (omega arith) (omega arith))) refl
+number_kept UINT16 n text h is = decimal_kept UINT16 n text is (decimal_inside n) (IsNumber-decimal n (omega (arith, h))) refl
+number_kept INT32 n text h is = decimal_kept INT32 n text is (signed_inside (cast_signed w32 n)) (signed_number (cast_signed w32 n) (half_fits (2 ^ 32) (2 ^ 31) n h (omega arith) (omega arith))) refl
+number_kept UINT32 n text h is = decimal_kept UINT32 n text is (decimal_inside n) (IsNumber-decimal n (omega (arith, h))) refl
+number_kept INT64 n text h is = decimal_kept INT64 n text is (signed_inside (cast_signed w64 n)) (signed_number (cast_signed w64 n) (half_fits (2 ^ 64) (2 ^ 63) n h (omega arith) (omega arith))) (inl refl)
+number_kept UINT64 n text h is = decimal_kept UINT64 n text is (decimal_inside n) (IsNumber-decimal n h) (inl refl)
 number_kept DOUBLE n text h is = double_kept n text is
-number_kept UNIX_FD n text h is = decimal_kept UNIX_FD n text is (IsNumber-decimal n (omega (arith, h))) refl
+number_kept UNIX_FD n text h is = decimal_kept UNIX_FD n text is (decimal_inside n) (IsNumber-decimal n (omega (arith, h))) refl
 
 -- ---- types of parts
 
@@ -149,7 +150,7 @@ mutual
         j = json.string t;
         spelled = refl;
         nests = omega arith;
-        reads = subst (λ (s : List ℕ). Reads s (json.string t)) (sym is) (string_reads (string t) t (λ r. lex_string t r (formed_utf8 d k t h)));
+        reads = subst (λ (s : List ℕ). Reads s (json.string t)) (sym is) (string_reads (string t) t (string_utf8 t (formed_utf8 d k t h)) (λ r. lex_string t r (formed_utf8 d k t h)));
       }
   kept inside zero (VariantValue x) text h shaped is = absurd h
   kept inside (suc d) (VariantValue x) text h shaped is =
@@ -211,7 +212,7 @@ mutual
 -- the tokens of a whole text
 pub whole : (text : List ℕ) (j : Json) → Reads text j → tokens text ≡ json_tokens j
 unfolding lex punctuate
-whole text j reads = sym (ap tokens (append-nil text)) ∙ reads fresh [] refl at_end ∙ append-nil (json_tokens j)
+whole text j reads = sym (ap tokens (append-nil text)) ∙ reads.parsed fresh [] refl at_end ∙ append-nil (json_tokens j)
 
 -- the value of a whole text
 pub whole_value : (text : List ℕ) (j : Json) (d : ℕ) → Reads text j → depth j ≤ d → value d (tokens text) ≡ Some (j, [])

@@ -1,8 +1,10 @@
 -- The strings that `json` writes, through the lexer.
 -- RFC 8259, section 7.
-use Rattle.std.proofs.Common.{◌≡◌, ◌≢◌, ℕ, zero, suc, ◌/◌, ◌%◌, ◌<◌, ◌≤◌, Bool, true, false, cond, eqb, ltb, not, ◌&&◌, List, [], ◌∷◌, ◌++◌, length, get_or, Some, Option, inl, inr, chars, decimal, encode_utf8, IsUtf8, refl, sym, ap, ap₂, ◌∙◌, subst, arith, append_assoc}
-use Rattle.std.proofs.lemmas.Bool.{cases_lt, ne_eqb, lt-ltb, le-ltb, and_parts, not-true, ltb-false, true≢false}
-use Rattle.std.proofs.lemmas.Str.{encode_ascii, scalars-chars}
+use Rattle.std.proofs.Common.{◌≡◌, ◌≢◌, ℕ, zero, suc, ◌/◌, ◌%◌, ◌<◌, ◌≤◌, ℤ, Bool, true, false, cond, eqb, ltb, not, ◌&&◌, List, [], ◌∷◌, ◌++◌, length, get_or, Some, Option, inl, inr, chars, decimal, encode_utf8, IsUtf8, refl, sym, ap, ap₂, ◌∙◌, subst, arith, append_assoc}
+use Rattle.std.proofs.lemmas.Bool.{cases_lt, ne_eqb, lt-ltb, le-ltb, and_parts, and_from, not-true, ltb-false, true≢false}
+use Rattle.std.proofs.lemmas.Str.{encode_ascii, scalars-chars, IsUtf8-append}
+use Rattle.std.proofs.lemmas.List.{append-nil}
+use Rattle.std.specs.Fmt.{signed_decimal}
 use Rattle.std.specs.List.{flat_map, list_all}
 use lib.Utf8.{scalar, scalars, encode, scalar_cases}
 use Rattle.hex.specs.Hex.{encode_lower, encode_with, lower_digits}
@@ -10,12 +12,15 @@ use Rattle.json.specs.Text.{content, plain, prepend}
 use Rattle.json.specs.Token as tokens
 use Rattle.json.specs.Word.{is_operator, is_space}
 use Rattle.json.specs.Lex.{Lexeme, Mode, lex, lex_byte, between, in_string, operator, space, other, token, string_token}
+use Rattle.json.proofs.Printed.Utf8.{are_ascii, IsUtf8-are_ascii}
+use Rattle.ryu.specs.Plain.{IsPlainNumber}
 use Rattle.dbus_texts.specs.Types.{NumberCode, BYTE, BOOLEAN, INT16, UINT16, INT32, UINT32, INT64, UINT64, DOUBLE, UNIX_FD, TextCode, STRING, OBJECT_PATH, SIGNATURE, TypeTree, TypeTrees, NumberType, TextType, VariantType, ArrayType, StructType, EntryType, NoTypes, MoreTypes, number_code, text_code, sig, sigs}
 use Rattle.dbus_value_model.specs.ByteNumbers.{IsBytes}
 use Rattle.dbus_show.specs.declared.escapes.Escapes.TheVariants.{Json}
 use Rattle.dbus_show.specs.Escapes.{escape, escaped, is_escaped, is_quote, units_text}
+use Rattle.dbus_show.proofs.EscapedUtf8.{escaped_utf8}
 use Rattle.dbus_json.specs.JsonValues as json
-use Rattle.dbus_json_laws.proofs.Numbers.{AreAll, all_append, decimal_all}
+use Rattle.dbus_json_laws.proofs.Numbers.{AreAll, all_append, decimal_all, signed_all, float_all}
 use Rattle.dbus_json_laws.proofs.Strings.{AllHigh, byte_read, long_high, plain_byte, unit, high_of, low_of, written, string_read, string_cut}
 
 -- ---- what the lexer passes over within a string
@@ -41,9 +46,9 @@ pass_append s t p q r = ap (lex in_string) (append_assoc s t r) ∙ p (t ++ r) �
 
 -- ---- bytes that stand for themselves
 
--- no quotation mark, no backslash and no control character
+-- a character of ASCII that is no quotation mark, no backslash and no control character
 abbrev is_inside : ℕ → Bool
-is_inside c = not (eqb c 34) && (not (eqb c 92) && not (ltb c 32))
+is_inside c = not (eqb c 34) && (not (eqb c 92) && (not (ltb c 32) && ltb c 128))
 
 abbrev pub Inside : ℕ → Type 0
 Inside c = is_inside c ≡ true
@@ -55,7 +60,17 @@ no_backslash : (c : ℕ) → Inside c → c ≢ 92
 no_backslash c h e = true≢false (sym h ∙ ap is_inside e)
 
 no_control : (c : ℕ) → Inside c → 32 ≤ c
-no_control c h = ltb-false c 32 (not-true (ltb c 32) (and_parts (not (eqb c 92)) _ (and_parts (not (eqb c 34)) _ h).1).1)
+no_control c h = ltb-false c 32 (not-true (ltb c 32) (and_parts _ (ltb c 128) (and_parts (not (eqb c 92)) _ (and_parts (not (eqb c 34)) _ h).1).1).0)
+
+is_low : (c : ℕ) → Inside c → ltb c 128 ≡ true
+is_low c h = (and_parts (not (ltb c 32)) _ (and_parts (not (eqb c 92)) _ (and_parts (not (eqb c 34)) _ h).1).1).1
+
+inside_ascii : (s : List ℕ) → AreAll Inside s → are_ascii s ≡ true
+inside_ascii [] h = refl
+inside_ascii (c ∷ s) h = and_from _ _ (is_low c h.0) (inside_ascii s h.1)
+
+pub inside_utf8 : (s : List ℕ) → AreAll Inside s → IsUtf8 s
+inside_utf8 s h = IsUtf8-are_ascii s (inside_ascii s h)
 
 -- a text that is spelled out
 pub inside_literal : (s : List ℕ) → list_all is_inside s ≡ true → AreAll Inside s
@@ -76,10 +91,16 @@ hex_inside [] h = tt
 hex_inside (b ∷ bytes) h = (hex_digit (b / 16) (omega (arith, h.0)), (hex_digit (b % 16) (omega arith), hex_inside bytes h.1))
 
 pub digit_inside : (c : ℕ) → 48 ≤ c → c < 58 → Inside c
-digit_inside c low high = rw (ne_eqb c 34 (λ e. omega (arith, low, e)), ne_eqb c 92 (λ e. omega (arith, high, e)), le-ltb c 32 (omega (arith, low))) refl
+digit_inside c low high = rw (ne_eqb c 34 (λ e. omega (arith, low, e)), ne_eqb c 92 (λ e. omega (arith, high, e)), le-ltb c 32 (omega (arith, low)), lt-ltb c 128 (omega (arith, high))) refl
 
 pub decimal_inside : (n : ℕ) → AreAll Inside (decimal n)
 decimal_inside n = decimal_all Inside digit_inside n
+
+pub signed_inside : (z : ℤ) → AreAll Inside (signed_decimal z)
+signed_inside z = signed_all Inside digit_inside refl z
+
+pub float_inside : (text : List ℕ) → IsPlainNumber text → AreAll Inside text
+float_inside text shaped = float_all Inside digit_inside refl refl refl text shaped
 
 number_inside : (k : NumberCode) → Inside (number_code k)
 number_inside BYTE = refl
@@ -186,3 +207,14 @@ lex_string text r u =
 pub lex_plain : (text r : List ℕ) → AreAll Inside text → lex between (json.plain text ++ r) ≡ token (tokens.string text) ∷ lex between r
 lex_plain text r h =
     ap (λ (s : List ℕ). lex between (34 ∷ s)) (append_assoc text (34 ∷ []) r) ∙ lex_between text text r (inside_read text h r) (pass_inside text h)
+
+-- ---- and as UTF-8
+
+quote_utf8 : IsUtf8 (34 ∷ [])
+quote_utf8 = IsUtf8-are_ascii (34 ∷ []) refl
+
+pub plain_utf8 : (text : List ℕ) → IsUtf8 text → IsUtf8 (json.plain text)
+plain_utf8 text u = IsUtf8-append (34 ∷ []) (text ++ 34 ∷ []) quote_utf8 (IsUtf8-append text (34 ∷ []) u quote_utf8)
+
+pub string_utf8 : (text : List ℕ) → IsUtf8 text → IsUtf8 (json.string text)
+string_utf8 text u = subst IsUtf8 (sym (sym (append-nil (json.string text)) ∙ string_cut text [])) (plain_utf8 (escaped Json text) (escaped_utf8 Json text u))

@@ -10,5 +10,5 @@ mod OneValue
 mod KeptValues
 mod Named
 mod KeptFields
-mod KeptLines
 mod OneMessage
+mod KeptLines

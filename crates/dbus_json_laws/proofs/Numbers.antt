@@ -64,6 +64,9 @@ either : (P : List ℕ → Type 0) (b : Bool) (s t : List ℕ) → P s → P t �
 either P true s t g h = g
 either P false s t g h = h
 
+digit_range : (d : ℕ) → digit_value d < 10 → (48 ≤ d) × (d < 58)
+digit_range d h = grind arith
+
 -- what holds of each digit holds of all bytes of a number
 module _ (P : ℕ → Type 0) (each : (c : ℕ) → 48 ≤ c → c < 58 → P c) where
   glyph : (d : ℕ) → d < 10 → P (digit_glyph false d)
@@ -79,8 +82,36 @@ module _ (P : ℕ → Type 0) (each : (c : ℕ) → 48 ≤ c → c < 58 → P c)
   unfolding digits
   decimal_all n = digits_all 64 n [] tt
 
+  module _ (minus : P 45) where
+    pub signed_all : (z : ℤ) → AreAll P (signed_decimal z)
+    signed_all (pos n) = decimal_all n
+    signed_all (negsuc n) = (minus, decimal_all (suc n))
+
+    sign_all : (negative : Bool) → AreAll P (sign_text negative)
+    sign_all true = (minus, tt)
+    sign_all false = tt
+
+    digits_read : (ds : List ℕ) → AllDigits 10 ds → AreAll P ds
+    digits_read [] h = tt
+    digits_read (d ∷ ds) h = let range = digit_range d h.0 in (each d range.0 range.1, digits_read ds h.1)
+
+    exponent_all : P 101 → (negative : Bool) (ds : List ℕ) → AllDigits 10 ds → AreAll P (exponent_text negative ds)
+    exponent_all e negative [] h = tt
+    exponent_all e negative (d ∷ ds) h = (e, all_append P (sign_text negative) (d ∷ ds) (sign_all negative) (digits_read (d ∷ ds) h))
+
+    pub float_all : P 46 → P 101 → (text : List ℕ) → IsPlainNumber text → AreAll P text
+    float_all point e text (negative, p, is, shaped) =
+        let w = shaped.well_formed in
+        let fraction = either (AreAll P) p.point (46 ∷ p.fraction) [] (point, digits_read p.fraction w.fraction_digits) tt in
+        subst (AreAll P) (sym is)
+        (all_append P (sign_text negative) (text_of p) (sign_all negative)
+        (all_append P p.whole _ (digits_read p.whole w.whole_digits) (all_append P _ (exponent_text p.exponent_negative p.exponent) fraction (exponent_all e p.exponent_negative p.exponent w.exponent_digits))))
+
+bare_digit : (c : ℕ) → 48 ≤ c → c < 58 → Bare c
+bare_digit c g h = low c (omega (arith, g)) (omega (arith, h))
+
 pub decimal_bare : (n : ℕ) → AreAll Bare (decimal n)
-decimal_bare n = decimal_all Bare (λ c g h. low c (omega (arith, g)) (omega (arith, h))) n
+decimal_bare n = decimal_all Bare bare_digit n
 
 -- whether a byte is bare
 abbrev is_bare : ℕ → Bool
@@ -111,8 +142,7 @@ minus : Bare 45
 minus = bare_of 45 refl
 
 signed_bare : (z : ℤ) → AreAll Bare (signed_decimal z)
-signed_bare (pos n) = decimal_bare n
-signed_bare (negsuc n) = (minus, decimal_bare (suc n))
+signed_bare z = signed_all Bare bare_digit minus z
 
 encoded_bare : (t bytes : List ℕ) → ((i : ℕ) → Bare (get_or t i 0)) → AreAll Bare (encode_with t bytes)
 unfolding encode_with
@@ -124,33 +154,8 @@ hex_bare bytes = encoded_bare lower_digits bytes (bare_at lower_digits (bare_lit
 
 -- ---- the text of each number
 
-digit_bare : (c : ℕ) → digit_value c < 10 → Bare c
-digit_bare c h = record {
-  quote = λ e. let d : digit_value 34 < 10 = subst (λ (k : ℕ). digit_value k < 10) e h in omega (arith, d);
-  comma = λ e. let d : digit_value 44 < 10 = subst (λ (k : ℕ). digit_value k < 10) e h in omega (arith, d);
-  bracket = λ e. let d : digit_value 93 < 10 = subst (λ (k : ℕ). digit_value k < 10) e h in omega (arith, d);
-  brace = λ e. let d : digit_value 125 < 10 = subst (λ (k : ℕ). digit_value k < 10) e h in omega (arith, d);
-}
-
-all_digits : (ds : List ℕ) → AllDigits 10 ds → AreAll Bare ds
-all_digits [] h = tt
-all_digits (c ∷ ds) h = (digit_bare c h.0, all_digits ds h.1)
-
-sign_bare : (negative : Bool) → AreAll Bare (sign_text negative)
-sign_bare true = (minus, tt)
-sign_bare false = tt
-
-exponent_bare : (negative : Bool) (ds : List ℕ) → AllDigits 10 ds → AreAll Bare (exponent_text negative ds)
-exponent_bare negative [] h = tt
-exponent_bare negative (d ∷ ds) h = (bare_of 101 refl, all_append Bare (sign_text negative) (d ∷ ds) (sign_bare negative) (all_digits (d ∷ ds) h))
-
 float_bare : (text : List ℕ) → IsPlainNumber text → AreAll Bare text
-float_bare text (negative, p, is, shaped) =
-    let w = shaped.well_formed in
-    let fraction = either (AreAll Bare) p.point (46 ∷ p.fraction) [] (bare_of 46 refl, all_digits p.fraction w.fraction_digits) tt in
-    subst (AreAll Bare) (sym is)
-    (all_append Bare (sign_text negative) (text_of p) (sign_bare negative)
-    (all_append Bare p.whole _ (all_digits p.whole w.whole_digits) (all_append Bare _ (exponent_text p.exponent_negative p.exponent) fraction (exponent_bare p.exponent_negative p.exponent w.exponent_digits))))
+float_bare text plain = float_all Bare bare_digit minus (bare_of 46 refl) (bare_of 101 refl) text plain
 
 boolean_bare : (n : ℕ) → AreAll Bare (number_text BOOLEAN n)
 boolean_bare n = either (AreAll Bare) (eqb n 0) (codes "false") (codes "true") (bare_literal (codes "false") refl) (bare_literal (codes "true") refl)

@@ -1,8 +1,9 @@
 -- What `json` writes of a value is JSON that spells it.
 -- RFC 8259, sections 3 to 7.
-use Rattle.std.proofs.Common.{◌≡◌, ℕ, suc, ◌<◌, ℤ, pos, negsuc, Bool, true, false, cond, List, [], ◌∷◌, ◌++◌, get_or, option_and_then, codes, decimal, refl, sym, ap, ap₂, ◌∙◌, arith, append_assoc}
+use Rattle.std.proofs.Common.{◌≡◌, ℕ, suc, ◌<◌, ℤ, pos, negsuc, Bool, true, false, cond, List, [], ◌∷◌, ◌++◌, get_or, option_and_then, codes, IsUtf8, decimal, refl, sym, ap, ap₂, ◌∙◌, arith, append_assoc}
 use Rattle.std.proofs.lemmas.Bool.{ne_eqb}
 use Rattle.std.proofs.lemmas.Fmt.{first_decimal}
+use Rattle.std.proofs.lemmas.Str.{IsUtf8-append, IsUtf8-nil}
 use Rattle.std.specs.Fmt.{signed_decimal}
 use Rattle.json.specs.Token as tokens
 use Rattle.json.specs.Token.{Token}
@@ -13,11 +14,12 @@ use Rattle.json.specs.Json.{Json, Items, no_items, item, Members, no_members, me
 use Rattle.json.specs.Json as json
 use Rattle.json.specs.Tree.{json_tokens, items_tokens, members_tokens}
 use Rattle.json.proofs.Printed.Numbers.{lex-number, in_word-ended}
+use Rattle.json.proofs.Printed.Utf8.{are_ascii, IsUtf8-are_ascii}
 use Rattle.json.proofs.Printed.Decimals.{IsNumber-decimal}
 use Rattle.dbus_json.specs.JsonValues as written
 use Rattle.dbus_json.specs.JsonValues.{listed}
 use Rattle.dbus_json_laws.proofs.Numbers.{AreAll}
-use Rattle.dbus_json_laws.proofs.Lexed.{Inside, lex_plain}
+use Rattle.dbus_json_laws.proofs.Lexed.{Inside, inside_utf8, plain_utf8, lex_plain}
 use Rattle.dbus_json_laws.proofs.Values.{more}
 use Rattle.dbus_json_reader.proofs.NumberTexts.{Fits64}
 
@@ -27,8 +29,9 @@ use Rattle.dbus_json_reader.proofs.NumberTexts.{Fits64}
 abbrev pub Ended : List ℕ → Type 0
 Ended r = (ends_word r ≡ true) × (begins_colon (lex between r) ≡ false)
 
-abbrev pub Reads : List ℕ → Json → Type 0
-Reads text j = (p : Place) (r : List ℕ) → may_begin p ≡ true → Ended r → punctuate p (lex between (text ++ r)) ≡ json_tokens j ++ punctuate after_value (lex between r)
+pub record Reads (text : List ℕ) (j : Json) : Type 0 where
+  pub utf8 : IsUtf8 text
+  pub parsed : (p : Place) (r : List ℕ) → may_begin p ≡ true → Ended r → punctuate p (lex between (text ++ r)) ≡ json_tokens j ++ punctuate after_value (lex between r)
 
 allowed : (b : Bool) (t : Token) (k : Place → List Token) (next : Place) → b ≡ true → if_allowed b t k next ≡ t ∷ k next
 allowed b t k next e = ap (λ (x : Bool). if_allowed x t k next) e
@@ -36,10 +39,6 @@ allowed b t k next e = ap (λ (x : Bool). if_allowed x t k next) e
 pub at_end : Ended []
 unfolding lex
 at_end = (refl, refl)
-
-pub at_line_feed : Ended (10 ∷ [])
-unfolding lex
-at_line_feed = (refl, refl)
 
 pub at_bracket : (r : List ℕ) → Ended (93 ∷ r)
 unfolding lex
@@ -59,9 +58,12 @@ after_more (t ∷ ts) r h = at_comma ((t ++ more ts) ++ r)
 
 -- ---- numbers, true and false
 
-pub number_reads : (s : List ℕ) → IsNumber s → Reads s (json.number s)
+pub number_reads : (s : List ℕ) → AreAll Inside s → IsNumber s → Reads s (json.number s)
 unfolding punctuate
-number_reads s is p r may e = ap (punctuate p) (lex-number s r is e.0) ∙ allowed (may_begin p) (tokens.number s) (λ n. punctuate n (lex between r)) after_value may
+number_reads s inside is = record {
+  utf8 = inside_utf8 s inside;
+  parsed = λ p r may e. ap (punctuate p) (lex-number s r is e.0) ∙ allowed (may_begin p) (tokens.number s) (λ n. punctuate n (lex between r)) after_value may;
+}
 
 lex_true : (r : List ℕ) → ends_word r ≡ true → lex between (codes "true" ++ r) ≡ token (tokens.boolean true) ∷ lex between r
 unfolding lex word
@@ -73,11 +75,17 @@ lex_false r e = ap₂ (λ b ls. token (cond b (tokens.boolean false) tokens.bad)
 
 pub true_reads : Reads (codes "true") (json.boolean true)
 unfolding punctuate
-true_reads p r may e = ap (punctuate p) (lex_true r e.0) ∙ allowed (may_begin p) (tokens.boolean true) (λ n. punctuate n (lex between r)) after_value may
+true_reads = record {
+  utf8 = IsUtf8-are_ascii (codes "true") refl;
+  parsed = λ p r may e. ap (punctuate p) (lex_true r e.0) ∙ allowed (may_begin p) (tokens.boolean true) (λ n. punctuate n (lex between r)) after_value may;
+}
 
 pub false_reads : Reads (codes "false") (json.boolean false)
 unfolding punctuate
-false_reads p r may e = ap (punctuate p) (lex_false r e.0) ∙ allowed (may_begin p) (tokens.boolean false) (λ n. punctuate n (lex between r)) after_value may
+false_reads = record {
+  utf8 = IsUtf8-are_ascii (codes "false") refl;
+  parsed = λ p r may e. ap (punctuate p) (lex_false r e.0) ∙ allowed (may_begin p) (tokens.boolean false) (λ n. punctuate n (lex between r)) after_value may;
+}
 
 -- a minus before a number that does not begin with a zero
 negated : (s : List ℕ) → 48 < get_or s 0 0 → IsNumber s → IsNumber (45 ∷ s)
@@ -93,18 +101,21 @@ signed_number (negsuc n) h = negated (decimal (suc n)) (first_decimal (suc n) (o
 -- ---- strings and names
 
 -- a text that is lexed as a string
-pub string_reads : (s text : List ℕ) → ((r : List ℕ) → lex between (s ++ r) ≡ token (tokens.string text) ∷ lex between r) → Reads s (json.string text)
+pub string_reads : (s text : List ℕ) → IsUtf8 s → ((r : List ℕ) → lex between (s ++ r) ≡ token (tokens.string text) ∷ lex between r) → Reads s (json.string text)
 unfolding punctuate
-string_reads s text lexed p r may e =
-    ap (punctuate p) (lexed r) ∙ ap (λ (b : Bool). place_token p (tokens.string text) b (λ n. punctuate n (lex between r))) e.1
-    ∙ allowed (may_begin p) (tokens.string text) (λ n. punctuate n (lex between r)) after_value may
+string_reads s text utf8 lexed = record {
+  utf8 = utf8;
+  parsed = λ p r may e.
+      ap (punctuate p) (lexed r) ∙ ap (λ (b : Bool). place_token p (tokens.string text) b (λ n. punctuate n (lex between r))) e.1
+      ∙ allowed (may_begin p) (tokens.string text) (λ n. punctuate n (lex between r)) after_value may;
+}
 
 pub plain_reads : (text : List ℕ) → AreAll Inside text → Reads (written.plain text) (json.string text)
-plain_reads text h = string_reads (written.plain text) text (λ r. lex_plain text r h)
+plain_reads text h = string_reads (written.plain text) text (plain_utf8 text (inside_utf8 text h)) (λ r. lex_plain text r h)
 
-abbrev pub MemberReads : List ℕ → List ℕ → Json → Type 0
-MemberReads text name j =
-    (p : Place) (r : List ℕ) → may_begin p ≡ true → Ended r → punctuate p (lex between (text ++ r)) ≡ tokens.key name ∷ (json_tokens j ++ punctuate after_value (lex between r))
+pub record MemberReads (text name : List ℕ) (j : Json) : Type 0 where
+  pub utf8 : IsUtf8 text
+  pub parsed : (p : Place) (r : List ℕ) → may_begin p ≡ true → Ended r → punctuate p (lex between (text ++ r)) ≡ tokens.key name ∷ (json_tokens j ++ punctuate after_value (lex between r))
 
 lex_name : (name rest : List ℕ) → AreAll Inside name → lex between (written.plain name ++ 58 ∷ rest) ≡ token (tokens.string name) ∷ colon ∷ lex between rest
 unfolding lex
@@ -112,11 +123,31 @@ lex_name name rest h = lex_plain name (58 ∷ rest) h
 
 pub member_reads : (name value : List ℕ) (j : Json) → AreAll Inside name → Reads value j → MemberReads (written.member name value) name j
 unfolding punctuate
-member_reads name value j h reads p r may e =
-    ap (λ (u : List ℕ). punctuate p (lex between u)) (append_assoc (written.plain name) (58 ∷ value) r)
-    ∙ ap (punctuate p) (lex_name name (value ++ r) h)
-    ∙ allowed (may_begin p) (tokens.key name) (λ n. punctuate n (colon ∷ lex between (value ++ r))) after_key may
-    ∙ ap (λ (ts : List Token). tokens.key name ∷ ts) (reads fresh r refl e)
+member_reads name value j h reads = record {
+  utf8 = IsUtf8-append (written.plain name) (58 ∷ value) (plain_utf8 name (inside_utf8 name h)) (IsUtf8-append (58 ∷ []) value (IsUtf8-are_ascii (58 ∷ []) refl) reads.utf8);
+  parsed = λ p r may e.
+      ap (λ (u : List ℕ). punctuate p (lex between u)) (append_assoc (written.plain name) (58 ∷ value) r)
+      ∙ ap (punctuate p) (lex_name name (value ++ r) h)
+      ∙ allowed (may_begin p) (tokens.key name) (λ n. punctuate n (colon ∷ lex between (value ++ r))) after_key may
+      ∙ ap (λ (ts : List Token). tokens.key name ∷ ts) (reads.parsed fresh r refl e);
+}
+
+-- ---- texts in a row
+
+abbrev AllUtf8 : List (List ℕ) → Type 0
+AllUtf8 [] = Unit {0}
+AllUtf8 (t ∷ ts) = IsUtf8 t × AllUtf8 ts
+
+more_utf8 : (ts : List (List ℕ)) → AllUtf8 ts → IsUtf8 (more ts)
+more_utf8 [] h = IsUtf8-nil
+more_utf8 (t ∷ ts) h = IsUtf8-append (44 ∷ t) (more ts) (IsUtf8-append (44 ∷ []) t (IsUtf8-are_ascii (44 ∷ []) refl) h.0) (more_utf8 ts h.1)
+
+listed_utf8 : (ts : List (List ℕ)) → AllUtf8 ts → IsUtf8 (listed ts)
+listed_utf8 [] h = IsUtf8-nil
+listed_utf8 (t ∷ ts) h = IsUtf8-append t (more ts) h.0 (more_utf8 ts h.1)
+
+brackets_utf8 : (first last : ℕ) (ts : List (List ℕ)) → are_ascii (first ∷ []) ≡ true → are_ascii (last ∷ []) ≡ true → AllUtf8 ts → IsUtf8 (first ∷ (listed ts ++ last ∷ []))
+brackets_utf8 first last ts a b h = IsUtf8-append (first ∷ []) (listed ts ++ last ∷ []) (IsUtf8-are_ascii (first ∷ []) a) (IsUtf8-append (listed ts) (last ∷ []) (listed_utf8 ts h) (IsUtf8-are_ascii (last ∷ []) b))
 
 -- ---- arrays
 
@@ -126,12 +157,18 @@ AllRead (t ∷ ts) (item j js) = Reads t j × AllRead ts js
 AllRead [] (item j js) = ⊥
 AllRead (t ∷ ts) no_items = ⊥
 
+items_utf8 : (ts : List (List ℕ)) (js : Items) → AllRead ts js → AllUtf8 ts
+items_utf8 [] no_items h = tt
+items_utf8 (t ∷ ts) (item j js) h = (h.0.utf8, items_utf8 ts js h.1)
+items_utf8 [] (item j js) h = absurd h
+items_utf8 (t ∷ ts) no_items h = absurd h
+
 more_items : (ts : List (List ℕ)) (js : Items) → AllRead ts js → (r : List ℕ) → punctuate after_value (lex between (more ts ++ 93 ∷ r)) ≡ items_tokens js ++ punctuate after_value (lex between r)
 unfolding lex punctuate
 more_items [] no_items h r = refl
 more_items (t ∷ ts) (item j js) h r =
     ap (λ (u : List ℕ). punctuate after_comma (lex between u)) (append_assoc t (more ts) (93 ∷ r))
-    ∙ h.0 after_comma (more ts ++ 93 ∷ r) refl (after_more ts (93 ∷ r) (at_bracket r))
+    ∙ h.0.parsed after_comma (more ts ++ 93 ∷ r) refl (after_more ts (93 ∷ r) (at_bracket r))
     ∙ ap (λ (us : List Token). json_tokens j ++ us) (more_items ts js h.1 r)
     ∙ sym (append_assoc (json_tokens j) (items_tokens js) (punctuate after_value (lex between r)))
 more_items [] (item j js) h r = absurd h
@@ -142,7 +179,7 @@ unfolding lex punctuate
 all_items [] no_items h r = refl
 all_items (t ∷ ts) (item j js) h r =
     ap (λ (u : List ℕ). punctuate fresh (lex between u)) (append_assoc t (more ts) (93 ∷ r))
-    ∙ h.0 fresh (more ts ++ 93 ∷ r) refl (after_more ts (93 ∷ r) (at_bracket r))
+    ∙ h.0.parsed fresh (more ts ++ 93 ∷ r) refl (after_more ts (93 ∷ r) (at_bracket r))
     ∙ ap (λ (us : List Token). json_tokens j ++ us) (more_items ts js h.1 r)
     ∙ sym (append_assoc (json_tokens j) (items_tokens js) (punctuate after_value (lex between r)))
 all_items [] (item j js) h r = absurd h
@@ -153,10 +190,13 @@ unfolding lex punctuate
 open_array t p may = allowed (may_begin p) tokens.begin_array (λ n. punctuate n (lex between t)) fresh may
 
 pub array_reads : (ts : List (List ℕ)) (js : Items) → AllRead ts js → Reads (written.array ts) (json.array js)
-array_reads ts js h p r may e =
-    ap (λ (u : List ℕ). punctuate p (lex between (91 ∷ u))) (append_assoc (listed ts) (93 ∷ []) r)
-    ∙ open_array (listed ts ++ 93 ∷ r) p may
-    ∙ ap (λ (us : List Token). tokens.begin_array ∷ us) (all_items ts js h r)
+array_reads ts js h = record {
+  utf8 = brackets_utf8 91 93 ts refl refl (items_utf8 ts js h);
+  parsed = λ p r may e.
+      ap (λ (u : List ℕ). punctuate p (lex between (91 ∷ u))) (append_assoc (listed ts) (93 ∷ []) r)
+      ∙ open_array (listed ts ++ 93 ∷ r) p may
+      ∙ ap (λ (us : List Token). tokens.begin_array ∷ us) (all_items ts js h r);
+}
 
 -- ---- objects
 
@@ -166,12 +206,18 @@ AllNamed (t ∷ ts) (member name j ms) = MemberReads t name j × AllNamed ts ms
 AllNamed [] (member name j ms) = ⊥
 AllNamed (t ∷ ts) no_members = ⊥
 
+members_utf8 : (ts : List (List ℕ)) (ms : Members) → AllNamed ts ms → AllUtf8 ts
+members_utf8 [] no_members h = tt
+members_utf8 (t ∷ ts) (member name j ms) h = (h.0.utf8, members_utf8 ts ms h.1)
+members_utf8 [] (member name j ms) h = absurd h
+members_utf8 (t ∷ ts) no_members h = absurd h
+
 more_members : (ts : List (List ℕ)) (ms : Members) → AllNamed ts ms → (r : List ℕ) → punctuate after_value (lex between (more ts ++ 125 ∷ r)) ≡ members_tokens ms ++ punctuate after_value (lex between r)
 unfolding lex punctuate
 more_members [] no_members h r = refl
 more_members (t ∷ ts) (member name j ms) h r =
     ap (λ (u : List ℕ). punctuate after_comma (lex between u)) (append_assoc t (more ts) (125 ∷ r))
-    ∙ h.0 after_comma (more ts ++ 125 ∷ r) refl (after_more ts (125 ∷ r) (at_brace r))
+    ∙ h.0.parsed after_comma (more ts ++ 125 ∷ r) refl (after_more ts (125 ∷ r) (at_brace r))
     ∙ ap (λ (us : List Token). tokens.key name ∷ (json_tokens j ++ us)) (more_members ts ms h.1 r)
     ∙ ap (λ (us : List Token). tokens.key name ∷ us) (sym (append_assoc (json_tokens j) (members_tokens ms) (punctuate after_value (lex between r))))
 more_members [] (member name j ms) h r = absurd h
@@ -182,7 +228,7 @@ unfolding lex punctuate
 all_members [] no_members h r = refl
 all_members (t ∷ ts) (member name j ms) h r =
     ap (λ (u : List ℕ). punctuate fresh (lex between u)) (append_assoc t (more ts) (125 ∷ r))
-    ∙ h.0 fresh (more ts ++ 125 ∷ r) refl (after_more ts (125 ∷ r) (at_brace r))
+    ∙ h.0.parsed fresh (more ts ++ 125 ∷ r) refl (after_more ts (125 ∷ r) (at_brace r))
     ∙ ap (λ (us : List Token). tokens.key name ∷ (json_tokens j ++ us)) (more_members ts ms h.1 r)
     ∙ ap (λ (us : List Token). tokens.key name ∷ us) (sym (append_assoc (json_tokens j) (members_tokens ms) (punctuate after_value (lex between r))))
 all_members [] (member name j ms) h r = absurd h
@@ -193,7 +239,10 @@ unfolding lex punctuate
 open_object t p may = allowed (may_begin p) tokens.begin_object (λ n. punctuate n (lex between t)) fresh may
 
 pub object_reads : (ts : List (List ℕ)) (ms : Members) → AllNamed ts ms → Reads (written.object ts) (json.object ms)
-object_reads ts ms h p r may e =
-    ap (λ (u : List ℕ). punctuate p (lex between (123 ∷ u))) (append_assoc (listed ts) (125 ∷ []) r)
-    ∙ open_object (listed ts ++ 125 ∷ r) p may
-    ∙ ap (λ (us : List Token). tokens.begin_object ∷ us) (all_members ts ms h r)
+object_reads ts ms h = record {
+  utf8 = brackets_utf8 123 125 ts refl refl (members_utf8 ts ms h);
+  parsed = λ p r may e.
+      ap (λ (u : List ℕ). punctuate p (lex between (123 ∷ u))) (append_assoc (listed ts) (125 ∷ []) r)
+      ∙ open_object (listed ts ++ 125 ∷ r) p may
+      ∙ ap (λ (us : List Token). tokens.begin_object ∷ us) (all_members ts ms h r);
+}

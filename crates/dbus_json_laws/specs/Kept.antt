@@ -1,7 +1,7 @@
 -- What `json` writes is read as it is meant.
 -- RFC 8259, of the values and the messages of the D-Bus Specification, "Type System" and "Message
 -- Format".
-use Rattle.std.specs.Prelude.{◌≡◌, ◌∷◌, ◌++◌, ℕ, ◌+◌, ◌*◌, ◌^◌, ◌<◌, List, [], Some}
+use Rattle.std.specs.Prelude.{◌≡◌, ◌∷◌, ◌++◌, ℕ, ◌*◌, ◌^◌, ◌<◌, List, [], Some, codes}
 use Rattle.std.specs.Str.{IsUtf8}
 use Rattle.json.specs.Json.{Json, value}
 use Rattle.json.specs.Token as tokens
@@ -15,8 +15,8 @@ use Rattle.dbus_message_model.specs.Messages.{MessageTree, IsValidMessage}
 use Rattle.dbus_json.specs.declared.place.LinePlace.{LinePlace}
 use Rattle.dbus_json.specs.JsonMessages.{IsJsonLine}
 use Rattle.dbus_json.specs.JsonValues.{string, IsJson}
-use Rattle.dbus_json_reader.specs.JsonMessages.{IsReadMessage}
 use Rattle.dbus_json_reader.specs.JsonValues.{Spells}
+use Rattle.dbus_json_lines.specs.JsonLines.{IsLineOf}
 
 -- What `json` writes of a text, with its escapes, is one token, the string of that text, and what
 -- stands after it is read as if it stood alone.
@@ -29,9 +29,12 @@ abbrev pub IsValueKept : Type 0
 IsValueKept = (depth : ℕ) (v : ValueTree) (text : List ℕ) → IsSingleType (type_of v) → IsWellFormed depth v → IsJson v text
     → (j : Json) × Spells v j × (value (2 * depth) (lexer.tokens text) ≡ Some (j, []))
 
--- The line that `json` writes of a valid message is JSON that spells this message, and nothing
--- after it, whatever serial a message with none would have. It nests two deeper than twice the
--- limit on depth: the body is an array in an object. A place is told in numbers of 64 bits.
+-- The line that `json` writes of a valid message, without its line feed, is a line of this message,
+-- whatever serial a message with none would have: it is UTF-8, and one JSON value that spells the
+-- message. What says where the message stands are numbers of 64 bits.
 abbrev pub IsLineKept : Type 0
-IsLineKept = (limits : Limits) (number : ℕ) (order : Order) (m : MessageTree) (place : LinePlace) (text : List ℕ) → IsValidMessage limits m → place.number < 2 ^ 64 → place.offset < 2 ^ 64 → IsJsonLine order m place text
-    → (j : Json) × IsReadMessage limits number order m j × (value (2 + 2 * limits.depth) (lexer.tokens text) ≡ Some (j, []))
+IsLineKept = (limits : Limits) (number : ℕ) (order : Order) (m : MessageTree) (place : LinePlace) (line : List ℕ) → IsValidMessage limits m → place.number < 2 ^ 64 → place.offset < 2 ^ 64 → IsJsonLine order m place (line ++ codes "\n") → IsLineOf limits number line order m
+
+-- No line is of two messages, whatever the limits.
+abbrev pub IsOneMessageOfALine : Type 0
+IsOneMessageOfALine = (limits bounds : Limits) (number : ℕ) (order other : Order) (m w : MessageTree) (line : List ℕ) → IsLineOf limits number line order m → IsLineOf bounds number line other w → (order ≡ other) × (m ≡ w)

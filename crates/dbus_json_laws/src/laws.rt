@@ -1,7 +1,7 @@
 //! Laws of lines. A function's contract is its law; it does nothing when it runs.
 #![tactic(auto)]
 
-ghost use Rattle.dbus_json_laws.specs.Kept.{IsLineKept, IsTextKept, IsValueKept};
+ghost use Rattle.dbus_json_laws.specs.Kept.{IsLineKept, IsOneMessageOfALine, IsTextKept, IsValueKept};
 ghost use Rattle.dbus_json_laws.specs.Laws.{IsOneMessageALine};
 ghost use Rattle.dbus_json_laws.specs.Reading.{IsDoubleKept, IsOneMessageEach, IsOneValueEach};
 
@@ -35,7 +35,12 @@ pub fn values_kept()
     ensures { IsValueKept }
 {}
 
-/// The line of a message is JSON that spells it: what `json` writes, `encode` reads as the message.
+/// The line that is written of a message is a line of it: `encode` reads what `json` writes.
 pub fn lines_kept()
     ensures { IsLineKept }
+{}
+
+/// No line is of two messages: what `dbus_json_lines::message_of_line` returns is the one.
+pub fn one_message_of_a_line()
+    ensures { IsOneMessageOfALine }
 {}
