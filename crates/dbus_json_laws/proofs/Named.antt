@@ -1,4 +1,4 @@
--- Members of an object, found by their names; and the names of a message's header fields.
+-- Names of members and of header fields: those of a line differ, so each member is found by its name.
 use Rattle.std.proofs.Common.{◌≡◌, ◌≢◌, ℕ, ◌+◌, Bool, true, false, cond, eqb, ◌||◌, List, [], ◌∷◌, ◌++◌, map, filter, Option, Some, None, inl, inr, ◌⊎◌, codes, refl, sym, ap, ap₂, ◌∙◌, subst}
 use Rattle.std.proofs.lemmas.Bool.{cases_Bool, eq-eqb, or_parts, and_from, true≢false}
 use Rattle.std.proofs.lemmas.Map.Made.{AllPairs-from_IsDistinct}

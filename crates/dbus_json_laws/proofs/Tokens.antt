@@ -1,4 +1,4 @@
--- What `json` writes of a value is JSON that spells it.
+-- Texts of JSON, through the lexer: numbers, strings, arrays and objects, and the tokens of each.
 -- RFC 8259, sections 3 to 7.
 use Rattle.std.proofs.Common.{◌≡◌, ℕ, suc, ◌<◌, ℤ, pos, negsuc, Bool, true, false, cond, List, [], ◌∷◌, ◌++◌, get_or, option_and_then, codes, IsUtf8, decimal, refl, sym, ap, ap₂, ◌∙◌, arith, append_assoc}
 use Rattle.std.proofs.lemmas.Bool.{ne_eqb}
@@ -29,9 +29,16 @@ use Rattle.dbus_json_reader.proofs.NumberTexts.{Fits64}
 abbrev pub Ended : List ℕ → Type 0
 Ended r = (ends_word r ≡ true) × (begins_colon (lex between r) ≡ false)
 
-pub record Reads (text : List ℕ) (j : Json) : Type 0 where
+-- a text of UTF-8, which is read as these tokens where a value may begin
+pub record IsReadAs (text : List ℕ) (ts : List Token) : Type 0 where
   pub utf8 : IsUtf8 text
-  pub parsed : (p : Place) (r : List ℕ) → may_begin p ≡ true → Ended r → punctuate p (lex between (text ++ r)) ≡ json_tokens j ++ punctuate after_value (lex between r)
+  pub parsed : (p : Place) (r : List ℕ) → may_begin p ≡ true → Ended r → punctuate p (lex between (text ++ r)) ≡ ts ++ punctuate after_value (lex between r)
+
+abbrev pub Reads : List ℕ → Json → Type 0
+Reads text j = IsReadAs text (json_tokens j)
+
+abbrev pub MemberReads : List ℕ → List ℕ → Json → Type 0
+MemberReads text name j = IsReadAs text (tokens.key name ∷ json_tokens j)
 
 allowed : (b : Bool) (t : Token) (k : Place → List Token) (next : Place) → b ≡ true → if_allowed b t k next ≡ t ∷ k next
 allowed b t k next e = ap (λ (x : Bool). if_allowed x t k next) e
@@ -113,10 +120,6 @@ string_reads s text utf8 lexed = record {
 pub plain_reads : (text : List ℕ) → AreAll Inside text → Reads (written.plain text) (json.string text)
 plain_reads text h = string_reads (written.plain text) text (plain_utf8 text (inside_utf8 text h)) (λ r. lex_plain text r h)
 
-pub record MemberReads (text name : List ℕ) (j : Json) : Type 0 where
-  pub utf8 : IsUtf8 text
-  pub parsed : (p : Place) (r : List ℕ) → may_begin p ≡ true → Ended r → punctuate p (lex between (text ++ r)) ≡ tokens.key name ∷ (json_tokens j ++ punctuate after_value (lex between r))
-
 lex_name : (name rest : List ℕ) → AreAll Inside name → lex between (written.plain name ++ 58 ∷ rest) ≡ token (tokens.string name) ∷ colon ∷ lex between rest
 unfolding lex
 lex_name name rest h = lex_plain name (58 ∷ rest) h
@@ -149,6 +152,15 @@ listed_utf8 (t ∷ ts) h = IsUtf8-append t (more ts) h.0 (more_utf8 ts h.1)
 brackets_utf8 : (first last : ℕ) (ts : List (List ℕ)) → are_ascii (first ∷ []) ≡ true → are_ascii (last ∷ []) ≡ true → AllUtf8 ts → IsUtf8 (first ∷ (listed ts ++ last ∷ []))
 brackets_utf8 first last ts a b h = IsUtf8-append (first ∷ []) (listed ts ++ last ∷ []) (IsUtf8-are_ascii (first ∷ []) a) (IsUtf8-append (listed ts) (last ∷ []) (listed_utf8 ts h) (IsUtf8-are_ascii (last ∷ []) b))
 
+-- a text before others, and the tokens of all
+one_more : (p : Place) → may_begin p ≡ true → (t : List ℕ) (us : List Token) → IsReadAs t us → (ts : List (List ℕ)) (r : List ℕ) → Ended r → (vs rest : List Token)
+    → punctuate after_value (lex between (more ts ++ r)) ≡ vs ++ rest → punctuate p (lex between ((t ++ more ts) ++ r)) ≡ (us ++ vs) ++ rest
+one_more p may t us h ts r ended vs rest e =
+    ap (λ (u : List ℕ). punctuate p (lex between u)) (append_assoc t (more ts) r)
+    ∙ h.parsed p (more ts ++ r) may (after_more ts r ended)
+    ∙ ap (λ (ws : List Token). us ++ ws) e
+    ∙ sym (append_assoc us vs rest)
+
 -- ---- arrays
 
 abbrev pub AllRead : List (List ℕ) → Items → Type 0
@@ -166,22 +178,14 @@ items_utf8 (t ∷ ts) no_items h = absurd h
 more_items : (ts : List (List ℕ)) (js : Items) → AllRead ts js → (r : List ℕ) → punctuate after_value (lex between (more ts ++ 93 ∷ r)) ≡ items_tokens js ++ punctuate after_value (lex between r)
 unfolding lex punctuate
 more_items [] no_items h r = refl
-more_items (t ∷ ts) (item j js) h r =
-    ap (λ (u : List ℕ). punctuate after_comma (lex between u)) (append_assoc t (more ts) (93 ∷ r))
-    ∙ h.0.parsed after_comma (more ts ++ 93 ∷ r) refl (after_more ts (93 ∷ r) (at_bracket r))
-    ∙ ap (λ (us : List Token). json_tokens j ++ us) (more_items ts js h.1 r)
-    ∙ sym (append_assoc (json_tokens j) (items_tokens js) (punctuate after_value (lex between r)))
+more_items (t ∷ ts) (item j js) h r = one_more after_comma refl t (json_tokens j) h.0 ts (93 ∷ r) (at_bracket r) (items_tokens js) (punctuate after_value (lex between r)) (more_items ts js h.1 r)
 more_items [] (item j js) h r = absurd h
 more_items (t ∷ ts) no_items h r = absurd h
 
 all_items : (ts : List (List ℕ)) (js : Items) → AllRead ts js → (r : List ℕ) → punctuate fresh (lex between (listed ts ++ 93 ∷ r)) ≡ items_tokens js ++ punctuate after_value (lex between r)
 unfolding lex punctuate
 all_items [] no_items h r = refl
-all_items (t ∷ ts) (item j js) h r =
-    ap (λ (u : List ℕ). punctuate fresh (lex between u)) (append_assoc t (more ts) (93 ∷ r))
-    ∙ h.0.parsed fresh (more ts ++ 93 ∷ r) refl (after_more ts (93 ∷ r) (at_bracket r))
-    ∙ ap (λ (us : List Token). json_tokens j ++ us) (more_items ts js h.1 r)
-    ∙ sym (append_assoc (json_tokens j) (items_tokens js) (punctuate after_value (lex between r)))
+all_items (t ∷ ts) (item j js) h r = one_more fresh refl t (json_tokens j) h.0 ts (93 ∷ r) (at_bracket r) (items_tokens js) (punctuate after_value (lex between r)) (more_items ts js h.1 r)
 all_items [] (item j js) h r = absurd h
 all_items (t ∷ ts) no_items h r = absurd h
 
@@ -216,10 +220,7 @@ more_members : (ts : List (List ℕ)) (ms : Members) → AllNamed ts ms → (r :
 unfolding lex punctuate
 more_members [] no_members h r = refl
 more_members (t ∷ ts) (member name j ms) h r =
-    ap (λ (u : List ℕ). punctuate after_comma (lex between u)) (append_assoc t (more ts) (125 ∷ r))
-    ∙ h.0.parsed after_comma (more ts ++ 125 ∷ r) refl (after_more ts (125 ∷ r) (at_brace r))
-    ∙ ap (λ (us : List Token). tokens.key name ∷ (json_tokens j ++ us)) (more_members ts ms h.1 r)
-    ∙ ap (λ (us : List Token). tokens.key name ∷ us) (sym (append_assoc (json_tokens j) (members_tokens ms) (punctuate after_value (lex between r))))
+    one_more after_comma refl t (tokens.key name ∷ json_tokens j) h.0 ts (125 ∷ r) (at_brace r) (members_tokens ms) (punctuate after_value (lex between r)) (more_members ts ms h.1 r)
 more_members [] (member name j ms) h r = absurd h
 more_members (t ∷ ts) no_members h r = absurd h
 
@@ -227,10 +228,7 @@ all_members : (ts : List (List ℕ)) (ms : Members) → AllNamed ts ms → (r : 
 unfolding lex punctuate
 all_members [] no_members h r = refl
 all_members (t ∷ ts) (member name j ms) h r =
-    ap (λ (u : List ℕ). punctuate fresh (lex between u)) (append_assoc t (more ts) (125 ∷ r))
-    ∙ h.0.parsed fresh (more ts ++ 125 ∷ r) refl (after_more ts (125 ∷ r) (at_brace r))
-    ∙ ap (λ (us : List Token). tokens.key name ∷ (json_tokens j ++ us)) (more_members ts ms h.1 r)
-    ∙ ap (λ (us : List Token). tokens.key name ∷ us) (sym (append_assoc (json_tokens j) (members_tokens ms) (punctuate after_value (lex between r))))
+    one_more fresh refl t (tokens.key name ∷ json_tokens j) h.0 ts (125 ∷ r) (at_brace r) (members_tokens ms) (punctuate after_value (lex between r)) (more_members ts ms h.1 r)
 all_members [] (member name j ms) h r = absurd h
 all_members (t ∷ ts) no_members h r = absurd h
 
