@@ -11,4 +11,4 @@ mod KeptValues
 mod Named
 mod KeptFields
 mod OneMessage
-mod KeptLines
+pub mod KeptLines

@@ -1,0 +1,16 @@
+//! Laws of encoded lines. A function's contract is its law; it does nothing when it runs.
+#![tactic(auto)]
+
+ghost use Rattle.cli_encode_laws.specs.Inverse.{IsEachWritten, IsInverse};
+
+/// Each line that `json` writes of a valid message, no longer than a line may be, is written as that
+/// message, and nothing else becomes of it, if no other byte order is wanted.
+pub fn lines_written()
+    ensures { IsEachWritten }
+{}
+
+/// Lines that `json` writes of valid messages, none longer than a line may be, are encoded to the
+/// bytes of these messages, and none is refused, if no other byte order is wanted.
+pub fn messages_back()
+    ensures { IsInverse }
+{}
