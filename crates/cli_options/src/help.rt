@@ -9,10 +9,10 @@ macro_rules! more {
             "
 
   With --keep-going a message that is refused gives a line of its own,
-  `refused at P: NAME in message N at O`, and the next one is read, if the order
-  byte and the lengths in its first 16 bytes state its size. If any was refused,
-  the last such line is `N messages B bytes, K passed over C bytes`, and then
-  `, the last one cut off` if the input ends within that one.",
+  `refused at P: NAME in message N at O`, and the next one is read: in a capture
+  that of the next packet, raw if its first 16 bytes state its size. If any was
+  refused, the last such line is `N messages B bytes, K passed over C bytes`,
+  and then `, the last one cut off` if the input ends within that one.",
             $example
         )
     };

@@ -157,7 +157,7 @@ module _ {R : Type 0} (left : R → Option (List ℕ)) (calls failures : R → �
         parts = wholes a.items;
         rest = a.rest;
         covers = covers a.items a.rest a.read;
-        cut = false;
+        cut = None;
         tally_is = wholes_tally [] a.items counted.count counted.size _ refl (omega (arith, a.count_is)) (omega (arith, size));
         kept = a.rest;
         tells = record {
@@ -166,7 +166,7 @@ module _ {R : Type 0} (left : R → Option (List ℕ)) (calls failures : R → �
           fault_is = a.fault_is;
           told = subst (λ n. IsToldLast (packets (source_of old)) settings (length (wholes a.items) + 1) n a.rest counted.fault (fault_line counted.size counted.fault packet_last)) (size ∙ sym (sizes-wholes a.items)) told;
         };
-        last = is_last settings.keeps_going settings.limits a.rest a.outcome (IsAtEnd (left (source_of new))) plain_told.1
+        last = is_last (packets (source_of old)) settings.keeps_going settings.limits (sizes_of (wholes a.items)) a.rest a.outcome (IsAtEnd (left (source_of new))) plain_told.1
             (λ none. a.read.at_end (λ e. absurd (both_ways _ e is.ended)) (a.ended none));
         read_failed = a.failed;
       }

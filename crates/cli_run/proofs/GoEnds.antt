@@ -1,22 +1,29 @@
 -- How a turn of a run that passes over refused messages ends: the input ends, or a message is
--- refused; and how the run ends then, by its last line.
-use Rattle.std.proofs.Common.{◌≡◌, ℕ, ◌+◌, ◌-◌, ◌<◌, ◌≤◌, List, [], ◌∷◌, ◌++◌, Bool, true, false, Option, None, Some, Result, Ok, Err, length, refl, sym, ap, ◌∙◌, subst, arith, inl, inr, append_assoc, append-nil, length-append}
+-- refused, and passed over or not.
+use Rattle.std.proofs.Common.{◌≡◌, ℕ, ◌+◌, ◌-◌, ◌<◌, ◌≤◌, List, [], ◌∷◌, ◌++◌, Bool, true, false, ◌⊎◌, ◌&&◌, not, is_some, Option, None, Some, Result, Ok, Err, drop, length, refl, sym, ap, ◌∙◌, subst, arith, inl, inr, append_assoc, append-nil, length-append}
 use Rattle.std.proofs.Math.Path.{transport}
+use Rattle.std.proofs.Math.Seq.{drop-append_seam}
+use Rattle.std.specs.Option.{is_none}
 use Rattle.std.specs.Io.KnownBytes.{IsAtEnd}
 use Rattle.std.proofs.KnownBytes.{Consumes-trans}
 use Rattle.std.proofs.lemmas.Bool.{false≢true}
 use Rattle.dbus_value_model.specs.declared.fault.Fault.{Fault}
 use Rattle.dbus_value_model.specs.declared.limits.Limits.{Limits}
-use Rattle.dbus_header.specs.MessageOutcomes.{IsRefused, IsPartial}
+use Rattle.dbus_header.specs.MessageOutcomes.{IsRefused}
 use Rattle.dbus_header.proofs.OutcomeLaws.{nothing_partial}
 use Rattle.dbus_device.specs.Device.{one_more}
+use Rattle.dbus_device.specs.Packets.{Packets}
+use Rattle.dbus_device.specs.declared.packet.Packet.{Packet}
 use Rattle.dbus_stream.specs.Cut.{CutOutcome, Ended, Refused, IsOutcome}
 use Rattle.dbus_stream.specs.CutEnds.{fault_at_end}
-use Rattle.dbus_stream.specs.Gathering.{gathering}
+use Rattle.dbus_stream.specs.Gathering.{gathering, under_way}
 use Rattle.dbus_stream.specs.Lasting.{is_truncated}
 use Rattle.dbus_stream.specs.Next.{DeviceCounts}
-use Rattle.dbus_stream.specs.Passing.{IsRefusal, PassAnswers, Passing, ReadsOn, WasDropped}
-use Rattle.dbus_stream.specs.RawReading.{done_of, is_ended, kept, limits_of, most_reads_of, source_of, stopped_of}
+use Rattle.dbus_stream.specs.Packed.{number_of as packed_number}
+use Rattle.dbus_stream.specs.Passing.{IsRefusal, PassAnswers, Passing}
+use Rattle.dbus_stream.specs.PassingPackets.{DropsAll, IsBeforeOther, PacketAnswers, PassesPacket, ReadsOnward}
+use Rattle.dbus_stream.specs.RawReading.{done_of, is_ended, kept, limits_of, most_reads_of, read_of, reads_of, source_of, stopped_of}
+use Rattle.dbus_stream.specs.Reading.{part_of}
 use Rattle.dbus_stream.specs.StatedSizes.{StatesNone, StatesSize, WantsMore}
 use Rattle.dbus_stream.specs.declared.passed.Passed.{Passed}
 use Rattle.dbus_stream.specs.declared.passed.Passed.TheVariants.{Over, CutOff, Not}
@@ -24,22 +31,38 @@ use Rattle.dbus_stream.specs.declared.raw_reader.RawReader.{RawReader}
 use Rattle.dbus_stream.specs.declared.read_fault.ReadFault.{ReadFault}
 use Rattle.dbus_stream.specs.declared.read_fault.ReadFault.TheVariants as read
 use Rattle.dbus_stream.proofs.FaultPackets.{refused_later}
-use Rattle.dbus_stream.proofs.SizeSteps.{size_some}
-use Rattle.cli_run.specs.Going.{Closes, IsAllOf, IsEnough, PassesAll, cause_of, AreTold, HasLastLine, IsTold, IsToldRefused, closing_line, cut_tally, passed_count, passed_sizes, status_at, tally_of, tally_with}
-use Rattle.cli_run.specs.Inputs.{BeginWithParts, IsCutOff, IsLast, IsTellable, PassedOver, Placed, sizes_of}
-use Rattle.cli_run.specs.Onward.{HasRead, stop_of}
+use Rattle.cli_run.specs.Going.{IsAllOf, cause_of, AreTold, IsTold, IsToldRefused, cut_tally, passed_count, passed_sizes, tally_with}
+use Rattle.cli_run.specs.Inputs.{AreInPacket, BeginWithParts, GoesPast, HasSize, IsCutOff, IsInOther, IsLast, IsPassedBy, IsTellable, PassedOver, Placed, sizes_of}
+use Rattle.cli_run.specs.Onward.{HasKnownPackets, HasRead, stop_of}
+use Rattle.cli_run.specs.PassingOn.{PassesInPacket, PassesOn, is_by_packet}
 use Rattle.cli_run.specs.Refusals.{IsRefusedIn, number_of}
 use Rattle.cli_run.specs.Visiting.{AddsUp, Tells}
+use Rattle.cli_report.specs.declared.telling.RefusedMessage.{RefusedMessage}
 use Rattle.cli_report.specs.declared.ending.Cause.{Cause}
 use Rattle.cli_report.specs.declared.ending.Cause.TheVariants.{Memory, ReadFailed, TooManyReads}
-use Rattle.cli_report.specs.declared.ending.ExitStatus.{ExitStatus}
 use Rattle.cli_run.specs.declared.counted.Counted.{Counted}
 use Rattle.cli_run.specs.declared.tally.Tally.{Tally}
 use Rattle.cli_run.specs.declared.visitor.RunStop.{RunStop}
 use Rattle.cli_run.specs.declared.visitor.RunStop.TheVariants.{Cause as ByCause, Untold}
-use Rattle.cli_run.proofs.PartLaws.{parts_more, placed_past, sizes-both, passed-both, passed_sizes-both}
+use Rattle.cli_run.proofs.PartLaws.{parts_more, placed_past, size_kept, sizes-both, passed-both, passed_sizes-both}
 use Rattle.cli_run.proofs.ReadSteps.{read_none, read_on}
-use Rattle.cli_run.proofs.GoSteps.{fresh, Begun, Fills, HasCovered, HasEnded, HasEnough, HasGone, HasReached, refused_is, none_is, covers_read, covers, packets_of, Reads, Took, Within, Through, Stopped, More, stops_plain, all_called}
+use Rattle.cli_run.proofs.GoSteps.{fresh, Begun, Fills, HasCovered, HasEnded, HasGone, HasReached, refused_is, none_is, covers_read, covers, packets_of, Took, Within, Through, Stopped, More, stops_plain, all_called}
+
+-- the number of a packet, as both have it
+same_number : (p : Option Packet) → number_of p ≡ packed_number p
+same_number None = refl
+same_number (Some packet) = refl
+
+-- what has a packet and is not cut off is passed over by it
+untruncated : (p : Option ℕ) (cut : Bool) → is_some p && not cut ≡ true → (is_some p ≡ true) × (cut ≡ false)
+untruncated None cut e = absurd (false≢true e)
+untruncated (Some n) true e = absurd (false≢true e)
+untruncated (Some n) false e = (refl, refl)
+
+none_by : (p : Option ℕ) (cut : Bool) → is_some p && not cut ≡ false → cut ≡ false → p ≡ None
+none_by None cut e f = refl
+none_by (Some n) true e f = absurd (false≢true (sym f))
+none_by (Some n) false e f = absurd (false≢true (sym e))
 
 module _ {R A S : Type 0} {takes : S → S → List Placed → (told : List ℕ) → Type 0} {leaves : S → S → List Placed → (told : List ℕ) → RunStop → Type 0} {settled : S → Type 0} {full : S → Bool} (laws : AddsUp takes leaves settled full)
     {run : Begun R A S} {mid : RawReader R A} {counted : Counted} {tally : Tally} {s1 : S} (h : HasReached run takes full mid counted tally s1) where
@@ -60,11 +83,11 @@ module _ {R A S : Type 0} {takes : S → S → List Placed → (told : List ℕ)
           parts = g.parts;
           rest = kept mid;
           covers = covers run mid g.parts (kept mid) g.told g.covered;
-          cut = false;
+          cut = None;
           tally_is = g.tally_is;
           kept = kept mid;
           tells = record { outcome = h.outcome; outcome_is = h.outcome_is; fault_is = no_fault; told = refl };
-          last = subst (λ o. IsLast false run.settings.keeps_going run.settings.limits (kept mid) (kept mid) o (IsAtEnd (run.left (source_of mid)))) (sym ended) (refl, at_end);
+          last = subst (λ o. IsLast (packets_of run) None run.settings.keeps_going run.settings.limits (sizes_of g.parts) (kept mid) (kept mid) o (IsAtEnd (run.left (source_of mid)))) (sym ended) (refl, at_end);
           read_failed = g.failed;
         };
         messages = items;
@@ -81,13 +104,17 @@ module _ {R A S : Type 0} {takes : S → S → List Placed → (told : List ℕ)
     abbrev Due : List ℕ → Type 0
     Due text = IsTold run.settings (record { number = counted.count + 1; offset = counted.size; fault = fault; packet = packet }) (kept mid) text
 
+    -- its packet, by its place among the parts
+    refused_at : IsRefusedIn (packets_of run) run.settings.limits (sizes_of h.gone.parts) (kept mid) packet
+    refused_at = transport (λ i. IsRefusedIn (packets_of run) run.settings.limits (h.gone.done i) (kept mid) (sym packet_is i)) (h.refused_in fault faulty)
+
     -- by its place among the parts
     told_at : (n : ℕ) (text : List ℕ) → n ≡ length h.gone.parts + 1 → Due text → IsToldRefused (packets_of run) run.settings n (sizes_of h.gone.parts) (kept mid) fault text
     told_at n text e told =
         let number : counted.count + 1 ≡ n = omega (arith, h.count_is, ap (λ (t : Tally). t.count) h.gone.tally_is, e) in
         let offset : counted.size ≡ sizes_of h.gone.parts = sym h.size_is ∙ ap (λ (t : Tally). t.size) h.gone.tally_is in (
           packet,
-          transport (λ i. IsRefusedIn (packets_of run) run.settings.limits (h.gone.done i) (kept mid) (sym packet_is i)) (h.refused_in fault faulty),
+          refused_at,
           transport (λ i. IsTold run.settings (record { number = number i; offset = offset i; fault = fault; packet = packet }) (kept mid) text) told,
         )
 
@@ -98,8 +125,9 @@ module _ {R A S : Type 0} {takes : S → S → List Placed → (told : List ℕ)
     stopped_last = h.stopped ∙ ap stop_of faulty
 
     -- all was read up to the rest
-    abbrev through : (new : RawReader R A) (cut : Bool) (ended : Tally) (text rest : List ℕ) (outcome : CutOutcome) → ended ≡ tally_with cut h.gone.parts rest → Due text → IsOutcome run.settings.limits (kept mid) outcome
-        → Some fault ≡ fault_at_end (kept mid) outcome → HasCovered run new h.gone.parts rest h.gone.told → IsLast cut run.settings.keeps_going run.settings.limits (kept mid) rest outcome (IsAtEnd (run.left (source_of new)))
+    abbrev through : (new : RawReader R A) (cut : Option (Option ℕ)) (ended : Tally) (text rest : List ℕ) (outcome : CutOutcome) → ended ≡ tally_with cut h.gone.parts rest → Due text → IsOutcome run.settings.limits (kept mid) outcome
+        → Some fault ≡ fault_at_end (kept mid) outcome → HasCovered run new h.gone.parts rest h.gone.told
+        → IsLast (packets_of run) cut run.settings.keeps_going run.settings.limits (sizes_of h.gone.parts) (kept mid) rest outcome (IsAtEnd (run.left (source_of new)))
         → run.failures (source_of new) ≡ run.failures (source_of mid) → Through run new ended (Some fault) h.gone.told text
     through new cut ended text rest outcome tally_is told outcome_is fault_is covered last same = record {
       parts = h.gone.parts;
@@ -113,23 +141,29 @@ module _ {R A S : Type 0} {takes : S → S → List Placed → (told : List ℕ)
       read_failed = same ∙ h.gone.failed;
     }
 
+    -- it could not be passed over: it is of no packet, and states no size
+    abbrev IsUnsized : Type 0
+    IsUnsized = (other : Fault) → IsRefusal (stopped_of mid) other → StatesNone (limits_of mid) (kept mid) × (packet ≡ None)
+
     -- why nothing follows if nothing was passed over
-    last_is : (outcome : CutOutcome) → Some fault ≡ fault_at_end (kept mid) outcome → (((f : Fault) → outcome ≡ Refused f → ⊥) → IsAtEnd (run.left (source_of mid)))
-        → (run.settings.keeps_going ≡ true → (other : Fault) → IsRefusal (stopped_of mid) other → StatesNone (limits_of mid) (kept mid))
-        → IsLast false run.settings.keeps_going run.settings.limits (kept mid) (kept mid) outcome (IsAtEnd (run.left (source_of mid)))
+    last_is : (outcome : CutOutcome) → Some fault ≡ fault_at_end (kept mid) outcome → (((f : Fault) → outcome ≡ Refused f → ⊥) → IsAtEnd (run.left (source_of mid))) → (run.settings.keeps_going ≡ true → IsUnsized)
+        → IsLast (packets_of run) None run.settings.keeps_going run.settings.limits (sizes_of h.gone.parts) (kept mid) (kept mid) outcome (IsAtEnd (run.left (source_of mid)))
     last_is (Refused other) e at_end none =
         let same : fault ≡ other = cc in (
           ([], sym (append-nil (kept mid))),
           λ _. refl,
-          λ goes whole. subst (λ (l : Limits). StatesNone l (kept mid)) h.gone.covered.limits_are (none goes other (stopped_last ∙ ap (λ (f : Fault). Some (read.Format f)) same, whole)),
+          λ goes whole.
+              let unsized = none goes other (stopped_last ∙ ap (λ (f : Fault). Some (read.Format f)) same, whole) in (
+                subst (λ (l : Limits). StatesNone l (kept mid)) h.gone.covered.limits_are unsized.0,
+                subst (λ (p : Option ℕ). IsRefusedIn (packets_of run) run.settings.limits (sizes_of h.gone.parts) (kept mid) p) unsized.1 refused_at,
+              ),
         )
     last_is outcome e at_end none = (refl, at_end (λ f is. absurd cc))
 
     -- nothing was passed over, if the run is not to go on, or could not
-    abbrev through_there : (text : List ℕ) → Due text → (run.settings.keeps_going ≡ true → (other : Fault) → IsRefusal (stopped_of mid) other → StatesNone (limits_of mid) (kept mid))
-        → Through run mid tally (Some fault) h.gone.told text
+    abbrev through_there : (text : List ℕ) → Due text → (run.settings.keeps_going ≡ true → IsUnsized) → Through run mid tally (Some fault) h.gone.told text
     through_there text told none =
-        through mid false tally text (kept mid) h.outcome h.gone.tally_is told h.outcome_is fault_last h.gone.covered (last_is h.outcome fault_last (λ not. h.gone.covered.at_end (h.ended not)) none) refl
+        through mid None tally text (kept mid) h.outcome h.gone.tally_is told h.outcome_is fault_last h.gone.covered (last_is h.outcome fault_last (λ not. h.gone.covered.at_end (h.ended not)) none) refl
 
     -- the fault shows
     tellable : (outcome : CutOutcome) → Some fault ≡ fault_at_end (kept mid) outcome → (((f : Fault) → outcome ≡ Refused f → ⊥) → IsAtEnd (run.left (source_of mid)))
@@ -174,31 +208,178 @@ module _ {R A S : Type 0} {takes : S → S → List Placed → (told : List ℕ)
     some_kept : IsRefused run.settings.limits (kept mid) fault → 0 < length (kept mid)
     some_kept refused = refused_later run.settings.limits 0 (kept mid) fault (nothing_partial run.settings.limits) refused
 
+    -- the message that is refused, and how it is passed over
+    abbrev refusal : RefusedMessage
+    refusal = record { number = counted.count + 1; offset = counted.size; fault = fault; packet = packet }
+
+    abbrev limits_are : limits_of mid ≡ run.settings.limits
+    limits_are = h.gone.covered.limits_are
+
     module _ (new : RawReader R A) where
-      abbrev Reading : Type 0
-      Reading = ReadsOn [] run.left run.calls mid new
+      -- what is known of what it dropped
+      abbrev IsInput : Result Passed ReadFault → Type 0
+      IsInput res = is_by_packet refusal ≡ true → PassesInPacket run.packets run.packet mid new res
 
-      -- no byte of it was dropped before
-      answered : (res : Result Passed ReadFault) → (other : Fault) → IsRefusal (stopped_of mid) other
-          → ((gone : List ℕ) → WasDropped mid gone → (r : ReadsOn gone run.left run.calls mid new) × PassAnswers gone (gone ++ (kept mid ++ r.bytes)) mid new res)
-          → IsRefused run.settings.limits (kept mid) fault × ((r : Reading) × PassAnswers [] (kept mid ++ r.bytes) mid new res)
-      answered res other refusal all = let refused = met other refusal in (refused, all [] (fresh mid (some_kept refused)))
+      abbrev PassedBy : Result Passed ReadFault → Type 0
+      PassedBy res = PassesOn run.left run.calls run.packet mid new (is_by_packet refusal) res
 
-      answer : (res : Result Passed ReadFault) → (res ≡ Ok Not → ⊥) → Passing run.left run.calls mid new res
-          → IsRefused run.settings.limits (kept mid) fault × ((r : Reading) × PassAnswers [] (kept mid ++ r.bytes) mid new res)
-      answer res some passing = elim passing [ inl p ↦ answered res p.0 p.1 p.2 | inr none ↦ absurd (some none.1) ]
+      -- what came of it
+      abbrev CameTo : (rest : List ℕ) (by : Option ℕ) → Result Passed ReadFault → Type 0
+      CameTo rest by (Ok Over) = (size : ℕ) × HasSize run.settings.limits (kept mid) rest by size × IsPassedBy (packets_of run) run.settings.limits (sizes_of h.gone.parts) (kept mid) by size
+          × (kept new ≡ drop size rest) × (done_of new ≡ done_of mid + size) × (stopped_of new ≡ None)
+      CameTo rest by (Ok CutOff) = GoesPast (packets_of run) run.settings.limits (sizes_of h.gone.parts) (kept mid) rest by × (is_ended new ≡ true) × (done_of new ≡ done_of mid + length rest)
+      CameTo rest by (Ok Not) = StatesNone run.settings.limits rest × (by ≡ None)
+      CameTo rest by (Err read.Device) = GoesPast (packets_of run) run.settings.limits (sizes_of h.gone.parts) (kept mid) rest by
+      CameTo rest by (Err read.TooManyReads) = GoesPast (packets_of run) run.settings.limits (sizes_of h.gone.parts) (kept mid) rest by × (reads_of new ≡ most_reads_of new)
+      CameTo rest by res = ⊥
+
+      abbrev HasReadTo : List ℕ → Type 0
+      HasReadTo rest = HasRead gathering run.left run.calls run.settings.limits (kept mid) mid.reader new.reader [] rest
+
+      record HasOnward (res : Result Passed ReadFault) : Type 0 where
+        refused : IsRefused run.settings.limits (kept mid) fault
+        rest : List ℕ
+        reads : HasReadTo rest
+        came_to : CameTo rest packet res
+
+      -- by the size that it states: no byte of it was dropped before
+      module _ (plain : is_by_packet refusal ≡ false) where
+        no_packet : (other : Fault) → IsRefusal (stopped_of mid) other → packet ≡ None
+        no_packet other refused =
+            let same : other ≡ fault = (let both = sym refused.0 ∙ stopped_last in cc) in
+            none_by packet (is_truncated fault.reason) plain (subst (λ (f : Fault). is_truncated f.reason ≡ false) same refused.1)
+
+        refused_plain : (other : Fault) → IsRefusal (stopped_of mid) other → IsRefusedIn (packets_of run) run.settings.limits (sizes_of h.gone.parts) (kept mid) None
+        refused_plain other refused = subst (λ (p : Option ℕ). IsRefusedIn (packets_of run) run.settings.limits (sizes_of h.gone.parts) (kept mid) p) (no_packet other refused) refused_at
+
+        came_by_size : (rest : List ℕ) (other : Fault) → IsRefusal (stopped_of mid) other → (res : Result Passed ReadFault) → PassAnswers [] rest mid new res → CameTo rest None res
+        came_by_size rest other refused (Ok Over) p =
+            let done = p.done in (
+              p.size,
+              (subst (λ (l : Limits). StatesSize l rest p.size) limits_are p.states, p.there),
+              refused_plain other refused,
+              p.kept,
+              omega (arith, done),
+              p.stopped,
+            )
+        came_by_size rest other refused (Ok CutOff) p = let done = p.1.done in (subst (λ (l : Limits). WantsMore l rest) limits_are p.0, p.2, omega (arith, done))
+        came_by_size rest other refused (Ok Not) p = (subst (λ (l : Limits). StatesNone l rest) limits_are p.0, refl)
+        came_by_size rest other refused (Err read.Device) p = subst (λ (l : Limits). WantsMore l rest) limits_are p.0
+        came_by_size rest other refused (Err read.TooManyReads) p = (subst (λ (l : Limits). WantsMore l rest) limits_are p.0, p.2)
+        came_by_size rest other refused res p = absurd p
+
+        by_size : (res : Result Passed ReadFault) → Passing run.left run.calls mid new res → HasOnward res ⊎ ((res ≡ Ok Not) × (new ≡ mid) × IsUnsized)
+        by_size res passing = elim passing [
+          | inl p ↦ (
+              let refused = met p.0 p.1 in
+              let all = p.2 [] (fresh mid (some_kept refused)) in
+              let rest = kept mid ++ all.0.bytes in
+              inl (record {
+                refused = refused;
+                rest = rest;
+                reads = read_on gathering run.left run.calls run.settings.limits (kept mid) (λ before. WantsMore (limits_of mid) (kept mid ++ before)) mid.reader mid.reader new.reader [] (kept mid)
+                    (read_none gathering run.left run.calls run.settings.limits (kept mid) mid.reader limits_are) all.0;
+                came_to = subst (λ (by : Option ℕ). CameTo rest by res) (sym (no_packet p.0 p.1)) (came_by_size rest p.0 p.1 res all.1);
+              })
+              )
+          | inr none ↦ inr (
+            none.1,
+            none.2,
+            λ other refused. (none.0 other [] refused (fresh mid (some_kept (met other refused))), no_packet other refused),
+          )
+        ]
+
+      -- in a capture up to the next packet
+      module _ (known : HasKnownPackets run.packets run.packet mid (packets_of run)) (packed : is_by_packet refusal ≡ true) where
+        in_known : (all : Option Packets) → HasKnownPackets run.packets run.packet mid all → (number : ℕ) → packed_number (run.packet (source_of mid)) ≡ Some number → (res : Result Passed ReadFault) → PassesInPacket run.packets run.packet mid new res
+            → AreInPacket all number (read_of mid) (done_of new) × (res ≡ Ok Over → IsInOther all number (done_of new))
+        in_known None has number is res p = (tt, λ _. tt)
+        in_known (Some all) has number is res p = let both = p all number has is in (both.0, λ over. subst (λ (r : Result Passed ReadFault). IsBeforeOther all number (done_of new) r) over both.1)
+
+        read_there : read_of mid ≡ sizes_of h.gone.parts + length (kept mid)
+        read_there =
+            let all = length-append (under_way mid.reader.taker.whole mid.reader.taker.held) (part_of mid.reader) in
+            omega (arith, all, mid.held_counted, h.gone.done)
+
+        module _ (number : ℕ) (is : packed_number (run.packet (source_of mid)) ≡ Some number) (r : ReadsOnward run.left run.calls run.packet mid new) where
+          abbrev all_there : List ℕ
+          all_there = kept mid ++ r.bytes
+
+          to_end : DropsAll run.left run.calls run.packet mid new r → (res : Result Passed ReadFault) → PassesInPacket run.packets run.packet mid new res
+              → GoesPast (packets_of run) run.settings.limits (sizes_of h.gone.parts) (kept mid) all_there (Some number) × (done_of new ≡ done_of mid + length all_there)
+          to_end d res p =
+              let done = d.done in
+              let long : done_of new ≡ done_of mid + length all_there = omega (arith, done, length-append (kept mid) r.bytes) in
+              let place : done_of new ≡ sizes_of h.gone.parts + length all_there = omega (arith, long, h.gone.done) in
+              (transport (λ i. AreInPacket (packets_of run) number (read_there i) (place i)) (in_known (packets_of run) known number is res p).0, long)
+
+          came_by_packet : (res : Result Passed ReadFault) → PassesInPacket run.packets run.packet mid new res → packet ≡ Some number → PacketAnswers run.left run.calls run.packet mid new number r res → CameTo all_there (Some number) res
+          came_by_packet (Ok Over) p by g =
+              let size = length (kept mid ++ r.before) in
+              let done = g.done in
+              let some = g.some in
+              let joined = ap length r.joined in
+              let both = length-append (kept mid) r.before in
+              let all = length-append (kept mid) r.bytes in
+              let two = length-append r.before r.last in
+              let long : done_of new ≡ done_of mid + size = omega (arith, done, both) in
+              let place : done_of new ≡ sizes_of h.gone.parts + size = omega (arith, long, h.gone.done) in
+              let inside = in_known (packets_of run) known number is (Ok Over) p in
+              let rest : all_there ≡ (kept mid ++ r.before) ++ r.last = ap (λ (l : List ℕ). kept mid ++ l) r.joined ∙ sym (append_assoc (kept mid) r.before r.last) in (
+                size,
+                (omega (arith, both), omega (arith, both, all, two, joined, some)),
+                (
+                  subst (λ (p : Option ℕ). IsRefusedIn (packets_of run) run.settings.limits (sizes_of h.gone.parts) (kept mid) p) by refused_at,
+                  transport (λ i. AreInPacket (packets_of run) number (read_there i) (place i)) inside.0,
+                  subst (λ (n : ℕ). IsInOther (packets_of run) number n) place (inside.1 refl),
+                ),
+                g.kept ∙ (sym (drop-append_seam (kept mid ++ r.before) r.last) ∙ ap (λ (l : List ℕ). drop size l) (sym rest)),
+                long,
+                g.stopped,
+              )
+          came_by_packet (Ok CutOff) p by d = let past = to_end d.0 (Ok CutOff) p in (past.0, d.1, past.1)
+          came_by_packet (Err read.Device) p by d = (to_end d (Err read.Device) p).0
+          came_by_packet (Err read.TooManyReads) p by d = ((to_end d.0 (Err read.TooManyReads) p).0, d.1)
+          came_by_packet res p by d = absurd d
+
+        by_packet : (res : Result Passed ReadFault) → PassesPacket run.left run.calls run.packet mid new res → PassesInPacket run.packets run.packet mid new res → HasOnward res
+        by_packet res passing inside = elim passing [
+          | inl p ↦ (
+              let by : packet ≡ Some p.0 = packet_is ∙ (same_number (run.packet (source_of mid)) ∙ p.1) in
+              let r = p.2 in
+              record {
+                refused = refused_is run.settings.limits (kept mid) fault h.outcome h.outcome_is fault_last (untruncated packet (is_truncated fault.reason) packed).1;
+                rest = kept mid ++ r.bytes;
+                reads = read_on gathering run.left run.calls run.settings.limits (kept mid) (λ before. Unit {0}) mid.reader mid.reader new.reader [] (kept mid)
+                    (read_none gathering run.left run.calls run.settings.limits (kept mid) mid.reader limits_are) r;
+                came_to = subst (λ (by : Option ℕ). CameTo (kept mid ++ r.bytes) by res) (sym by) (came_by_packet p.0 p.1 r res inside by p.3);
+              }
+              )
+          | inr none ↦ absurd (let is : packet ≡ None = packet_is ∙ ap number_of none.0 in let some = (untruncated packet (is_truncated fault.reason) packed).0 in false≢true (ap is_some (sym is) ∙ some))
+        ]
+
+      onward : HasKnownPackets run.packets run.packet mid (packets_of run) → (res : Result Passed ReadFault) → PassedBy res → IsInput res → HasOnward res ⊎ ((res ≡ Ok Not) × (new ≡ mid) × IsUnsized)
+      onward known res passing input = by_case (is_by_packet refusal) refl passing
+        where
+          by_case : (b : Bool) → is_by_packet refusal ≡ b → PassesOn run.left run.calls run.packet mid new b res → HasOnward res ⊎ ((res ≡ Ok Not) × (new ≡ mid) × IsUnsized)
+          by_case true is passed = inl (by_packet known is res passed (input is))
+          by_case false is passed = by_size is res passed
+
+      -- it was passed over, or tried to
+      some_onward : HasKnownPackets run.packets run.packet mid (packets_of run) → (res : Result Passed ReadFault) → (res ≡ Ok Not → ⊥) → PassedBy res → IsInput res → HasOnward res
+      some_onward known res some passing input = elim (onward known res passing input) [ inl all ↦ all | inr none ↦ absurd (some none.0) ]
 
       -- a message that is passed over has bytes
-      pub grows : Passing run.left run.calls mid new (Ok Over) → (stopped_of new ≡ None) × (done_of mid < done_of new)
-      grows passing =
-          let p = (answer (Ok Over) (λ e. cc) passing).1 in
-          let done = p.1.done in
-          let some = size_some (limits_of mid) (kept mid ++ p.0.bytes) p.1.size p.1.states in
-          (p.1.stopped, omega (arith, done, some))
+      pub grows : HasKnownPackets run.packets run.packet mid (packets_of run) → PassedBy (Ok Over) → IsInput (Ok Over) → (stopped_of new ≡ None) × (done_of mid < done_of new)
+      grows known passing input =
+          let o = some_onward known (Ok Over) (λ e. cc) passing input in
+          let c = o.came_to in
+          let some = size_kept run.settings.limits o.rest (kept mid) packet c.0 (some_kept o.refused) c.1 in
+          (c.5, omega (arith, c.4, some))
 
       -- and so has what is there of one
-      pub not_less : Passing run.left run.calls mid new (Ok CutOff) → done_of mid ≤ done_of new
-      not_less passing = let done = (answer (Ok CutOff) (λ e. cc) passing).1.1.1.done in omega (arith, done)
+      pub not_less : HasKnownPackets run.packets run.packet mid (packets_of run) → PassedBy (Ok CutOff) → IsInput (Ok CutOff) → done_of mid ≤ done_of new
+      not_less known passing input = let done = (some_onward known (Ok CutOff) (λ e. cc) passing input).came_to.2 in omega (arith, done)
 
     module _ (text : List ℕ) (told : Due text) {s2 : S} (took : takes s1 s2 [] text) where
       came_told : takes run.s0 s2 items (h.gone.told ++ text)
@@ -220,49 +401,41 @@ module _ {R A S : Type 0} {takes : S → S → List Placed → (told : List ℕ)
         came = came_told;
       }
 
-      module _ (new : RawReader R A) where
-        abbrev limits_are : limits_of mid ≡ run.settings.limits
-        limits_are = h.gone.covered.limits_are
-
+      module _ (new : RawReader R A) (known : HasKnownPackets run.packets run.packet mid (packets_of run)) where
         -- what was read to pass over it
-        abbrev passing_read : (r : Reading new) → HasRead gathering run.left run.calls run.settings.limits (kept mid) mid.reader new.reader [] (kept mid ++ r.bytes)
-        passing_read r =
-            read_on gathering run.left run.calls run.settings.limits (kept mid) (λ before. WantsMore (limits_of mid) (kept mid ++ before)) mid.reader mid.reader new.reader [] (kept mid)
-            (read_none gathering run.left run.calls run.settings.limits (kept mid) mid.reader limits_are) r
-
-        short_covered : (r : Reading new) → HasCovered run new h.gone.parts (kept mid ++ r.bytes) h.gone.told
-        short_covered r =
+        short_covered : (res : Result Passed ReadFault) (o : HasOnward new res) → HasCovered run new h.gone.parts o.rest h.gone.told
+        short_covered res o =
             let c = h.gone.covered in
-            let p = passing_read r in
+            let p = o.reads in
             record {
-              bytes = c.bytes ++ r.bytes;
-              consumed = Consumes-trans _ _ _ _ _ c.consumed r.consumed;
-              called = omega (arith, c.called, r.called, r.reads);
-              most_reads = r.most_reads ∙ c.most_reads;
-              limits_are = r.limits ∙ c.limits_are;
+              bytes = c.bytes ++ p.bytes;
+              consumed = Consumes-trans _ _ _ _ _ c.consumed p.consumed;
+              called = omega (arith, c.called, p.called, p.reads);
+              most_reads = p.most_reads ∙ c.most_reads;
+              limits_are = p.limits_are;
               at_end = p.at_end c.at_end;
-              begin = parts_more run.settings.limits c.bytes h.gone.parts (kept mid) r.bytes c.begin;
+              begin = subst (λ (l : List ℕ). BeginWithParts run.settings.limits (c.bytes ++ p.bytes) h.gone.parts l) p.messages (parts_more run.settings.limits c.bytes h.gone.parts (kept mid) p.bytes c.begin);
               tells = c.tells;
             }
 
-        cut_off : (bytes : List ℕ) → WantsMore (limits_of mid) (kept mid ++ bytes) → IsCutOff run.settings.limits (kept mid) (kept mid ++ bytes)
-        cut_off bytes wants = record { front = (bytes, refl); wants = subst (λ (l : Limits). WantsMore l (kept mid ++ bytes)) limits_are wants }
+        cut_off : (res : Result Passed ReadFault) (o : HasOnward new res) → GoesPast (packets_of run) run.settings.limits (sizes_of h.gone.parts) (kept mid) o.rest packet
+            → IsCutOff (packets_of run) run.settings.limits (sizes_of h.gone.parts) (kept mid) o.rest packet
+        cut_off res o past = record { front = (o.reads.bytes, sym o.reads.messages); refused_in = refused_at; past = past }
 
-        -- the input ends within it
-        pub ends_short : (ended_by : Tally) (end : ℕ) → end ≡ done_of new → ended_by ≡ cut_tally tally (end - tally.size) → (goes : run.settings.keeps_going ≡ true)
-            → Passing run.left run.calls mid new (Ok CutOff) → run.failures (source_of new) ≡ run.failures (source_of mid) → HasEnded run takes full new ended_by (Some fault) s2
-        ends_short ended_by end there cut goes passing same =
-            let a = answer new (Ok CutOff) (λ e. cc) passing in
-            let r = a.1.0 in
-            let covered = short_covered r in
+        -- the input ends within it, or with it
+        pub ends_short : (ended_by : Tally) (end : ℕ) (is_cut : Bool) → is_cut ≡ is_none packet → end ≡ done_of new → ended_by ≡ cut_tally tally (end - tally.size) is_cut → (goes : run.settings.keeps_going ≡ true)
+            → PassedBy new (Ok CutOff) → IsInput new (Ok CutOff) → run.failures (source_of new) ≡ run.failures (source_of mid) → HasEnded run takes full new ended_by (Some fault) s2
+        ends_short ended_by end is_cut by there cut goes passing input same =
+            let o = some_onward new known (Ok CutOff) (λ e. cc) passing input in
+            let c = o.came_to in
+            let covered = short_covered (Ok CutOff) o in
             let size = ap (λ (t : Tally). t.size) h.gone.tally_is in
-            let done = a.1.1.1.done in
-            let count : end - tally.size ≡ length (kept mid ++ r.bytes) = omega (arith, there, done, h.gone.done, size) in
+            let count : end - tally.size ≡ length o.rest = omega (arith, there, c.2, h.gone.done, size) in
             record {
               told = h.gone.told;
               text = text;
-              through = through new true ended_by text (kept mid ++ r.bytes) (Refused fault) (cut ∙ (λ i. cut_tally (h.gone.tally_is i) (count i))) told a.0 refl covered
-                  (cut_off r.bytes a.1.1.0, covered.at_end a.1.1.2, goes) same;
+              through = through new (Some packet) ended_by text o.rest (Refused fault) (cut ∙ (λ i. cut_tally (h.gone.tally_is i) (count i) (by i))) told o.refused refl covered
+                  (cut_off (Ok CutOff) o c.0, covered.at_end c.1, goes) same;
               messages = items;
               placed = h.gone.placed;
               wanted = h.gone.wanted;
@@ -271,13 +444,15 @@ module _ {R A S : Type 0} {takes : S → S → List Placed → (told : List ℕ)
             }
 
         -- it states no size
-        stays_after : (goes : run.settings.keeps_going ≡ true) (r : Reading new) → IsRefused run.settings.limits (kept mid) fault → StatesNone (limits_of mid) (kept mid ++ r.bytes)
-            → run.failures (source_of new) ≡ run.failures (source_of mid) → HasEnded run takes full new tally (Some fault) s2
-        stays_after goes r refused none same = record {
+        stays_after : (goes : run.settings.keeps_going ≡ true) → HasOnward new (Ok Not) → run.failures (source_of new) ≡ run.failures (source_of mid) → HasEnded run takes full new tally (Some fault) s2
+        stays_after goes o same = record {
           told = h.gone.told;
           text = text;
-          through = through new false tally text (kept mid ++ r.bytes) (Refused fault) h.gone.tally_is told refused refl (short_covered r)
-              ((r.bytes, refl), (λ halt. absurd (false≢true (sym halt ∙ goes))), λ _ whole. subst (λ (l : Limits). StatesNone l (kept mid ++ r.bytes)) limits_are none) same;
+          through = through new None tally text o.rest (Refused fault) h.gone.tally_is told o.refused refl (short_covered (Ok Not) o) (
+            (o.reads.bytes, sym o.reads.messages),
+            (λ halt. absurd (false≢true (sym halt ∙ goes))),
+            λ _ whole. (o.came_to.0, subst (λ (p : Option ℕ). IsRefusedIn (packets_of run) run.settings.limits (sizes_of h.gone.parts) (kept mid) p) o.came_to.1 refused_at),
+          ) same;
           messages = items;
           placed = h.gone.placed;
           wanted = h.gone.wanted;
@@ -285,13 +460,13 @@ module _ {R A S : Type 0} {takes : S → S → List Placed → (told : List ℕ)
           came = came_told;
         }
 
-        pub stays : run.settings.keeps_going ≡ true → Passing run.left run.calls mid new (Ok Not) → run.failures (source_of new) ≡ run.failures (source_of mid) → HasEnded run takes full new tally (Some fault) s2
-        stays goes passing same = elim passing [
-          | inl p ↦ (let a = answered new (Ok Not) p.0 p.1 p.2 in stays_after goes a.1.0 a.0 a.1.1.0 same)
-          | inr none ↦ transport (λ i. HasEnded run takes full (sym none.2 i) tally (Some fault) s2) (record {
+        pub stays : run.settings.keeps_going ≡ true → PassedBy new (Ok Not) → IsInput new (Ok Not) → run.failures (source_of new) ≡ run.failures (source_of mid) → HasEnded run takes full new tally (Some fault) s2
+        stays goes passing input same = elim (onward new known (Ok Not) passing input) [
+          | inl o ↦ stays_after goes o same
+          | inr none ↦ transport (λ i. HasEnded run takes full (sym none.1 i) tally (Some fault) s2) (record {
             told = h.gone.told;
             text = text;
-            through = through_there text told (λ goes other refusal. none.0 other [] refusal (fresh mid (some_kept (met other refusal))));
+            through = through_there text told (λ goes. none.2);
             messages = items;
             placed = h.gone.placed;
             wanted = h.gone.wanted;
@@ -302,17 +477,17 @@ module _ {R A S : Type 0} {takes : S → S → List Placed → (told : List ℕ)
 
         module _ (rests : settled s2) where
           -- it was not passed over, since reading was given up
-          torn : (goes : run.settings.keeps_going ≡ true) (cause : Cause) (r : Reading new) → IsRefused run.settings.limits (kept mid) fault → WantsMore (limits_of mid) (kept mid ++ r.bytes)
-              → (IsAllOf (Took run new) run.settings (most_reads_of run.old) run.is_check h.gone.parts (kept mid ++ r.bytes) text
-              → More run (Fills run takes full) new (ByCause cause) h.gone.parts (kept mid ++ r.bytes) items text)
+          torn : (goes : run.settings.keeps_going ≡ true) (cause : Cause) (res : Result Passed ReadFault) (o : HasOnward new res) → GoesPast (packets_of run) run.settings.limits (sizes_of h.gone.parts) (kept mid) o.rest packet
+              → (IsAllOf (Took run new) run.settings (most_reads_of run.old) run.is_check h.gone.parts o.rest text
+              → More run (Fills run takes full) new (ByCause cause) h.gone.parts o.rest items text)
               → Stopped run new (ByCause cause) → leaves run.s0 s2 items (h.gone.told ++ text) (ByCause cause) → Within run takes leaves full new (ByCause cause) s2
-          torn goes cause r refused wants all caused came = record {
+          torn goes cause res o past all caused came = record {
             parts = h.gone.parts;
-            rest = kept mid ++ r.bytes;
+            rest = o.rest;
             told = h.gone.told;
-            covers = covers run new h.gone.parts (kept mid ++ r.bytes) h.gone.told (short_covered r);
+            covers = covers run new h.gone.parts o.rest h.gone.told (short_covered res o);
             more = text;
-            all = all (inr (kept mid, fault, refused, cut_off r.bytes wants, goes, told_at (length h.gone.parts + 1) text refl told));
+            all = all (inr (kept mid, fault, o.refused, packet, cut_off res o past, goes, told_at (length h.gone.parts + 1) text refl told));
             caused = caused;
             messages = items;
             placed = h.gone.placed;
@@ -321,36 +496,37 @@ module _ {R A S : Type 0} {takes : S → S → List Placed → (told : List ℕ)
             came = came;
           }
 
-          pub breaks : (goes : run.settings.keeps_going ≡ true) (broken : ReadFault) → Passing run.left run.calls mid new (Err broken)
+          pub breaks : (goes : run.settings.keeps_going ≡ true) (broken : ReadFault) → PassedBy new (Err broken) → IsInput new (Err broken)
               → DeviceCounts {T = Passed} (run.failures (source_of mid)) (run.failures (source_of new)) (Err broken) → Within run takes leaves full new (ByCause (cause_of broken)) s2
-          breaks goes read.Device passing counts =
-              let a = answer new (Err read.Device) (λ e. cc) passing in
-              torn goes ReadFailed a.1.0 a.0 a.1.1.0 (λ all. all) (counts.0 ∙ ap one_more h.gone.failed)
+          breaks goes read.Device passing input counts =
+              let o = some_onward new known (Err read.Device) (λ e. cc) passing input in
+              torn goes ReadFailed (Err read.Device) o o.came_to (λ all. all) (counts.0 ∙ ap one_more h.gone.failed)
               (laws.rests run.s0 s2 items (h.gone.told ++ text) came_told rests).1
-          breaks goes read.TooManyReads passing counts =
-              let a = answer new (Err read.TooManyReads) (λ e. cc) passing in
-              torn goes TooManyReads a.1.0 a.0 a.1.1.0 (λ all. all)
-              (counts ∙ h.gone.failed, all_called run new h.gone.parts (kept mid ++ a.1.0.bytes) h.gone.told (short_covered a.1.0) a.1.1.2)
+          breaks goes read.TooManyReads passing input counts =
+              let o = some_onward new known (Err read.TooManyReads) (λ e. cc) passing input in
+              torn goes TooManyReads (Err read.TooManyReads) o o.came_to.0 (λ all. all)
+              (counts ∙ h.gone.failed, all_called run new h.gone.parts o.rest h.gone.told (short_covered (Err read.TooManyReads) o) o.came_to.1)
               (laws.rests run.s0 s2 items (h.gone.told ++ text) came_told rests).2
-          breaks goes broken passing counts = elim passing [ inl p ↦ absurd (answered new (Err broken) p.0 p.1 p.2).1.1 | inr none ↦ absurd (let e = none.1 in cc) ]
+          breaks goes broken passing input counts = absurd (some_onward new known (Err broken) (λ e. cc) passing input).came_to
 
         pub goes_on : (past : Tally) (end : ℕ) → end ≡ done_of new → past ≡ record { count = tally.count + 1; size = end; passed = tally.passed + 1; passed_size = tally.passed_size + (end - tally.size); is_cut = tally.is_cut }
-            → run.settings.keeps_going ≡ true → Passing run.left run.calls mid new (Ok Over) → run.failures (source_of new) ≡ run.failures (source_of mid) → HasGone run takes full new past s2
-        goes_on past end there past_is goes passing same =
-            let a = answer new (Ok Over) (λ e. cc) passing in
-            let r = a.1.0 in
-            let p = a.1.1 in
-            let done = p.done in
+            → run.settings.keeps_going ≡ true → PassedBy new (Ok Over) → IsInput new (Ok Over) → run.failures (source_of new) ≡ run.failures (source_of mid) → HasGone run takes full new past s2
+        goes_on past end there past_is goes passing input same =
+            let o = some_onward new known (Ok Over) (λ e. cc) passing input in
+            let c = o.came_to in
+            let n = c.0 in
+            let done = c.4 in
             let parts = h.gone.parts in
             let is = h.gone.tally_is in
-            let part = PassedOver (kept mid) fault p.size in
-            let read = passing_read r in
-            let states = subst (λ (l : Limits). StatesSize l (kept mid ++ r.bytes) p.size) limits_are p.states in
-            let begin : BeginWithParts run.settings.limits (kept mid ++ read.bytes) (part ∷ []) (kept new) = (((r.bytes, refl), a.0, states, p.there), sym p.kept) in
+            let part = PassedOver (kept mid) fault packet n in
+            let w : kept mid ++ o.reads.bytes ≡ o.rest = o.reads.messages in
+            let begin : BeginWithParts run.settings.limits o.rest (part ∷ []) (kept new) = (((o.reads.bytes, sym w), o.refused, c.1), sym c.3) in
+            let begin_there = subst (λ (l : List ℕ). BeginWithParts run.settings.limits l (part ∷ []) (kept new)) (sym w) begin in
             let number : 1 + length parts ≡ length parts + 1 = omega arith in
             let offset : sizes_of parts ≡ 0 + sizes_of parts = omega arith in
             let told_next = subst (λ (o : ℕ). IsToldRefused (packets_of run) run.settings (1 + length parts) o (kept mid) fault text) offset (told_at (1 + length parts) text number told) in
-            let told_is : AreTold (packets_of run) run.settings (1 + length parts) (0 + sizes_of parts) (part ∷ []) text = (text, [], sym (append-nil text), (goes, told_next), refl) in
+            let passed_next = subst (λ (o : ℕ). IsPassedBy (packets_of run) run.settings.limits o (kept mid) packet n) offset c.2 in
+            let told_is : AreTold (packets_of run) run.settings (1 + length parts) (0 + sizes_of parts) (part ∷ []) text = (text, [], sym (append-nil text), (goes, passed_next, told_next), refl) in
             let count_is : tally.count + 1 ≡ length (parts ++ part ∷ []) = omega (arith, ap (λ (t : Tally). t.count) is, length-append parts (part ∷ [])) in
             let size_is : done_of new ≡ sizes_of (parts ++ part ∷ []) = omega (arith, done, h.gone.done, sizes-both parts (part ∷ [])) in
             let passed_is : tally.passed + 1 ≡ passed_count (parts ++ part ∷ []) = omega (arith, ap (λ (t : Tally). t.passed) is, passed-both parts (part ∷ [])) in
@@ -359,127 +535,13 @@ module _ {R A S : Type 0} {takes : S → S → List Placed → (told : List ℕ)
             record {
               parts = parts ++ part ∷ [];
               told = h.gone.told ++ text;
-              covered = covers_read run mid new parts (part ∷ []) (kept mid) (kept new) h.gone.told text (kept mid ++ r.bytes) [] h.gone.covered read begin told_is;
+              covered = covers_read run mid new parts (part ∷ []) (kept mid) (kept new) h.gone.told text o.rest [] h.gone.covered o.reads begin_there told_is;
               tally_is = past_is ∙ (λ i. record { count = count_is i; size = (there ∙ size_is) i; passed = passed_is i; passed_size = passed_size_is i; is_cut = (is i).is_cut });
               done = size_is;
               failed = same ∙ h.gone.failed;
               messages = items;
-              placed = placed_past (packets_of run) 1 0 parts (kept mid) fault p.size items h.gone.placed;
+              placed = placed_past (packets_of run) 1 0 parts (kept mid) fault packet n items h.gone.placed;
               came = came_told;
               wanted = h.gone.wanted;
               unfilled = λ enough. absurd (false≢true (sym still_open ∙ enough));
             }
-
--- ---- how a run ends after its parts, by its last line
-
-module _ {R A S : Type 0} {takes : S → S → List Placed → (told : List ℕ) → Type 0} {full : S → Bool} {run : Begun R A S} {new : RawReader R A} {tally : Tally} {fault : Option Fault} {s1 : S}
-    (h : HasEnded run takes full new tally fault s1) where
-  abbrev all : List Placed
-  all = h.messages
-
-  abbrev line : List ℕ
-  line = closing_line run.settings.as_json run.is_check run.settings.keeps_going tally tally.passed fault
-
-  module _ {leaves : S → S → List Placed → (told : List ℕ) → RunStop → Type 0} {settled : S → Type 0} (laws : AddsUp takes leaves settled full) (rests : settled s1) (s2 : S) where
-    pub closes : (res : Result ExitStatus RunStop) → Closes takes leaves run.settings.as_json run.is_check run.settings.keeps_going tally fault s1 s2 res
-        → PassesAll (Reads run new) run.settings (most_reads_of run.old) run.is_check takes leaves full run.s0 s2 res
-    closes (Ok end) c =
-        let came = subst (λ (l : List Placed). takes run.s0 s2 l ((h.told ++ h.text) ++ line)) (append-nil all) (laws.joins run.s0 s1 s2 all [] (h.told ++ h.text) line h.came c.0) in
-        inl (record {
-          tally = tally;
-          fault = fault;
-          told = h.told;
-          text = h.text;
-          through = h.through;
-          messages = all;
-          placed = h.placed;
-          wanted = h.wanted;
-          unfilled = (s2, (h.told ++ h.text) ++ line, came, laws.still s1 s2 line c.0 ∙ h.unfilled);
-          came = came;
-          end_is = c.1;
-        })
-    closes (Err (ByCause Memory)) c =
-        let passed = ap (λ (x : Tally). x.passed) h.through.tally_is in
-        record {
-          parts = h.through.parts;
-          rest = h.through.rest;
-          told = h.told;
-          covers = h.through.covers;
-          messages = all;
-          placed = h.placed;
-          wanted = h.wanted;
-          unfilled = λ never. absurd never;
-          more = h.text;
-          all = inr (h.through.kept, fault, h.through.tells, h.through.cut, h.through.last, subst (λ (n : ℕ). HasLastLine run.is_check run.settings.keeps_going n fault) passed c.1);
-          caused = h.through.read_failed;
-          came = subst (λ (s : S). leaves run.s0 s all (h.told ++ h.text) (ByCause Memory)) (sym c.0) (laws.rests run.s0 s1 all (h.told ++ h.text) h.came rests).0;
-        }
-    closes (Err (ByCause cause)) c = absurd c
-    closes (Err Untold) c =
-        let came = subst (λ (l : List Placed). leaves run.s0 s2 l ((h.told ++ h.text) ++ line) Untold) (append-nil all) (laws.leaves_after run.s0 s1 s2 all [] (h.told ++ h.text) line Untold h.came c) in
-        record {
-          parts = h.through.parts;
-          rest = h.through.rest;
-          told = h.told;
-          covers = h.through.covers;
-          messages = all;
-          placed = h.placed;
-          wanted = h.wanted;
-          unfilled = λ never. absurd never;
-          more = h.text ++ line;
-          all = inl (h.through.kept, fault, h.text, h.through.tells, inr (h.through.cut, h.through.last, ap (λ (x : Tally). h.text ++ closing_line run.settings.as_json run.is_check run.settings.keeps_going x x.passed fault) h.through.tally_is));
-          caused = h.through.read_failed;
-          came = subst (λ (l : List ℕ). leaves run.s0 s2 all l Untold) (append_assoc h.told h.text line) came;
-        }
-
--- the same if no more is wanted after them
-module _ {R A S : Type 0} {takes : S → S → List Placed → (told : List ℕ) → Type 0} {full : S → Bool} {run : Begun R A S} {new : RawReader R A} {tally : Tally} {s1 : S}
-    (h : HasEnough run takes full new tally s1) {leaves : S → S → List Placed → (told : List ℕ) → RunStop → Type 0} {settled : S → Type 0} (laws : AddsUp takes leaves settled full) (rests : settled s1) (s2 : S) where
-  abbrev due : List ℕ
-  due = closing_line run.settings.as_json run.is_check run.settings.keeps_going tally tally.passed None
-
-  due_is : due ≡ closing_line run.settings.as_json run.is_check run.settings.keeps_going (tally_of h.parts) (passed_count h.parts) None
-  due_is = ap (λ (x : Tally). closing_line run.settings.as_json run.is_check run.settings.keeps_going x x.passed None) h.tally_is
-
-  -- of the parts
-  enough_after : (s : S) (told : List ℕ) → takes run.s0 s h.messages told → full s ≡ true
-      → IsEnough (Took run new) run.settings (most_reads_of run.old) run.is_check (Fills run takes full) h.parts h.messages due
-  enough_after s told took enough = (h.last, (s, told, took, enough), due_is)
-
-  pub closes_enough : (res : Result ExitStatus RunStop) → Closes takes leaves run.settings.as_json run.is_check run.settings.keeps_going tally None s1 s2 res
-      → PassesAll (Reads run new) run.settings (most_reads_of run.old) run.is_check takes leaves full run.s0 s2 res
-  closes_enough (Ok end) c =
-      let came = subst (λ (l : List Placed). takes run.s0 s2 l (h.told ++ due)) (append-nil h.messages) (laws.joins run.s0 s1 s2 h.messages [] h.told due h.came c.0) in
-      inr (record {
-        parts = h.parts;
-        rest = kept new;
-        told = h.told;
-        line = due;
-        covers = covers run new h.parts (kept new) h.told h.covered;
-        messages = h.messages;
-        placed = h.placed;
-        wanted = h.wanted;
-        enough = enough_after s2 (h.told ++ due) came (laws.still s1 s2 due c.0 ∙ h.enough);
-        reads = h.needed;
-        read_failed = h.failed;
-        came = came;
-        end_is = c.1 ∙ ap (λ (x : Tally). status_at x.passed None) h.tally_is;
-      })
-  closes_enough (Err (ByCause Memory)) c =
-      stops_plain run takes leaves full Memory new h.parts (kept new) h.told s2 h.covered h.messages (inl refl) h.failed h.placed h.wanted (λ never. absurd never)
-      (subst (λ (s : S). leaves run.s0 s h.messages h.told (ByCause Memory)) (sym c.0) (laws.rests run.s0 s1 h.messages h.told h.came rests).0)
-  closes_enough (Err (ByCause cause)) c = absurd c
-  closes_enough (Err Untold) c = record {
-    parts = h.parts;
-    rest = kept new;
-    told = h.told;
-    covers = covers run new h.parts (kept new) h.told h.covered;
-    messages = h.messages;
-    placed = h.placed;
-    wanted = h.wanted;
-    unfilled = λ never. absurd never;
-    more = due;
-    all = inr (enough_after s1 h.told h.came h.enough);
-    caused = h.failed;
-    came = subst (λ (l : List Placed). leaves run.s0 s2 l (h.told ++ due) Untold) (append-nil h.messages) (laws.leaves_after run.s0 s1 s2 h.messages [] h.told due Untold h.came c);
-  }

@@ -11,6 +11,7 @@ pub mod CountSteps
 pub mod CheckSteps
 pub mod GoSteps
 pub mod GoEnds
+pub mod CloseSteps
 pub mod EndSteps
 pub mod RunSteps
 pub mod SameParts

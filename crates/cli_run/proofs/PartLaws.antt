@@ -1,17 +1,18 @@
 -- Parts of an input that follow one another, what is told of them, and the messages among them.
-use Rattle.std.proofs.Common.{is_some, ◌≡◌, ℕ, suc, ◌+◌, ◌-◌, ◌<◌, ◌≤◌, Bool, true, false, List, [], ◌∷◌, ◌++◌, Option, None, Some, length, drop, refl, sym, ap, ◌∙◌, subst, arith, append_assoc, append-nil, length-append, inl}
+use Rattle.std.proofs.Common.{is_some, ◌≡◌, ℕ, suc, ◌+◌, ◌-◌, ◌<◌, ◌≤◌, Bool, true, false, List, [], ◌∷◌, ◌++◌, Option, None, Some, length, drop, refl, sym, ap, ◌∙◌, subst, arith, append_assoc, append-nil, length-append}
 use Rattle.std.proofs.Math.Path.{transport}
 use Rattle.std.proofs.lemmas.Bool.{false≢true}
 use Rattle.std.proofs.lemmas.List.{drop-append-le}
 use Rattle.dbus_device.specs.Packets.{Packets}
 use Rattle.dbus_value_model.specs.declared.fault.Fault.{Fault}
 use Rattle.dbus_value_model.specs.declared.limits.Limits.{Limits}
-use Rattle.dbus_header.proofs.OutcomeLaws.{whole_for_good, whole_inside}
+use Rattle.dbus_header.proofs.OutcomeLaws.{nothing_partial, whole_for_good, whole_inside}
 use Rattle.dbus_stream.specs.Cut.{BeginWith, CutMessage, CutOutcome, Refused}
 use Rattle.dbus_stream.specs.CutEnds.{sizes}
+use Rattle.dbus_stream.proofs.FaultPackets.{refused_later}
 use Rattle.dbus_stream.proofs.SizeSteps.{one_size, size_some}
 use Rattle.cli_options.specs.declared.settings.Settings.{Settings}
-use Rattle.cli_run.specs.Inputs.{ArePlaced, IsPlaced, IsPacketBefore, IsTimeBefore, Part, Whole, PassedOver, Placed, size_of, sizes_of, time_of, wholes, IsLast, IsPart, BeginWithParts}
+use Rattle.cli_run.specs.Inputs.{ArePlaced, IsPlaced, IsPacketBefore, IsTimeBefore, Part, Whole, PassedOver, Placed, size_of, sizes_of, time_of, wholes, HasSize, IsLast, IsPart, BeginWithParts}
 use Rattle.cli_run.specs.Output.{check_line, fault_line}
 use Rattle.cli_run.specs.Going.{AreTold, closing_line, passed_count, passed_sizes}
 use Rattle.cli_run.specs.declared.place.MessagePlace.{MessagePlace}
@@ -20,17 +21,20 @@ use Rattle.cli_run.specs.declared.tally.Tally.{Tally}
 -- ---- the input
 
 module _ (limits : Limits) where
+  size_more : (bytes more kept : List ℕ) (by : Option ℕ) (size : ℕ) → HasSize limits kept bytes by size → HasSize limits kept (bytes ++ more) by size × (size ≤ length bytes)
+  size_more bytes more kept None size h = (((one_size limits bytes more size size h.0).0, omega (arith, h.1, length-append bytes more)), h.1)
+  size_more bytes more kept (Some number) size h = ((h.0, omega (arith, h.1, length-append bytes more)), omega (arith, h.1))
+
+  -- what is refused has bytes
+  pub size_kept : (bytes kept : List ℕ) (by : Option ℕ) (size : ℕ) → 0 < length kept → HasSize limits kept bytes by size → 0 < size
+  size_kept bytes kept None size some h = let long = size_some limits bytes size h.0 in omega (arith, long)
+  size_kept bytes kept (Some number) size some h = omega (arith, h.0, some)
+
   part_more : (bytes more : List ℕ) (part : Part) → IsPart limits bytes part → IsPart limits (bytes ++ more) part × (size_of part ≤ length bytes)
   part_more bytes more (Whole item) p = (whole_for_good limits bytes more item.order item.message item.size p, (whole_inside limits bytes item.order item.message item.size p).1)
-  part_more bytes more (PassedOver kept fault size) p = (
-    (
-      (p.0.0 ++ more, ap (λ l. l ++ more) p.0.1 ∙ append_assoc kept p.0.0 more),
-      p.1,
-      (one_size limits bytes more size size p.2).0,
-      omega (arith, p.3, length-append bytes more),
-    ),
-    p.3,
-  )
+  part_more bytes more (PassedOver kept fault by size) p =
+      let sized = size_more bytes more kept by size p.2 in
+      (((p.0.0 ++ more, ap (λ l. l ++ more) p.0.1 ∙ append_assoc kept p.0.0 more), p.1, sized.0), sized.1)
 
   -- more bytes after
   pub parts_more : (bytes : List ℕ) (parts : List Part) (rest more : List ℕ) → BeginWithParts limits bytes parts rest → BeginWithParts limits (bytes ++ more) parts (rest ++ more)
@@ -51,7 +55,7 @@ module _ (limits : Limits) where
 
   some_bytes : (bytes : List ℕ) (part : Part) → IsPart limits bytes part → 0 < size_of part
   some_bytes bytes (Whole item) p = (whole_inside limits bytes item.order item.message item.size p).0
-  some_bytes bytes (PassedOver kept fault size) p = let long = size_some limits bytes size p.2 in omega (arith, long)
+  some_bytes bytes (PassedOver kept fault by size) p = size_kept bytes kept by size (refused_later limits 0 kept fault (nothing_partial limits) p.1) p.2
 
   -- no more parts than bytes
   pub few_parts : (bytes : List ℕ) (parts : List Part) (rest : List ℕ) → BeginWithParts limits bytes parts rest → length parts ≤ sizes_of parts
@@ -59,10 +63,10 @@ module _ (limits : Limits) where
   few_parts bytes (part ∷ parts) rest b = omega (arith, some_bytes bytes part b.0, few_parts (drop (size_of part) bytes) parts rest b.1)
 
 -- the rest ends a run that is not to go on
-pub is_last : (goes : Bool) (limits : Limits) (rest : List ℕ) (outcome : CutOutcome) (at_end : Type 0) → goes ≡ false → (((f : Fault) → outcome ≡ Refused f → ⊥) → at_end)
-    → IsLast false goes limits rest rest outcome at_end
-is_last goes limits rest (Refused fault) at_end halts all = (([], sym (append-nil rest)), λ _. refl, λ on. absurd (false≢true (sym halts ∙ on)))
-is_last goes limits rest outcome at_end halts all = (refl, all (λ f e. absurd (let both = e in cc)))
+pub is_last : (packets : Option Packets) (goes : Bool) (limits : Limits) (offset : ℕ) (rest : List ℕ) (outcome : CutOutcome) (at_end : Type 0) → goes ≡ false → (((f : Fault) → outcome ≡ Refused f → ⊥) → at_end)
+    → IsLast packets None goes limits offset rest rest outcome at_end
+is_last packets goes limits offset rest (Refused fault) at_end halts all = (([], sym (append-nil rest)), λ _. refl, λ on. absurd (false≢true (sym halts ∙ on)))
+is_last packets goes limits offset rest outcome at_end halts all = (refl, all (λ f e. absurd (let both = e in cc)))
 
 -- ---- counts
 
@@ -73,12 +77,12 @@ sizes-both (part ∷ parts) more = omega (arith, sizes-both parts more)
 pub passed-both : (parts more : List Part) → passed_count (parts ++ more) ≡ passed_count parts + passed_count more
 passed-both [] more = omega arith
 passed-both (Whole item ∷ parts) more = passed-both parts more
-passed-both (PassedOver kept fault size ∷ parts) more = omega (arith, passed-both parts more)
+passed-both (PassedOver kept fault by size ∷ parts) more = omega (arith, passed-both parts more)
 
 pub passed_sizes-both : (parts more : List Part) → passed_sizes (parts ++ more) ≡ passed_sizes parts + passed_sizes more
 passed_sizes-both [] more = omega arith
 passed_sizes-both (Whole item ∷ parts) more = passed_sizes-both parts more
-passed_sizes-both (PassedOver kept fault size ∷ parts) more = omega (arith, passed_sizes-both parts more)
+passed_sizes-both (PassedOver kept fault by size ∷ parts) more = omega (arith, passed_sizes-both parts more)
 
 pub sizes-wholes : (items : List CutMessage) → sizes_of (wholes items) ≡ sizes items
 sizes-wholes [] = refl
@@ -96,12 +100,12 @@ passed_sizes-wholes (item ∷ items) = passed_sizes-wholes items
 pub few_passed : (parts : List Part) → passed_count parts ≤ length parts
 few_passed [] = omega arith
 few_passed (Whole item ∷ parts) = omega (arith, few_passed parts)
-few_passed (PassedOver kept fault size ∷ parts) = omega (arith, few_passed parts)
+few_passed (PassedOver kept fault by size ∷ parts) = omega (arith, few_passed parts)
 
 pub few_passed_sizes : (parts : List Part) → passed_sizes parts ≤ sizes_of parts
 few_passed_sizes [] = omega arith
 few_passed_sizes (Whole item ∷ parts) = omega (arith, few_passed_sizes parts)
-few_passed_sizes (PassedOver kept fault size ∷ parts) = omega (arith, few_passed_sizes parts)
+few_passed_sizes (PassedOver kept fault by size ∷ parts) = omega (arith, few_passed_sizes parts)
 
 -- ---- texts
 
@@ -158,7 +162,7 @@ some_placed packets n offset (Whole item ∷ parts) =
       record { place = place; item = item } ∷ more.0,
       (record { item_is = refl; number_is = refl; offset_is = refl; time_is = is_time packets (offset + item.size); packet_is = is_packet packets (offset + item.size) }, more.1),
     )
-some_placed packets n offset (PassedOver kept fault size ∷ parts) = some_placed packets (n + 1) (offset + size) parts
+some_placed packets n offset (PassedOver kept fault by size ∷ parts) = some_placed packets (n + 1) (offset + size) parts
 
 module _ (packets : Option Packets) where
   moved : (n m offset at : ℕ) (parts : List Part) (messages : List Placed) → n ≡ m → offset ≡ at → ArePlaced packets n offset parts messages → ArePlaced packets m at parts messages
@@ -172,7 +176,7 @@ module _ (packets : Option Packets) where
   placed_both n offset (Whole item ∷ parts) more [] b p q = absurd p
   placed_both n offset (Whole item ∷ parts) more (m ∷ a) b p q =
       (p.0, placed_both (n + 1) (offset + item.size) parts more a b p.1 (moved (n + suc (length parts)) (n + 1 + length parts) (offset + (item.size + sizes_of parts)) (offset + item.size + sizes_of parts) more b (omega arith) (omega arith) q))
-  placed_both n offset (PassedOver kept fault size ∷ parts) more a b p q =
+  placed_both n offset (PassedOver kept fault by size ∷ parts) more a b p q =
       placed_both (n + 1) (offset + size) parts more a b p (moved (n + suc (length parts)) (n + 1 + length parts) (offset + (size + sizes_of parts)) (offset + size + sizes_of parts) more b (omega arith) (omega arith) q)
 
   -- one message more
@@ -189,8 +193,8 @@ module _ (packets : Option Packets) where
       (p.0, placed_last (n + 1) (offset + x.size) items item messages m p.1 (transport (λ i. IsPlaced packets (number i) (place i) item m) q))
 
   -- one more is passed over
-  pub placed_past : (n offset : ℕ) (parts : List Part) (kept : List ℕ) (fault : Fault) (size : ℕ) (messages : List Placed) → ArePlaced packets n offset parts messages
-      → ArePlaced packets n offset (parts ++ PassedOver kept fault size ∷ []) messages
-  placed_past n offset parts kept fault size messages p =
-      subst (λ (l : List Placed). ArePlaced packets n offset (parts ++ PassedOver kept fault size ∷ []) l) (append-nil messages)
-      (placed_both n offset parts (PassedOver kept fault size ∷ []) messages [] p refl)
+  pub placed_past : (n offset : ℕ) (parts : List Part) (kept : List ℕ) (fault : Fault) (by : Option ℕ) (size : ℕ) (messages : List Placed) → ArePlaced packets n offset parts messages
+      → ArePlaced packets n offset (parts ++ PassedOver kept fault by size ∷ []) messages
+  placed_past n offset parts kept fault by size messages p =
+      subst (λ (l : List Placed). ArePlaced packets n offset (parts ++ PassedOver kept fault by size ∷ []) l) (append-nil messages)
+      (placed_both n offset parts (PassedOver kept fault by size ∷ []) messages [] p refl)

@@ -44,7 +44,7 @@ pub bare_placed : (packets : Option Packets) (n offset : ℕ) (parts : List Part
 bare_placed packets n offset [] messages p = p
 bare_placed packets n offset (Whole item ∷ parts) [] p = absurd p
 bare_placed packets n offset (Whole item ∷ parts) (m ∷ messages) p = (p.0, bare_placed packets (n + 1) (offset + item.size) parts messages p.1)
-bare_placed packets n offset (PassedOver kept fault size ∷ parts) messages p = bare_placed packets (n + 1) (offset + size) parts messages p
+bare_placed packets n offset (PassedOver kept fault by size ∷ parts) messages p = bare_placed packets (n + 1) (offset + size) parts messages p
 
 -- if the packets are known, so are the times
 pub one_placed : (packets : Packets) (n offset : ℕ) (parts : List Part) (a b : List Placed) → ArePlaced (Some packets) n offset parts a → ArePlaced (Some packets) n offset parts b → a ≡ b
@@ -59,7 +59,7 @@ one_placed packets n offset (Whole item ∷ parts) (m ∷ a) (l ∷ b) p q =
     let same : m.item ≡ l.item = p.0.item_is ∙ sym q.0.item_is in
     let more = one_placed packets (n + 1) (offset + item.size) parts a b p.1 q.1 in
     λ i. record { place = record { number = number i; offset = there i; time = time i; in_packet = packet i }; item = same i } ∷ more i
-one_placed packets n offset (PassedOver kept fault size ∷ parts) a b p q = one_placed packets (n + 1) (offset + size) parts a b p q
+one_placed packets n offset (PassedOver kept fault by size ∷ parts) a b p q = one_placed packets (n + 1) (offset + size) parts a b p q
 
 -- the messages of the same parts count alike
 pub same_counts : (packets others : Option Packets) (n offset : ℕ) (parts : List Part) (a b : List Placed) (name : List ℕ) (c : Option Count) → ArePlaced packets n offset parts a → ArePlaced others n offset parts b
@@ -70,21 +70,21 @@ same_counts packets others n offset (Whole item ∷ parts) (m ∷ a) [] name c p
 same_counts packets others n offset (Whole item ∷ parts) (m ∷ a) (l ∷ b) name c p q =
     let same : m.item ≡ l.item = p.0.item_is ∙ sym q.0.item_is in
     same_counts packets others (n + 1) (offset + item.size) parts a b name _ p.1 q.1 ∙ ap (λ (x : CutMessage). after_messages b name (with_names (names_of x.message) x.size name c)) same
-same_counts packets others n offset (PassedOver kept fault size ∷ parts) a b name c p q = same_counts packets others (n + 1) (offset + size) parts a b name c p q
+same_counts packets others n offset (PassedOver kept fault by size ∷ parts) a b name c p q = same_counts packets others (n + 1) (offset + size) parts a b name c p q
 
 pub bare_tally : (parts : List Part) → tally_of parts ≡ tally_of (bare parts)
 bare_tally [] = refl
 bare_tally (Whole item ∷ parts) = λ i. let t = bare_tally parts i in record { count = suc t.count; size = item.size + t.size; passed = t.passed; passed_size = t.passed_size; is_cut = t.is_cut }
-bare_tally (PassedOver kept fault size ∷ parts) =
+bare_tally (PassedOver kept fault by size ∷ parts) =
     λ i. let t = bare_tally parts i in record { count = suc t.count; size = size + t.size; passed = t.passed + 1; passed_size = t.passed_size + size; is_cut = t.is_cut }
 
 -- ---- what is told
 
 -- a part is passed over only if the run is to go on
-pub are_passed : (packets : Option Packets) (settings : Settings) (n offset : ℕ) (parts : List Part) (told : List ℕ) → AreTold packets settings n offset parts told → ArePassed settings.keeps_going parts
+pub are_passed : (packets : Option Packets) (settings : Settings) (n offset : ℕ) (parts : List Part) (told : List ℕ) → AreTold packets settings n offset parts told → ArePassed packets settings.limits settings.keeps_going offset parts
 are_passed packets settings n offset [] told t = tt
 are_passed packets settings n offset (Whole item ∷ parts) told t = are_passed packets settings (n + 1) (offset + item.size) parts t.1 t.4
-are_passed packets settings n offset (PassedOver kept fault size ∷ parts) told t = (t.3.0, are_passed packets settings (n + 1) (offset + size) parts t.1 t.4)
+are_passed packets settings n offset (PassedOver kept fault by size ∷ parts) told t = (t.3.0, t.3.1, are_passed packets settings (n + 1) (offset + size) parts t.1 t.4)
 
 module _ (settings : Settings) where
   -- without JSON and explanations it is a line
@@ -105,25 +105,25 @@ module _ (settings : Settings) where
           → BeginWithParts settings.limits bytes others last → AreTold (Some all) settings n offset parts a → AreTold (Some all) settings n offset others b → a ≡ b
       same_told n offset bytes [] [] rest last a b same x y p q = p ∙ sym q
       same_told n offset bytes [] (Whole item ∷ others) rest last a b same x y p q = absurd cc
-      same_told n offset bytes [] (PassedOver kept fault size ∷ others) rest last a b same x y p q = absurd cc
+      same_told n offset bytes [] (PassedOver kept fault by size ∷ others) rest last a b same x y p q = absurd cc
       same_told n offset bytes (Whole item ∷ parts) [] rest last a b same x y p q = absurd cc
-      same_told n offset bytes (PassedOver kept fault size ∷ parts) [] rest last a b same x y p q = absurd cc
-      same_told n offset bytes (Whole item ∷ parts) (PassedOver kept fault size ∷ others) rest last a b same x y p q = absurd cc
-      same_told n offset bytes (PassedOver kept fault size ∷ parts) (Whole item ∷ others) rest last a b same x y p q = absurd cc
+      same_told n offset bytes (PassedOver kept fault by size ∷ parts) [] rest last a b same x y p q = absurd cc
+      same_told n offset bytes (Whole item ∷ parts) (PassedOver kept fault by size ∷ others) rest last a b same x y p q = absurd cc
+      same_told n offset bytes (PassedOver kept fault by size ∷ parts) (Whole item ∷ others) rest last a b same x y p q = absurd cc
       same_told n offset bytes (Whole item ∷ parts) (Whole other ∷ others) rest last a b same x y p q =
           let one : item ≡ other = cc in
           let more : AreSame parts others = cc in
           let there = subst (λ (i : CutMessage). BeginWithParts settings.limits (drop i.size bytes) others last) (sym one) y.1 in
           let told = subst (λ (i : CutMessage). AreTold (Some all) settings (n + 1) (offset + i.size) others q.1) (sym one) q.4 in
           p.2 ∙ ((λ i. (p.3 ∙ sym q.3) i ++ same_told (n + 1) (offset + item.size) (drop item.size bytes) parts others rest last p.1 q.1 more x.1 there p.4 told i) ∙ sym q.2)
-      same_told n offset bytes (PassedOver kept fault size ∷ parts) (PassedOver also other wide ∷ others) rest last a b same x y p q =
+      same_told n offset bytes (PassedOver kept fault by size ∷ parts) (PassedOver also other with wide ∷ others) rest last a b same x y p q =
           let one : fault ≡ other = cc in
           let long : size ≡ wide = cc in
           let more : AreSame parts others = cc in
           let there = subst (λ k. BeginWithParts settings.limits (drop k bytes) others last) (sym long) y.1 in
           let told = subst (λ k. AreTold (Some all) settings (n + 1) (offset + k) others q.1) (sym long) q.4 in
-          let packet = one_packet settings.limits all offset bytes kept also fault other p.3.1.0 q.3.1.0 x.0.0 y.0.0 x.0.1 y.0.1 p.3.1.1 q.3.1.1 in
-          let line : p.0 ≡ q.0 = one_line n n offset offset fault other p.3.1.0 q.3.1.0 kept also p.0 q.0 refl refl one packet p.3.1.2 q.3.1.2 in
+          let packet = one_packet settings.limits all offset bytes kept also fault other p.3.2.0 q.3.2.0 x.0.0 y.0.0 x.0.1 y.0.1 p.3.2.1 q.3.2.1 in
+          let line : p.0 ≡ q.0 = one_line n n offset offset fault other p.3.2.0 q.3.2.0 kept also p.0 q.0 refl refl one packet p.3.2.2 q.3.2.2 in
           p.2 ∙ ((λ i. line i ++ same_told (n + 1) (offset + size) (drop size bytes) parts others rest last p.1 q.1 more x.1 there p.4 told i) ∙ sym q.2)
 
       -- and the rest after them
@@ -138,7 +138,7 @@ module _ (settings : Settings) where
     pub none_told : (n offset : ℕ) (parts : List Part) (a : List ℕ) → passed_count parts ≡ 0 → AreTold packets settings n offset parts a → a ≡ []
     none_told n offset [] a none p = p
     none_told n offset (Whole x ∷ parts) a none p = p.2 ∙ (λ i. p.3 i ++ none_told (n + 1) (offset + x.size) parts p.1 none p.4 i)
-    none_told n offset (PassedOver k f m ∷ parts) a none p = absurd (omega (arith, none))
+    none_told n offset (PassedOver k f c m ∷ parts) a none p = absurd (omega (arith, none))
 
     pub none_last : (n offset : ℕ) (kept : List ℕ) (fault : Option Fault) (a : List ℕ) → fault ≡ None → IsToldLast packets settings n offset kept fault a → a ≡ []
     none_last n offset kept fault a none p = subst (λ (f : Option Fault). IsToldLast packets settings n offset kept f a) none p

@@ -1,7 +1,8 @@
 -- An input has one list of parts, and one rest after them that ends a run; but what was kept of a
 -- part that is passed over is as much as happened to be read.
-use Rattle.std.proofs.Common.{◌≡◌, ℕ, ◌-◌, ◌<◌, ◌≤◌, Bool, true, false, List, [], ◌∷◌, ◌++◌, Option, Some, length, drop, take, refl, sym, ap, ◌∙◌, subst, arith, append-nil, append_assoc, inl, inr, length-append}
-use Rattle.std.proofs.lemmas.Bool.{cases_lt, false≢true}
+use Rattle.std.proofs.Common.{◌≡◌, ◌⊎◌, ℕ, ◌+◌, ◌-◌, ◌<◌, ◌≤◌, Bool, true, List, [], ◌∷◌, ◌++◌, Option, None, Some, length, drop, take, refl, sym, ap, ◌∙◌, subst, arith, append-nil, append_assoc, inl, inr, length-append}
+use Rattle.std.proofs.Math.Path.{transport}
+use Rattle.std.proofs.lemmas.Bool.{cases_lt}
 use Rattle.std.proofs.lemmas.List.{take_at, take-append-le, take-take}
 use Rattle.dbus_device.specs.Packets.{Packets}
 use Rattle.dbus_device.specs.declared.packet.Packet.{Packet}
@@ -13,12 +14,15 @@ use Rattle.dbus_header.specs.MessageOutcomes.{IsWhole, IsRefused, IsPartial}
 use Rattle.dbus_header.proofs.OutcomeLaws.{not_both, nothing_partial, one_fault, one_outcome, one_whole, refused_for_good}
 use Rattle.dbus_stream.specs.Cut.{CutMessage, CutOutcome, Ended, Unfinished, Refused, IsOutcome}
 use Rattle.dbus_stream.specs.CutEnds.{fault_at_end}
+use Rattle.dbus_stream.specs.Packed.{number_of as packed_number}
 use Rattle.dbus_stream.specs.Packets.{ShowsIn}
-use Rattle.dbus_stream.specs.StatedSizes.{StatesNone, StatesSize, WantsMore}
+use Rattle.dbus_stream.specs.PassingPackets.{AreOfNumber}
+use Rattle.dbus_stream.specs.StatedSizes.{StatesNone}
 use Rattle.dbus_stream.proofs.FaultPackets.{partial_take, refused_later}
 use Rattle.dbus_stream.proofs.SizeSteps.{none_more, size_once, sizes_tell}
 use Rattle.cli_report.specs.Gathering.{IsPrefixTo}
-use Rattle.cli_run.specs.Inputs.{BeginWithParts, IsLast, IsPart, Part, PassedOver, Whole}
+use Rattle.cli_run.specs.Going.{passed_count}
+use Rattle.cli_run.specs.Inputs.{BeginWithParts, GoesPast, HasSize, IsLast, IsPart, IsPassedBy, Part, PassedOver, Whole, sizes_of}
 use Rattle.cli_run.specs.Refusals.{IsRefusedIn, number_of}
 use Rattle.dbus_stream.proofs.MessageEnds.{refused_reason}
 
@@ -26,7 +30,7 @@ use Rattle.dbus_stream.proofs.MessageEnds.{refused_reason}
 abbrev pub bare : List Part → List Part
 bare [] = []
 bare (Whole item ∷ parts) = Whole item ∷ bare parts
-bare (PassedOver kept fault n ∷ parts) = PassedOver [] fault n ∷ bare parts
+bare (PassedOver kept fault by n ∷ parts) = PassedOver [] fault None n ∷ bare parts
 
 abbrev pub AreSame : List Part → List Part → Type 0
 AreSame parts others = bare parts ≡ bare others
@@ -37,6 +41,11 @@ IsKeptOf limits (Refused fault) kept w = IsPrefixTo kept w × IsRefused limits k
 IsKeptOf limits outcome kept w = kept ≡ w
 
 -- ---- one packet
+
+-- its number
+same_number_of : (p : Option Packet) → number_of p ≡ packed_number p
+same_number_of None = refl
+same_number_of (Some packet) = refl
 
 -- the packet of a byte that both have
 both_have : (all : Packets) (limits : Limits) (offset : ℕ) (kept also : List ℕ) (one other : Option Packet) (i : ℕ) → (s : ShowsIn all limits offset kept one) → (t : ShowsIn all limits offset also other)
@@ -93,20 +102,71 @@ module _ (limits : Limits) (all : Packets) (offset : ℕ) where
   packet_by w kept also (Refused fault) p q x y s t = one_packet w kept also fault fault p q x.0 y.0 x.1 y.1 s t
   packet_by w kept also outcome p q x y s t = packet_of_both kept p q s (subst (λ (l : List ℕ). IsRefusedIn (Some all) limits offset l q) (y ∙ sym x) t)
 
--- if any is passed over, the run goes on
-abbrev pub ArePassed : (goes_on : Bool) → List Part → Type 0
-ArePassed goes_on [] = Unit {0}
-ArePassed goes_on (Whole item ∷ parts) = ArePassed goes_on parts
-ArePassed goes_on (PassedOver kept fault n ∷ parts) = (goes_on ≡ true) × ArePassed goes_on parts
+-- if any is passed over, the run goes on, and so many bytes are passed over as are due
+abbrev pub ArePassed : Option Packets → Limits → (goes_on : Bool) → (offset : ℕ) → List Part → Type 0
+ArePassed packets limits goes_on offset [] = Unit {0}
+ArePassed packets limits goes_on offset (Whole item ∷ parts) = ArePassed packets limits goes_on (offset + item.size) parts
+ArePassed packets limits goes_on offset (PassedOver kept fault by n ∷ parts) = (goes_on ≡ true) × IsPassedBy packets limits offset kept by n × ArePassed packets limits goes_on (offset + n) parts
+
+-- both inputs are of the same packets
+abbrev pub AreSamePackets : Option Packets → Option Packets → Type 0
+AreSamePackets packets others = (all : Packets) × (packets ≡ Some all) × (others ≡ Some all)
+
+-- ---- the bytes that are passed over
+
+module _ (limits : Limits) (all : Packets) (offset : ℕ) where
+  in_fault : (kept : List ℕ) (by : Option ℕ) (n : ℕ) → IsPassedBy (Some all) limits offset kept by n → IsRefusedIn (Some all) limits offset kept by
+  in_fault kept None n p = p
+  in_fault kept (Some number) n p = p.0
+
+  -- if the bytes after those that were kept are of the packet of the fault, so are those before
+  -- them, from the fault on, however many others kept
+  in_packet_from : (w kept also : List ℕ) (fault other : Fault) (number end i : ℕ) → IsPrefixTo kept w → IsPrefixTo also w → IsRefused limits kept fault → IsRefused limits also other
+      → IsRefusedIn (Some all) limits offset kept (Some number) → AreOfNumber all number (offset + length kept) (offset + end) → length also ≤ i → i < end → packed_number (all (offset + i)) ≡ Some number
+  in_packet_from w kept also fault other number end i x y one too s are from before = elim (cases_lt i (length kept)) [
+    | inl inside ↦ (
+        let later = last_later limits all offset also kept w other s.1.before y x (omega (arith, from, inside)) too s.1.unshown in
+        ap packed_number (s.1.in_packet i (omega (arith, later, from)) inside) ∙ (sym (same_number_of s.0) ∙ sym s.2)
+        )
+    | inr after ↦ are (offset + i) (omega (arith, after)) (omega (arith, before))
+  ]
+
+  -- no two sizes
+  size_below : (w kept also : List ℕ) (fault other : Fault) (number n m : ℕ) → IsPrefixTo kept w → IsPrefixTo also w → IsRefused limits kept fault → IsRefused limits also other
+      → IsPassedBy (Some all) limits offset kept (Some number) m → IsPassedBy (Some all) limits offset also (Some number) n → length also ≤ n → n < m → ⊥
+  size_below w kept also fault other number n m x y one too p q from less = q.2 (in_packet_from w kept also fault other number m n x y one too p.0 p.1 from less)
+
+  one_passed : (w kept also : List ℕ) (fault other : Fault) (by : Option ℕ) (n m : ℕ) → IsPrefixTo kept w → IsPrefixTo also w → IsRefused limits kept fault → IsRefused limits also other
+      → IsPassedBy (Some all) limits offset kept by n → IsPassedBy (Some all) limits offset also by m → HasSize limits kept w by n → HasSize limits also w by m → n ≡ m
+  one_passed w kept also fault other None n m x y one too p q h k = size_once limits w m n k.0 h.0
+  one_passed w kept also fault other (Some number) n m x y one too p q h k = elim (cases_lt n m) [
+    | inl less ↦ absurd (size_below w also kept other fault number n m y x too one q p h.0 less)
+    | inr more ↦ elim (cases_lt m n) [
+      | inl less ↦ absurd (size_below w kept also fault other number m n x y one too p q k.0 less)
+      | inr same ↦ omega (arith, more, same)
+    ]
+  ]
+
+  -- nor does one end that goes on to the end of the input
+  not_past : (w kept also : List ℕ) (fault other : Fault) (by : Option ℕ) (n : ℕ) → IsPrefixTo kept w → IsPrefixTo also w → IsRefused limits kept fault → IsRefused limits also other
+      → IsRefusedIn (Some all) limits offset kept by → GoesPast (Some all) limits offset kept w by → IsPassedBy (Some all) limits offset also by n → HasSize limits also w by n → ⊥
+  not_past w kept also fault other None n x y one too s past p h = ((sizes_tell limits w).1 n h.0).1 h.1 past
+  not_past w kept also fault other (Some number) n x y one too s past p h = p.2 (in_packet_from w kept also fault other number (length w) n x y one too s past h.0 h.1)
 
 module _ (limits : Limits) where
-  -- these bytes, which are all that is left of the input, end a run
-  pub record EndsHere (cut goes_on : Bool) (w : List ℕ) (outcome : CutOutcome) : Type 0 where
+  -- a message at the end is not passed over: it states no size, and is of no packet; or goes on to
+  -- the end of the input
+  abbrev pub IsStuck : Option Packets → (offset : ℕ) → (cut : Option (Option ℕ)) → (kept w : List ℕ) → Type 0
+  IsStuck packets offset None kept w = StatesNone limits w × IsRefusedIn packets limits offset kept None
+  IsStuck packets offset (Some by) kept w = GoesPast packets limits offset kept w by × IsRefusedIn packets limits offset kept by
+
+  -- these bytes, which are all that is left of the input, end a run. kept was kept of them
+  pub record EndsHere (packets : Option Packets) (cut : Option (Option ℕ)) (goes_on : Bool) (offset : ℕ) (w : List ℕ) (outcome : CutOutcome) : Type 0 where
     pub outcome_is : IsOutcome limits w outcome
-    -- the input ends within a message that is passed over, or there is none
-    pub cut_off : cut ≡ true → (fault : Fault) × IsRefused limits w fault × (goes_on ≡ true) × WantsMore limits w
-    pub uncut : cut ≡ false → (fault : Fault) → IsRefused limits w fault → goes_on ≡ true → StatesNone limits w
-    pub none_passed : (fault : Fault) (n : ℕ) → IsRefused limits w fault → goes_on ≡ true → StatesSize limits w n → n ≤ length w → ⊥
+    pub kept : List ℕ
+    pub kept_is : IsKeptOf limits outcome kept w
+    pub cut_off : (by : Option ℕ) → cut ≡ Some by → (fault : Fault) × (outcome ≡ Refused fault) × (goes_on ≡ true)
+    pub stuck : (fault : Fault) → outcome ≡ Refused fault → goes_on ≡ true → IsStuck packets offset cut kept w
 
   pub refused_from : (kept w : List ℕ) (fault : Fault) → IsPrefixTo kept w → IsRefused limits kept fault → IsRefused limits w fault
   refused_from kept w fault p r = subst (λ l. IsRefused limits l fault) (sym p.1) (refused_for_good limits kept p.0 fault r)
@@ -118,100 +178,203 @@ module _ (limits : Limits) where
   no_whole w Unfinished item o h = (one_outcome limits w).1 item.order item.message item.size h o.1
   no_whole w (Refused fault) item o h = not_both limits w item.order item.message item.size fault h o
 
-  pub no_part : (cut goes_on : Bool) (w : List ℕ) (outcome : CutOutcome) (part : Part) (others : List Part) → EndsHere cut goes_on w outcome → IsPart limits w part → ArePassed goes_on (part ∷ others) → ⊥
-  no_part cut goes_on w outcome (Whole item) others e p h = no_whole w outcome item e.outcome_is p
-  no_part cut goes_on w outcome (PassedOver kept fault n) others e p h = e.none_passed fault n (refused_from kept w fault p.0 p.1) h.0 p.2 p.3
+  -- nothing is refused, or both are of the same packets
+  abbrev pub AreKnown : (packets others : Option Packets) → CutOutcome → List Part → Type 0
+  AreKnown packets others outcome parts = AreSamePackets packets others ⊎ ((passed_count parts ≡ 0) × ((fault : Fault) → outcome ≡ Refused fault → ⊥))
 
-  pub same_parts : (cut snip goes_on : Bool) (bytes : List ℕ) (parts others : List Part) (rest last : List ℕ) (a b : CutOutcome) → BeginWithParts limits bytes parts rest → BeginWithParts limits bytes others last
-      → ArePassed goes_on parts → ArePassed goes_on others → EndsHere cut goes_on rest a → EndsHere snip goes_on last b → AreSame parts others × (rest ≡ last)
-  same_parts cut snip goes_on bytes [] [] rest last a b p q g h e f = (refl, sym p ∙ q)
-  same_parts cut snip goes_on bytes [] (part ∷ others) rest last a b p q g h e f = absurd (no_part cut goes_on bytes a part others (subst (λ l. EndsHere cut goes_on l a) (sym p) e) q.0 h)
-  same_parts cut snip goes_on bytes (part ∷ parts) [] rest last a b p q g h e f = absurd (no_part snip goes_on bytes b part parts (subst (λ l. EndsHere snip goes_on l b) (sym q) f) p.0 g)
-  same_parts cut snip goes_on bytes (Whole x ∷ parts) (Whole y ∷ others) rest last a b p q g h e f =
+  known_next : (packets others : Option Packets) (outcome : CutOutcome) (item : CutMessage) (parts : List Part) → AreKnown packets others outcome (Whole item ∷ parts) → AreKnown packets others outcome parts
+  known_next packets others outcome item parts k = k
+
+  -- a message that has one fault is refused for that
+  is_refused : (w : List ℕ) (outcome : CutOutcome) (fault : Fault) → IsOutcome limits w outcome → IsRefused limits w fault → outcome ≡ Refused fault
+  is_refused w Ended fault o refused = absurd ((one_outcome limits w).2 fault refused (subst (λ l. IsPartial limits l) (sym o) (nothing_partial limits)))
+  is_refused w Unfinished fault o refused = absurd ((one_outcome limits w).2 fault refused o.1)
+  is_refused w (Refused other) fault o refused = ap Refused (one_fault limits w other fault o refused)
+
+  -- two that are passed over have one size
+  same_size : (all : Packets) (offset : ℕ) (w kept also : List ℕ) (fault other : Fault) (by from : Option ℕ) (n m : ℕ) → IsPart limits w (PassedOver kept fault by n) → IsPart limits w (PassedOver also other from m)
+      → IsPassedBy (Some all) limits offset kept by n → IsPassedBy (Some all) limits offset also from m → n ≡ m
+  same_size all offset w kept also fault other by from n m x y p q =
+      let same : by ≡ from = one_packet limits all offset w kept also fault other by from x.0 y.0 x.1 y.1 (in_fault limits all offset kept by n p) (in_fault limits all offset also from m q) in
+      one_passed limits all offset w kept also fault other by n m x.0 y.0 x.1 y.1 p (subst (λ b. IsPassedBy (Some all) limits offset also b m) (sym same) q) x.2 (subst (λ b. HasSize limits also w b m) (sym same) y.2)
+
+  pub both_size : (packets others : Option Packets) → AreSamePackets packets others → (offset at : ℕ) → offset ≡ at → (w kept also : List ℕ) (fault other : Fault) (by from : Option ℕ) (n m : ℕ)
+      → IsPart limits w (PassedOver kept fault by n) → IsPart limits w (PassedOver also other from m) → IsPassedBy packets limits offset kept by n → IsPassedBy others limits at also from m → n ≡ m
+  both_size packets others same offset at there w kept also fault other by from n m x y p q =
+      same_size same.0 offset w kept also fault other by from n m x y (subst (λ (l : Option Packets). IsPassedBy l limits offset kept by n) same.1 p)
+      (transport (λ i. IsPassedBy (same.2 i) limits (sym there i) also from m) q)
+
+  -- one that states no size, and is of no packet, does not go on
+  not_stuck : (all : Packets) (offset : ℕ) (w kept also : List ℕ) (fault : Fault) (by : Option ℕ) → IsPrefixTo kept w → IsPrefixTo also w → IsRefused limits kept fault → IsRefused limits also fault
+      → IsStuck (Some all) offset (Some by) kept w → IsStuck (Some all) offset None also w → ⊥
+  not_stuck all offset w kept also fault by x y one too s t =
+      let same : by ≡ None = one_packet limits all offset w kept also fault fault by None x y one too s.1 t.1 in
+      (sizes_tell limits w).0 t.0 (subst (λ b. GoesPast (Some all) limits offset kept w b) same s.0)
+
+  -- a message that is refused, and goes on to the end of the input, is not passed over
+  stuck_part : (all : Packets) (offset : ℕ) (cut : Option (Option ℕ)) (w kept also : List ℕ) (fault other : Fault) (by : Option ℕ) (n : ℕ) → IsPrefixTo kept w → IsPrefixTo also w → IsRefused limits kept fault → IsRefused limits also other
+      → IsStuck (Some all) offset cut kept w → IsPassedBy (Some all) limits offset also by n → HasSize limits also w by n → ⊥
+  stuck_part all offset None w kept also fault other by n x y one too s p h =
+      let same : None ≡ by = one_packet limits all offset w kept also fault other None by x y one too s.1 (in_fault limits all offset also by n p) in
+      let sized = subst (λ b. HasSize limits also w b n) (sym same) h in
+      ((sizes_tell limits w).1 n sized.0).0 s.0
+  stuck_part all offset (Some from) w kept also fault other by n x y one too s p h =
+      let same : from ≡ by = one_packet limits all offset w kept also fault other from by x y one too s.1 (in_fault limits all offset also by n p) in
+      not_past limits all offset w kept also fault other from n x y one too s.1 s.0 (subst (λ b. IsPassedBy (Some all) limits offset also b n) (sym same) p) (subst (λ b. HasSize limits also w b n) (sym same) h)
+
+  -- if these bytes end a run, they do not begin with a part
+  pub no_part : (packets others : Option Packets) (cut : Option (Option ℕ)) (goes_on : Bool) (offset : ℕ) (w : List ℕ) (outcome : CutOutcome) (part : Part) (more : List Part)
+      → AreSamePackets packets others ⊎ (((fault : Fault) → outcome ≡ Refused fault → ⊥) ⊎ (passed_count (part ∷ more) ≡ 0))
+      → EndsHere packets cut goes_on offset w outcome → IsPart limits w part → ArePassed others limits goes_on offset (part ∷ more) → ⊥
+  no_part packets others cut goes_on offset w outcome (Whole item) more known e p h = no_whole w outcome item e.outcome_is p
+  no_part packets others cut goes_on offset w outcome (PassedOver also other by n) more known e p h =
+      let refused = refused_from also w other p.0 p.1 in
+      let is : outcome ≡ Refused other = is_refused w outcome other e.outcome_is refused in
+      elim known [
+        | inl same ↦ (
+            let kept = subst (λ (o : CutOutcome). IsKeptOf limits o e.kept w) is e.kept_is in
+            let stuck = subst (λ (q : Option Packets). IsStuck q offset cut e.kept w) same.1 (e.stuck other is h.0) in
+            stuck_part same.0 offset cut w e.kept also other other by n kept.0 p.0 kept.1 p.1 stuck (subst (λ (q : Option Packets). IsPassedBy q limits offset also by n) same.2 h.1) p.2
+            )
+        | inr none ↦ elim none [ inl unrefused ↦ unrefused other is | inr zero ↦ omega (arith, zero) ]
+      ]
+
+  pub same_parts : (packets others : Option Packets) (cut snip : Option (Option ℕ)) (goes_on : Bool) (offset at : ℕ) (bytes : List ℕ) (parts more : List Part) (rest last : List ℕ) (a b : CutOutcome) → offset ≡ at → AreKnown packets others a parts
+      → BeginWithParts limits bytes parts rest → BeginWithParts limits bytes more last → ArePassed packets limits goes_on offset parts → ArePassed others limits goes_on at more
+      → EndsHere packets cut goes_on (offset + sizes_of parts) rest a → EndsHere others snip goes_on (at + sizes_of more) last b → AreSame parts more × (rest ≡ last)
+  same_parts packets others cut snip goes_on offset at bytes [] [] rest last a b there known p q g h e f = (refl, sym p ∙ q)
+  same_parts packets others cut snip goes_on offset at bytes [] (part ∷ more) rest last a b there known p q g h e f =
+      let here : offset + 0 ≡ at = omega (arith, there) in
+      absurd (no_part packets others cut goes_on at bytes a part more (elim known [ inl same ↦ inl same | inr none ↦ inr (inl none.1) ]) (transport (λ i. EndsHere packets cut goes_on (here i) (sym p i) a) e) q.0 h)
+  same_parts packets others cut snip goes_on offset at bytes (part ∷ parts) [] rest last a b there known p q g h e f =
+      let here : at + 0 ≡ offset = omega (arith, there) in
+      absurd (no_part others packets snip goes_on offset bytes b part parts (elim known [ inl same ↦ inl (same.0, same.2, same.1) | inr none ↦ inr (inr none.0) ]) (transport (λ i. EndsHere others snip goes_on (here i) (sym q i) b) f) p.0 g)
+  same_parts packets others cut snip goes_on offset at bytes (Whole x ∷ parts) (Whole y ∷ more) rest last a b there known p q g h e f =
       let one = one_whole limits bytes x.order y.order x.message y.message x.size y.size p.0 q.0 in
-      let there = subst (λ n. BeginWithParts limits (drop n bytes) others last) (sym one.2) q.1 in
-      let more = same_parts cut snip goes_on (drop x.size bytes) parts others rest last a b p.1 there g h e f in
-      ((λ i. Whole (record { order = one.0 i; message = one.1 i; size = one.2 i }) ∷ more.0 i), more.1)
-  same_parts cut snip goes_on bytes (Whole x ∷ parts) (PassedOver k f n ∷ others) rest last a b p q g h d e = absurd (not_both limits bytes x.order x.message x.size f p.0 (refused_from k bytes f q.0.0 q.0.1))
-  same_parts cut snip goes_on bytes (PassedOver k f n ∷ parts) (Whole y ∷ others) rest last a b p q g h d e = absurd (not_both limits bytes y.order y.message y.size f q.0 (refused_from k bytes f p.0.0 p.0.1))
-  same_parts cut snip goes_on bytes (PassedOver k x n ∷ parts) (PassedOver l y m ∷ others) rest last a b p q g h e f =
-      let fault : x ≡ y = one_fault limits bytes x y (refused_from k bytes x p.0.0 p.0.1) (refused_from l bytes y q.0.0 q.0.1) in
-      let size : n ≡ m = size_once limits bytes m n q.0.2 p.0.2 in
-      let there = subst (λ k. BeginWithParts limits (drop k bytes) others last) (sym size) q.1 in
-      let more = same_parts cut snip goes_on (drop n bytes) parts others rest last a b p.1 there g.1 h.1 e f in
-      ((λ i. PassedOver [] (fault i) (size i) ∷ more.0 i), more.1)
+      let begin = subst (λ n. BeginWithParts limits (drop n bytes) more last) (sym one.2) q.1 in
+      let first : offset + (x.size + sizes_of parts) ≡ offset + x.size + sizes_of parts = omega arith in
+      let second : at + (y.size + sizes_of more) ≡ at + y.size + sizes_of more = omega arith in
+      let next = same_parts packets others cut snip goes_on (offset + x.size) (at + y.size) (drop x.size bytes) parts more rest last a b (omega (arith, there, one.2)) known p.1 begin g h
+      (subst (λ n. EndsHere packets cut goes_on n rest a) first e) (subst (λ n. EndsHere others snip goes_on n last b) second f) in
+      ((λ i. Whole (record { order = one.0 i; message = one.1 i; size = one.2 i }) ∷ next.0 i), next.1)
+  same_parts packets others cut snip goes_on offset at bytes (Whole x ∷ parts) (PassedOver k f c n ∷ more) rest last a b there known p q g h d e = absurd (not_both limits bytes x.order x.message x.size f p.0 (refused_from k bytes f q.0.0 q.0.1))
+  same_parts packets others cut snip goes_on offset at bytes (PassedOver k f c n ∷ parts) (Whole y ∷ more) rest last a b there known p q g h d e = absurd (not_both limits bytes y.order y.message y.size f q.0 (refused_from k bytes f p.0.0 p.0.1))
+  same_parts packets others cut snip goes_on offset at bytes (PassedOver k x c n ∷ parts) (PassedOver l y d m ∷ more) rest last a b there known p q g h e f = elim known [
+    | inl same ↦ (
+        let fault : x ≡ y = one_fault limits bytes x y (refused_from k bytes x p.0.0 p.0.1) (refused_from l bytes y q.0.0 q.0.1) in
+        let size : n ≡ m = both_size packets others same offset at there bytes k l x y c d n m p.0 q.0 g.1 h.1 in
+        let begin = subst (λ k. BeginWithParts limits (drop k bytes) more last) (sym size) q.1 in
+        let first : offset + (n + sizes_of parts) ≡ offset + n + sizes_of parts = omega arith in
+        let second : at + (m + sizes_of more) ≡ at + m + sizes_of more = omega arith in
+        let next = same_parts packets others cut snip goes_on (offset + n) (at + m) (drop n bytes) parts more rest last a b (omega (arith, there, size)) (inl same) p.1 begin g.2 h.2
+        (subst (λ n. EndsHere packets cut goes_on n rest a) first e) (subst (λ n. EndsHere others snip goes_on n last b) second f) in
+        ((λ i. PassedOver [] (fault i) None (size i) ∷ next.0 i), next.1)
+        )
+    | inr none ↦ absurd (let zero = none.0 in omega (arith, zero))
+  ]
 
   -- ---- where a run ends
 
   -- an input ends within a message that is passed over, or not
-  pub same_cut : (cut snip goes_on : Bool) (w : List ℕ) (a b : CutOutcome) → EndsHere cut goes_on w a → EndsHere snip goes_on w b → cut ≡ snip
-  same_cut true true goes_on w a b e f = refl
-  same_cut false false goes_on w a b e f = refl
-  same_cut true false goes_on w a b e f = let c = e.cut_off refl in absurd ((sizes_tell limits w).0 (f.uncut refl c.0 c.1 c.2) c.3)
-  same_cut false true goes_on w a b e f = let c = f.cut_off refl in absurd ((sizes_tell limits w).0 (e.uncut refl c.0 c.1 c.2) c.3)
+  pub same_cut : (packets others : Option Packets) (cut snip : Option (Option ℕ)) (goes_on : Bool) (offset : ℕ) (w : List ℕ) (a b : CutOutcome) → a ≡ b → AreSamePackets packets others ⊎ ((fault : Fault) → a ≡ Refused fault → ⊥)
+      → EndsHere packets cut goes_on offset w a → EndsHere others snip goes_on offset w b → cut ≡ snip
+  same_cut packets others None None goes_on offset w a b ab known e f = refl
+  same_cut packets others (Some by) (Some from) goes_on offset w a b ab known e f =
+      let c = e.cut_off by refl in
+      elim known [
+        | inl same ↦ (
+            let k = subst (λ (o : CutOutcome). IsKeptOf limits o e.kept w) c.1 e.kept_is in
+            let l = subst (λ (o : CutOutcome). IsKeptOf limits o f.kept w) (sym ab ∙ c.1) f.kept_is in
+            let one = subst (λ (q : Option Packets). IsStuck q offset (Some by) e.kept w) same.1 (e.stuck c.0 c.1 c.2) in
+            let too = subst (λ (q : Option Packets). IsStuck q offset (Some from) f.kept w) same.2 (f.stuck c.0 (sym ab ∙ c.1) c.2) in
+            ap Some (one_packet limits same.0 offset w e.kept f.kept c.0 c.0 by from k.0 l.0 k.1 l.1 one.1 too.1)
+            )
+        | inr none ↦ absurd (none c.0 c.1)
+      ]
+  same_cut packets others (Some by) None goes_on offset w a b ab known e f =
+      let c = e.cut_off by refl in
+      elim known [
+        | inl same ↦ (
+            let k = subst (λ (o : CutOutcome). IsKeptOf limits o e.kept w) c.1 e.kept_is in
+            let l = subst (λ (o : CutOutcome). IsKeptOf limits o f.kept w) (sym ab ∙ c.1) f.kept_is in
+            let one = subst (λ (q : Option Packets). IsStuck q offset (Some by) e.kept w) same.1 (e.stuck c.0 c.1 c.2) in
+            let too = subst (λ (q : Option Packets). IsStuck q offset None f.kept w) same.2 (f.stuck c.0 (sym ab ∙ c.1) c.2) in
+            absurd (not_stuck same.0 offset w e.kept f.kept c.0 by k.0 l.0 k.1 l.1 one too)
+            )
+        | inr none ↦ absurd (none c.0 c.1)
+      ]
+  same_cut packets others None (Some by) goes_on offset w a b ab known e f =
+      let c = f.cut_off by refl in
+      elim known [
+        | inl same ↦ (
+            let k = subst (λ (o : CutOutcome). IsKeptOf limits o e.kept w) (ab ∙ c.1) e.kept_is in
+            let l = subst (λ (o : CutOutcome). IsKeptOf limits o f.kept w) c.1 f.kept_is in
+            let one = subst (λ (q : Option Packets). IsStuck q offset None e.kept w) same.1 (e.stuck c.0 (ab ∙ c.1) c.2) in
+            let too = subst (λ (q : Option Packets). IsStuck q offset (Some by) f.kept w) same.2 (f.stuck c.0 c.1 c.2) in
+            absurd (not_stuck same.0 offset w f.kept e.kept c.0 by l.0 k.0 l.1 k.1 too one)
+            )
+        | inr none ↦ absurd (none c.0 (ab ∙ c.1))
+      ]
 
-  pub ends_here : (cut goes_on : Bool) (kept rest more : List ℕ) (outcome : CutOutcome) (at_end : Type 0) → (at_end → more ≡ []) → IsBytes (rest ++ more)
-      → IsOutcome limits kept outcome → IsLast cut goes_on limits kept rest outcome at_end → EndsHere cut goes_on (rest ++ more) outcome × (fault_at_end kept outcome ≡ fault_at_end (rest ++ more) outcome)
-      × IsKeptOf limits outcome kept (rest ++ more) × (cut ≡ true → rest ++ more ≡ rest)
-  ends_here true goes_on kept rest more Ended at_end none bytes o last = absurd last
-  ends_here true goes_on kept rest more Unfinished at_end none bytes o last = absurd last
-  ends_here false goes_on kept rest more Ended at_end none bytes o last =
-      let all : rest ++ more ≡ kept = (λ i. last.0 i ++ none last.1 i) ∙ append-nil kept in
-      let never : (fault : Fault) → IsRefused limits (rest ++ more) fault → ⊥ = λ fault refused. (one_outcome limits (rest ++ more)).2 fault refused (subst (λ l. IsPartial limits l) (sym (all ∙ o)) (nothing_partial limits)) in (
+  pub ends_here : (packets : Option Packets) (cut : Option (Option ℕ)) (goes_on : Bool) (offset : ℕ) (kept rest more : List ℕ) (outcome : CutOutcome) (at_end : Type 0) → (at_end → more ≡ []) → IsBytes (rest ++ more)
+      → IsOutcome limits kept outcome → IsLast packets cut goes_on limits offset kept rest outcome at_end → EndsHere packets cut goes_on offset (rest ++ more) outcome × (fault_at_end kept outcome ≡ fault_at_end (rest ++ more) outcome)
+      × IsKeptOf limits outcome kept (rest ++ more) × ((by : Option ℕ) → cut ≡ Some by → rest ++ more ≡ rest)
+  ends_here packets (Some by) goes_on offset kept rest more Ended at_end none bytes o last = absurd last
+  ends_here packets (Some by) goes_on offset kept rest more Unfinished at_end none bytes o last = absurd last
+  ends_here packets None goes_on offset kept rest more Ended at_end none bytes o last =
+      let all : rest ++ more ≡ kept = (λ i. last.0 i ++ none last.1 i) ∙ append-nil kept in (
         record {
           outcome_is = all ∙ o;
-          cut_off = λ cut. absurd (false≢true cut);
-          uncut = λ _ fault refused goes. absurd (never fault refused);
-          none_passed = λ fault n refused goes s le. never fault refused;
+          kept = kept;
+          kept_is = sym all;
+          cut_off = λ by cut. absurd cc;
+          stuck = λ fault is. absurd cc;
         },
         refl,
         sym all,
-        λ cut. absurd (false≢true cut),
+        λ by cut. absurd cc,
       )
-  ends_here false goes_on kept rest more Unfinished at_end none bytes o last =
-      let all : rest ++ more ≡ kept = (λ i. last.0 i ++ none last.1 i) ∙ append-nil kept in
-      let same = subst (λ l. IsOutcome limits l Unfinished) (sym all) o in
-      let never : (fault : Fault) → IsRefused limits (rest ++ more) fault → ⊥ = λ fault refused. (one_outcome limits (rest ++ more)).2 fault refused same.1 in (
+  ends_here packets None goes_on offset kept rest more Unfinished at_end none bytes o last =
+      let all : rest ++ more ≡ kept = (λ i. last.0 i ++ none last.1 i) ∙ append-nil kept in (
         record {
-          outcome_is = same;
-          cut_off = λ cut. absurd (false≢true cut);
-          uncut = λ _ fault refused goes. absurd (never fault refused);
-          none_passed = λ fault n refused goes s le. never fault refused;
+          outcome_is = subst (λ l. IsOutcome limits l Unfinished) (sym all) o;
+          kept = kept;
+          kept_is = sym all;
+          cut_off = λ by cut. absurd cc;
+          stuck = λ fault is. absurd cc;
         },
         ap (λ l. fault_at_end l Unfinished) (sym all),
         sym all,
-        λ cut. absurd (false≢true cut),
+        λ by cut. absurd cc,
       )
-  ends_here false goes_on kept rest more (Refused fault) at_end none bytes o last =
+  ends_here packets None goes_on offset kept rest more (Refused fault) at_end none bytes o last =
       let front : IsPrefixTo kept (rest ++ more) = (last.0.0 ++ more, ap (λ l. l ++ more) last.0.1 ∙ append_assoc kept last.0.0 more) in
       let kept_bytes = IsBytes-front (rest ++ more) kept front.0 front.1 bytes in
       let some = refused_later limits 0 kept fault (nothing_partial limits) o in
       let long = ap length last.0.1 in
-      let both = length-append kept last.0.0 in
-      let never : goes_on ≡ true → StatesNone limits (rest ++ more) = λ goes.
-      none_more limits rest more (omega (arith, some, long, both)) (last.2 goes (refused_reason limits kept fault kept_bytes o)) in (
+      let both = length-append kept last.0.0 in (
         record {
           outcome_is = refused_from kept (rest ++ more) fault front o;
-          cut_off = λ cut. absurd (false≢true cut);
-          uncut = λ _ other refused goes. never goes;
-          none_passed = λ other n refused goes s le. ((sizes_tell limits (rest ++ more)).1 n s).0 (never goes);
+          kept = kept;
+          kept_is = (front, o);
+          cut_off = λ by cut. absurd cc;
+          stuck = λ other is goes. let l = last.2 goes (refused_reason limits kept fault kept_bytes o) in (none_more limits rest more (omega (arith, some, long, both)) l.0, l.1);
         },
         refl,
         (front, o),
-        λ cut. absurd (false≢true cut),
+        λ by cut. absurd cc,
       )
-  ends_here true goes_on kept rest more (Refused fault) at_end none bytes o last =
+  ends_here packets (Some by) goes_on offset kept rest more (Refused fault) at_end none bytes o last =
       let front : IsPrefixTo kept (rest ++ more) = (last.0.front.0 ++ more, ap (λ l. l ++ more) last.0.front.1 ∙ append_assoc kept last.0.front.0 more) in
-      let all : rest ++ more ≡ rest = ap (λ l. rest ++ l) (none last.1) ∙ append-nil rest in
-      let refused = refused_from kept (rest ++ more) fault front o in
-      let wants = subst (λ l. WantsMore limits l) (sym all) last.0.wants in (
+      let all : rest ++ more ≡ rest = ap (λ l. rest ++ l) (none last.1) ∙ append-nil rest in (
         record {
-          outcome_is = refused;
-          cut_off = λ _. (fault, refused, last.2, wants);
-          uncut = λ cut. absurd (false≢true (sym cut));
-          none_passed = λ other n refused goes s le. ((sizes_tell limits (rest ++ more)).1 n s).1 le wants;
+          outcome_is = refused_from kept (rest ++ more) fault front o;
+          kept = kept;
+          kept_is = (front, o);
+          cut_off = λ from is. (fault, refl, last.2);
+          stuck = λ other is goes. (subst (λ l. GoesPast packets limits offset kept l by) (sym all) last.0.past, last.0.refused_in);
         },
         refl,
         (front, o),
-        λ _. all,
+        λ from is. all,
       )

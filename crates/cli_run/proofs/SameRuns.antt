@@ -1,7 +1,6 @@
 -- Two runs that read the same input, and do not fail, end alike.
-use Rattle.std.proofs.Common.{◌≡◌, ◌⊎◌, ℕ, ◌+◌, ◌-◌, ◌^◌, min, Bool, true, false, List, [], ◌∷◌, ◌++◌, arith, length, drop, take, None, Some, Option, Result, Ok, refl, sym, ap, ◌∙◌, subst, inl, inr, take-append-drop, ◌≢◌}
+use Rattle.std.proofs.Common.{◌≡◌, ◌⊎◌, ℕ, ◌+◌, ◌-◌, ◌^◌, min, Bool, false, List, [], ◌∷◌, ◌++◌, arith, length, drop, take, None, Some, Option, Result, Ok, refl, sym, ap, ◌∙◌, subst, inl, inr, take-append-drop, ◌≢◌}
 use Rattle.std.proofs.Math.Path.{transport}
-use Rattle.std.proofs.lemmas.Bool.{false≢true}
 use Rattle.std.specs.Io.KnownBytes.{Consumes, IsAtEnd}
 use Rattle.dbus_device.specs.Device.{Wrote}
 use Rattle.dbus_device.specs.Packets.{Packets}
@@ -45,8 +44,9 @@ use Rattle.cli_run.proofs.Outputs.{header_one}
 use Rattle.cli_run.proofs.PartLaws.{is_last, parts_more, parts_of}
 use Rattle.cli_run.proofs.SameOutputs.{acts_as, are_passed, bare_placed, bare_tally, none_last, none_refused, none_told, one_placed, same_counts, same_last, same_outputs, same_told}
 use Rattle.cli_run.proofs.SameFar.{filled_alike, items_of, not_through, same_far}
-use Rattle.cli_run.proofs.SameParts.{AreSame, EndsHere, IsKeptOf, bare, ends_here, packet_by, same_cut, same_parts}
+use Rattle.cli_run.proofs.SameParts.{AreKnown, AreSame, EndsHere, IsKeptOf, bare, ends_here, packet_by, same_cut, same_parts}
 use Rattle.std.specs.List.{concat}
+use Rattle.std.specs.Option.{is_none}
 
 -- ---- what a run reads is the input up to where it ends
 
@@ -72,16 +72,16 @@ taken_alike r s end due is told = elim told [ inl packets ↦ inl (packets.all, 
 abbrev AreAlikeRuns : (t u : Taken) (P Q : List Placed → (told : List ℕ) → Type 0) (end other : ExitStatus) → Type 0
 AreAlikeRuns t u P Q end other = (items also : List Placed) × (told : List ℕ) × P items told × Q also told × (other ≡ end) × (parts : List Part) × ArePlaced t.packets 1 0 parts items × ArePlaced u.packets 1 0 parts also
 
-none_passed : (cut : Bool) (parts : List Part) (rest : List ℕ) → (tally_with cut parts rest).passed ≡ 0 → passed_count parts ≡ 0
-none_passed false parts rest none = none
-none_passed true parts rest none = absurd (omega (arith, none))
+none_passed : (cut : Option (Option ℕ)) (parts : List Part) (rest : List ℕ) → (tally_with cut parts rest).passed ≡ 0 → passed_count parts ≡ 0
+none_passed None parts rest none = none
+none_passed (Some by) parts rest none = absurd (omega (arith, none))
 
 module _ (settings : Settings) (is_check : Bool) (input : List ℕ) (bytes : IsBytes input) where
   record IsReached {t : Taken} {most : ℕ} {tally : Tally} {fault : Option Fault} {told text : List ℕ} (h : IsThrough t settings most is_check tally fault told text) : Type 0 where
     last : List ℕ
     begin : BeginWithParts settings.limits input h.parts last
-    ends : EndsHere settings.limits h.cut settings.keeps_going last h.tells.outcome
-    all_is : h.cut ≡ true → last ≡ h.rest
+    ends : EndsHere settings.limits t.packets h.cut settings.keeps_going (sizes_of h.parts) last h.tells.outcome
+    all_is : (by : Option ℕ) → h.cut ≡ Some by → last ≡ h.rest
     fault_is : fault ≡ fault_at_end last h.tells.outcome
     kept_is : IsKeptOf settings.limits h.tells.outcome h.kept last
 
@@ -91,8 +91,21 @@ module _ (settings : Settings) (is_check : Bool) (input : List ℕ) (bytes : IsB
       let last = h.rest ++ after.0 in
       let begin = subst (λ l. BeginWithParts settings.limits l h.parts last) (sym after.2) (parts_more settings.limits h.covers.bytes h.parts h.rest after.0 h.covers.begin) in
       let none : IsAtEnd t.left1 → after.0 ≡ [] = λ e. subst IsAtEnd after.1 e in
-      let all = ends_here settings.limits h.cut settings.keeps_going h.kept h.rest after.0 h.tells.outcome (IsAtEnd t.left1) none (parts_bytes settings.limits input h.parts last begin bytes) h.tells.outcome_is h.last in
+      let all = ends_here settings.limits t.packets h.cut settings.keeps_going (sizes_of h.parts) h.kept h.rest after.0 h.tells.outcome (IsAtEnd t.left1) none (parts_bytes settings.limits input h.parts last begin bytes) h.tells.outcome_is h.last in
       record { last = last; begin = begin; ends = all.0; fault_is = h.tells.fault_is ∙ all.1; kept_is = all.2; all_is = all.3 }
+
+  -- the place after all parts
+  after_all : (packets : Option Packets) (cut : Option (Option ℕ)) (n : ℕ) (w : List ℕ) (outcome : CutOutcome) → EndsHere settings.limits packets cut settings.keeps_going n w outcome → EndsHere settings.limits packets cut settings.keeps_going (0 + n) w outcome
+  after_all packets cut n w outcome e = let same : n ≡ 0 + n = omega arith in subst (λ (k : ℕ). EndsHere settings.limits packets cut settings.keeps_going k w outcome) same e
+
+  -- nothing is refused then
+  unrefused : {t : Taken} {most : ℕ} {F : List Placed → Bool → Type 0} {P : List Placed → (told : List ℕ) → Type 0} {end : ExitStatus} (g : GoesThrough t settings most is_check F P end) → end ≡ status.Done
+      → (passed_count g.through.parts ≡ 0) × ((fault : Fault) → g.through.tells.outcome ≡ Refused fault → ⊥)
+  unrefused g done =
+      let none = none_refused g.tally.passed g.fault (sym g.end_is ∙ done) in (
+        none_passed g.through.cut g.through.parts g.through.rest (ap (λ (t : Tally). t.passed) (sym g.through.tally_is) ∙ none.0),
+        λ fault is. let never : None ≡ Some fault = sym none.1 ∙ (g.through.tells.fault_is ∙ ap (fault_at_end g.through.kept) is) in absurd cc,
+      )
 
   -- ---- two runs
 
@@ -104,9 +117,12 @@ module _ (settings : Settings) (is_check : Bool) (input : List ℕ) (bytes : IsB
     b : IsReached h.through
     b = reached h.through known_too
 
+    known_alike : AreKnown settings.limits t.packets u.packets g.through.tells.outcome g.through.parts
+    known_alike = elim alike [ inl packets ↦ inl packets | inr done ↦ inr (unrefused g done) ]
+
     same : AreSame g.through.parts h.through.parts × (a.last ≡ b.last)
-    same = same_parts settings.limits g.through.cut h.through.cut settings.keeps_going input g.through.parts h.through.parts a.last b.last g.through.tells.outcome h.through.tells.outcome a.begin b.begin
-        (are_passed t.packets settings 1 0 g.through.parts g.told g.through.covers.tells) (are_passed u.packets settings 1 0 h.through.parts h.told h.through.covers.tells) a.ends b.ends
+    same = same_parts settings.limits t.packets u.packets g.through.cut h.through.cut settings.keeps_going 0 0 input g.through.parts h.through.parts a.last b.last g.through.tells.outcome h.through.tells.outcome refl known_alike a.begin b.begin
+        (are_passed t.packets settings 1 0 g.through.parts g.told g.through.covers.tells) (are_passed u.packets settings 1 0 h.through.parts h.told h.through.covers.tells) (after_all t.packets g.through.cut (sizes_of g.through.parts) a.last g.through.tells.outcome a.ends) (after_all u.packets h.through.cut (sizes_of h.through.parts) b.last h.through.tells.outcome b.ends)
 
     outcome_is : g.through.tells.outcome ≡ h.through.tells.outcome
     outcome_is =
@@ -120,14 +136,21 @@ module _ (settings : Settings) (is_check : Bool) (input : List ℕ) (bytes : IsB
     parts_tally = bare_tally g.through.parts ∙ (ap tally_of same.0 ∙ sym (bare_tally h.through.parts))
 
     cut_is : g.through.cut ≡ h.through.cut
-    cut_is = same_cut settings.limits g.through.cut h.through.cut settings.keeps_going a.last _ _ a.ends (subst (λ l. EndsHere settings.limits h.through.cut settings.keeps_going l h.through.tells.outcome) (sym same.1) b.ends)
+    cut_is =
+        let offset : sizes_of h.through.parts ≡ sizes_of g.through.parts = ap (λ (t : Tally). t.size) (sym parts_tally) in
+        same_cut settings.limits t.packets u.packets g.through.cut h.through.cut settings.keeps_going (sizes_of g.through.parts) a.last _ _ outcome_is (elim alike [ inl packets ↦ inl packets | inr done ↦ inr (unrefused g done).1 ]) a.ends
+        (transport (λ i. EndsHere settings.limits u.packets h.through.cut settings.keeps_going (offset i) (sym same.1 i) h.through.tells.outcome) b.ends)
 
     -- with what the input ends within
-    both_tally : (cut snip : Bool) → cut ≡ snip → (cut ≡ true → a.last ≡ g.through.rest) → (snip ≡ true → b.last ≡ h.through.rest) → tally_with cut g.through.parts g.through.rest ≡ tally_with snip h.through.parts h.through.rest
-    both_tally false false e x y = parts_tally
-    both_tally true true e x y = let there : length g.through.rest ≡ length h.through.rest = ap length (sym (x refl) ∙ (same.1 ∙ y refl)) in λ i. cut_tally (parts_tally i) (there i)
-    both_tally true false e x y = absurd (false≢true (sym e))
-    both_tally false true e x y = absurd (false≢true e)
+    both_tally : (cut snip : Option (Option ℕ)) → cut ≡ snip → ((by : Option ℕ) → cut ≡ Some by → a.last ≡ g.through.rest) → ((by : Option ℕ) → snip ≡ Some by → b.last ≡ h.through.rest)
+        → tally_with cut g.through.parts g.through.rest ≡ tally_with snip h.through.parts h.through.rest
+    both_tally None None e x y = parts_tally
+    both_tally (Some by) (Some from) e x y =
+        let there : length g.through.rest ≡ length h.through.rest = ap length (sym (x by refl) ∙ (same.1 ∙ y from refl)) in
+        let one : by ≡ from = cc in
+        λ i. cut_tally (parts_tally i) (there i) (is_none (one i))
+    both_tally (Some by) None e x y = absurd cc
+    both_tally None (Some by) e x y = absurd cc
 
     tally_is : g.tally ≡ h.tally
     tally_is = g.through.tally_is ∙ (both_tally g.through.cut h.through.cut cut_is a.all_is b.all_is ∙ sym h.through.tally_is)
@@ -139,7 +162,7 @@ module _ (settings : Settings) (is_check : Bool) (input : List ℕ) (bytes : IsB
     none_is : end ≡ status.Done → g.told ++ g.text ≡ h.told ++ h.text
     none_is done =
         let none = none_refused g.tally.passed g.fault (sym g.end_is ∙ done) in
-        let passed : passed_count g.through.parts ≡ 0 = none_passed g.through.cut g.through.parts g.through.rest (ap (λ (t : Tally). t.passed) (sym g.through.tally_is) ∙ none.0) in
+        let passed = (unrefused g done).0 in
         let passed_too : passed_count h.through.parts ≡ 0 = ap (λ (t : Tally). t.passed) (sym parts_tally) ∙ passed in
         let first = none_told settings t.packets 1 0 g.through.parts g.told passed g.through.covers.tells in
         let first_too = none_told settings u.packets 1 0 h.through.parts h.told passed_too h.through.covers.tells in
@@ -192,8 +215,9 @@ module _ (settings : Settings) (is_check : Bool) (input : List ℕ) (bytes : IsB
       (explains : ExplainsNone settings end) (known : t.left0 ≡ Some input) (known_too : u.left0 ≡ Some input) (alike : AreTakenAlike t u end) where
     module _ {N M : (size : ℕ) → Type 0} (g : GoesFar t settings most is_check F N P end) (h : GoesFar u settings more is_check G M Q other) where
       far_same : AreSame g.parts h.parts × ((far_begins g known).0 ≡ (far_begins h known_too).0)
-      far_same = same_far settings.limits F G one t.packets u.packets 1 0 1 0 input g.parts h.parts _ _ g.messages h.messages [] [] refl (far_begins g known).1 (far_begins h known_too).1 g.placed h.placed g.wanted h.wanted g.enough.0 h.enough.0
-          g.enough.1 h.enough.1
+      far_same = same_far settings.limits F G one t.packets u.packets settings.keeps_going 1 0 1 0 input g.parts h.parts _ _ g.messages h.messages [] [] refl (far_begins g known).1 (far_begins h known_too).1 g.placed h.placed g.wanted h.wanted
+          g.enough.0 h.enough.0 (are_passed t.packets settings 1 0 g.parts g.told g.covers.tells) (are_passed u.packets settings 1 0 h.parts h.told h.covers.tells) g.enough.1 h.enough.1 refl
+          (elim alike [ inl packets ↦ inl packets | inr done ↦ inr (none_refused (passed_count g.parts) None (sym g.end_is ∙ done)).0 ])
 
       far_tally : tally_of g.parts ≡ tally_of h.parts
       far_tally = bare_tally g.parts ∙ (ap tally_of far_same.0 ∙ sym (bare_tally h.parts))
@@ -236,14 +260,16 @@ module _ (settings : Settings) (is_check : Bool) (input : List ℕ) (bytes : IsB
         let a = reached g.through known in
         let b = far_begins h known_too in
         not_through settings.limits F G one t.packets u.packets g.through.cut settings.keeps_going 1 0 1 0 input g.through.parts h.parts a.last b.0 g.through.tells.outcome g.messages h.messages [] [] refl a.begin b.1 g.placed h.placed g.wanted h.wanted
-        a.ends (are_passed u.packets settings 1 0 h.parts h.told h.covers.tells) g.unfilled h.enough.1
+        (after_all t.packets g.through.cut (sizes_of g.through.parts) a.last g.through.tells.outcome a.ends) (are_passed t.packets settings 1 0 g.through.parts g.told g.through.covers.tells) (are_passed u.packets settings 1 0 h.parts h.told h.covers.tells) g.unfilled h.enough.1 refl
+        (elim alike [ inl packets ↦ inl packets | inr done ↦ inr (inl (unrefused g done)) ])
 
     not_far : {N : (size : ℕ) → Type 0} (g : GoesFar t settings most is_check F N P end) (h : GoesThrough u settings more is_check G Q other) → ⊥
     not_far g h =
         let a = far_begins g known in
         let b = reached h.through known_too in
         not_through settings.limits G F (λ s l x y e p q. sym (one l s y x (sym e) q p)) u.packets t.packets h.through.cut settings.keeps_going 1 0 1 0 input h.through.parts g.parts b.last a.0 h.through.tells.outcome h.messages g.messages [] [] refl b.begin a.1
-        h.placed g.placed h.wanted g.wanted b.ends (are_passed t.packets settings 1 0 g.parts g.told g.covers.tells) h.unfilled g.enough.1
+        h.placed g.placed h.wanted g.wanted (after_all u.packets h.through.cut (sizes_of h.through.parts) b.last h.through.tells.outcome b.ends) (are_passed u.packets settings 1 0 h.through.parts h.told h.through.covers.tells) (are_passed t.packets settings 1 0 g.parts g.told g.covers.tells) h.unfilled g.enough.1 refl
+        (elim alike [ inl packets ↦ inl (packets.0, packets.2, packets.1) | inr done ↦ inr (inr (none_refused (passed_count g.parts) None (sym g.end_is ∙ done)).0) ])
 
     ends_alike : {N M : (size : ℕ) → Type 0} → Goes t settings most is_check F N P end → Goes u settings more is_check G M Q other → AreAlikeRuns t u P Q end other
     ends_alike g h = elim g [
@@ -437,7 +463,7 @@ whole_cut limits input bytes rest left0 left1 items outcome known are consumed c
     let begin = subst (λ l. BeginWith limits l items last) (sym after.2) (BeginWith-more limits bytes items rest after.0 cut.messages) in
     let all = parts_bytes limits input (wholes items) last (parts_of limits input items last begin) are in
     let none : IsAtEnd left1 → after.0 ≡ [] = λ e. subst IsAtEnd after.1 e in
-    let ends = ends_here limits false false rest rest after.0 outcome (IsAtEnd left1) none all cut.outcome_is (is_last false limits rest outcome (IsAtEnd left1) refl at_end) in
+    let ends = ends_here limits None None false (sizes items) rest rest after.0 outcome (IsAtEnd left1) none all cut.outcome_is (is_last None false limits (sizes items) rest outcome (IsAtEnd left1) refl at_end) in
     (last, record { messages = begin; outcome_is = ends.0.outcome_is }, ends.1, ends.2)
 
 -- the lines of a fault are the same if its packet is

@@ -2,6 +2,7 @@
 -- messages are explained, and whether they are passed over. most is how many reads may be made, and
 -- is_check says whether an input without fault has a last line.
 use Rattle.std.specs.Prelude.{◌≡◌, ◌≢◌, ℕ, zero, suc, ◌+◌, ◌-◌, Bool, true, false, List, [], ◌∷◌, ◌++◌, length, codes, decimal, Option, None, Some, is_some, ◌⊎◌, Result, Ok, Err}
+use Rattle.std.specs.Option.{is_none}
 use Rattle.std.specs.Io.KnownBytes.{Consumes, IsAtEnd}
 use Rattle.dbus_value_model.specs.declared.fault.Fault.{Fault}
 use Rattle.cli_options.specs.declared.settings.Settings.{Settings}
@@ -19,7 +20,7 @@ use Rattle.dbus_stream.specs.declared.read_fault.ReadFault.TheVariants as read
 use Rattle.cli_report.specs.Devices.{Reading, RisesAtMost, Taken, Writing, taken}
 use Rattle.cli_report.specs.declared.ending.Cause.{Cause}
 use Rattle.cli_report.specs.declared.ending.Cause.TheVariants.{Memory, ReadFailed, WriteFailed, TooManyReads}
-use Rattle.cli_run.specs.Inputs.{Part, Whole, PassedOver, size_of, sizes_of, BeginWithParts, IsCutOff, IsLast, IsTellable, ArePlaced, Placed}
+use Rattle.cli_run.specs.Inputs.{Part, Whole, PassedOver, size_of, sizes_of, BeginWithParts, IsCutOff, IsLast, IsPassedBy, IsTellable, ArePlaced, Placed}
 use Rattle.cli_run.specs.Output.{ok_line, status_of}
 use Rattle.cli_run.specs.declared.tally.Tally.{Tally}
 use Rattle.cli_run.specs.Needed.{IsReadFor}
@@ -54,7 +55,7 @@ module _ (packets : Option Packets) (settings : Settings) where
   -- what is told of a part: of a message nothing. One is passed over only if the run is to go on
   abbrev pub IsToldOf : (n offset : ℕ) → Part → List ℕ → Type 0
   IsToldOf n offset (Whole item) text = text ≡ []
-  IsToldOf n offset (PassedOver kept fault size) text = (settings.keeps_going ≡ true) × IsToldRefused n offset kept fault text
+  IsToldOf n offset (PassedOver kept fault by size) text = (settings.keeps_going ≡ true) × IsPassedBy packets settings.limits offset kept by size × IsToldRefused n offset kept fault text
 
   -- of several
   abbrev pub AreTold : (n offset : ℕ) → List Part → List ℕ → Type 0
@@ -71,25 +72,25 @@ module _ (packets : Option Packets) (settings : Settings) where
 abbrev pub passed_count : List Part → ℕ
 passed_count [] = 0
 passed_count (Whole item ∷ parts) = passed_count parts
-passed_count (PassedOver kept fault size ∷ parts) = passed_count parts + 1
+passed_count (PassedOver kept fault by size ∷ parts) = passed_count parts + 1
 
 abbrev pub passed_sizes : List Part → ℕ
 passed_sizes [] = 0
 passed_sizes (Whole item ∷ parts) = passed_sizes parts
-passed_sizes (PassedOver kept fault size ∷ parts) = passed_sizes parts + size
+passed_sizes (PassedOver kept fault by size ∷ parts) = passed_sizes parts + size
 
 abbrev pub tally_of : List Part → Tally
 tally_of parts = record { count = length parts; size = sizes_of parts; passed = passed_count parts; passed_size = passed_sizes parts; is_cut = false }
 
--- with one message more that is passed over, of which there are so many bytes, since the input ends
--- within it
-abbrev pub cut_tally : Tally → (there : ℕ) → Tally
-cut_tally t there = record { count = t.count + 1; size = t.size + there; passed = t.passed + 1; passed_size = t.passed_size + there; is_cut = true }
+-- with one message more that is passed over, of which there are so many bytes: the input ends within
+-- it, or in a capture with it
+abbrev pub cut_tally : Tally → (there : ℕ) → (is_cut : Bool) → Tally
+cut_tally t there is_cut = record { count = t.count + 1; size = t.size + there; passed = t.passed + 1; passed_size = t.passed_size + there; is_cut = is_cut }
 
 -- of the parts, and of such a message after them if there is one
-abbrev pub tally_with : (cut : Bool) → List Part → (rest : List ℕ) → Tally
-tally_with false parts rest = tally_of parts
-tally_with true parts rest = cut_tally (tally_of parts) (length rest)
+abbrev pub tally_with : (cut : Option (Option ℕ)) → List Part → (rest : List ℕ) → Tally
+tally_with None parts rest = tally_of parts
+tally_with (Some by) parts rest = cut_tally (tally_of parts) (length rest) (is_none by)
 
 -- that the input ends within the last one
 abbrev pub cut_text : Bool → List ℕ
@@ -174,11 +175,11 @@ module _ (t : Taken) (settings : Settings) (most : ℕ) (is_check : Bool) where
     pub parts : List Part
     pub rest : List ℕ
     pub covers : Covers parts rest told
-    pub cut : Bool
+    pub cut : Option (Option ℕ)
     pub tally_is : tally ≡ tally_with cut parts rest
     pub kept : List ℕ
     pub tells : TellsRest parts kept fault text
-    pub last : IsLast cut settings.keeps_going settings.limits kept rest tells.outcome (IsAtEnd t.left1)
+    pub last : IsLast t.packets cut settings.keeps_going settings.limits (sizes_of parts) kept rest tells.outcome (IsAtEnd t.left1)
     pub read_failed : t.failures1 ≡ t.failures0
 
   -- these texts are due after the parts: what is told of the fault of the rest, once it shows; and
@@ -186,25 +187,25 @@ module _ (t : Taken) (settings : Settings) (most : ℕ) (is_check : Bool) where
   abbrev pub AreDue : List Part → (rest more : List ℕ) → Type 0
   AreDue parts rest more = (kept : List ℕ) × (fault : Option Fault) × (text : List ℕ) × (tells : TellsRest parts kept fault text)
       × ((IsTellable kept rest tells.outcome (IsAtEnd t.left1) × (more ≡ text))
-      ⊎ ((cut : Bool) × IsLast cut settings.keeps_going settings.limits kept rest tells.outcome (IsAtEnd t.left1)
+      ⊎ ((cut : Option (Option ℕ)) × IsLast t.packets cut settings.keeps_going settings.limits (sizes_of parts) kept rest tells.outcome (IsAtEnd t.left1)
       × (more ≡ text ++ closing_line settings.as_json is_check settings.keeps_going (tally_with cut parts rest) (tally_with cut parts rest).passed fault)))
 
   -- all is told but the last line
   abbrev pub LacksLast : List Part → (rest more : List ℕ) → Type 0
   LacksLast parts rest more = (kept : List ℕ) × (fault : Option Fault) × (tells : TellsRest parts kept fault more)
-      × (cut : Bool) × IsLast cut settings.keeps_going settings.limits kept rest tells.outcome (IsAtEnd t.left1) × HasLastLine is_check settings.keeps_going (tally_with cut parts rest).passed fault
+      × (cut : Option (Option ℕ)) × IsLast t.packets cut settings.keeps_going settings.limits (sizes_of parts) kept rest tells.outcome (IsAtEnd t.left1) × HasLastLine is_check settings.keeps_going (tally_with cut parts rest).passed fault
 
   -- all that was read was taken and told: the rest is neither a message nor refused, or a refused
   -- message was told of which not all bytes came
   abbrev pub IsAllOf : List Part → (rest more : List ℕ) → Type 0
-  IsAllOf parts rest more = (IsPartial settings.limits rest × (more ≡ [])) ⊎ ((kept : List ℕ) × (fault : Fault) × IsRefused settings.limits kept fault × IsCutOff settings.limits kept rest
+  IsAllOf parts rest more = (IsPartial settings.limits rest × (more ≡ [])) ⊎ ((kept : List ℕ) × (fault : Fault) × IsRefused settings.limits kept fault × (by : Option ℕ) × IsCutOff t.packets settings.limits (sizes_of parts) kept rest by
       × (settings.keeps_going ≡ true) × IsToldLast t.packets settings (length parts + 1) (sizes_of parts) kept (Some fault) more)
 
 -- a message that is passed over is not the last part
 abbrev pub EndsWhole : List Part → Type 0
 EndsWhole [] = Unit {0}
 EndsWhole (Whole item ∷ parts) = EndsWhole parts
-EndsWhole (PassedOver kept fault size ∷ parts) = (parts ≢ []) × EndsWhole parts
+EndsWhole (PassedOver kept fault by size ∷ parts) = (parts ≢ []) × EndsWhole parts
 
 -- filled says of messages whether no more are wanted after them
 module _ (t : Taken) (settings : Settings) (most : ℕ) (is_check : Bool) (filled : List Placed → Bool → Type 0) where

@@ -10,6 +10,7 @@ pub mod OutputWriting
 pub mod Handing
 pub mod Needed
 pub mod Onward
+pub mod PassingOn
 pub mod Going
 pub mod Running
 pub mod CallListing

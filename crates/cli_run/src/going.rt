@@ -1,9 +1,12 @@
 //! The messages of an input, handed on by settings: those that are refused are told, and may be
 //! passed over.
-ghost use Rattle.std.specs.Prelude.{◌≡◌, ◌≤◌, ◌^◌, IfOk, string_bytes};
-ghost use Rattle.dbus_stream.specs.RawReading.{IsNewReader, kept, most_reads_of, source_of};
+ghost use Rattle.std.specs.Prelude.{◌≡◌, ◌≤◌, ◌^◌, IfOk, string_bytes, true};
+ghost use Rattle.dbus_stream.specs.GoingOn.{HasFault};
+ghost use Rattle.dbus_stream.specs.Next.{DeviceCounts};
+ghost use Rattle.dbus_stream.specs.RawReading.{IsNewReader, KeepsPackets, kept, most_reads_of, source_of, stopped_of};
 ghost use Rattle.cli_report.specs.Devices.{reading};
 ghost use Rattle.cli_run.specs.Going.{Closes, PassesAll, cause_of, IsTold};
+ghost use Rattle.cli_run.specs.PassingOn.{PassesInPacket, PassesOn, is_by_packet};
 ghost use Rattle.cli_run.specs.Told.{TellsStop};
 ghost use Rattle.cli_run.specs.Visiting.{Tells};
 
@@ -16,7 +19,7 @@ use cli_report::{
     Cause, ExitStatus, RefusedMessage, Unwritten, give_up, refusal_json, refusal_text,
 };
 use dbus_stream::{Passed, RawReader, ReadFault, Sink, Source};
-use dbus_value_model::Fault;
+use dbus_value_model::{Fault, Reason};
 use std::alloc::{AllocError, Allocator};
 
 /// Hands the messages of a source to the visitor, as long as it wants more, up to its end, a message
@@ -94,15 +97,40 @@ fn hand_parts<R: Source, A: Allocator + Copy, V: MessageVisitor>(
         if !settings.keeps_going {
             return close(alloc, settings, is_check, tally, Some(fault), visitor);
         }
-        match messages.pass_over() {
+        match pass(refusal, messages) {
             Ok(Passed::Over) => tally = tally.past(messages.done()),
             Ok(Passed::CutOff) => {
-                let ended = tally.at_end(messages.done());
+                let ended = tally.at_end(messages.done(), refusal.packet.is_none());
                 return close(alloc, settings, is_check, ended, Some(fault), visitor);
             }
             Ok(Passed::Not) => return close(alloc, settings, is_check, tally, Some(fault), visitor),
             Err(fault) => return Err(RunStop::Cause(cause_of(fault))),
         }
+    }
+}
+
+// Passes over a refused message: in a capture up to the next packet, and else by the size that it
+// states.
+fn pass<R: Source, A: Allocator + Copy>(
+    refusal: RefusedMessage,
+    messages: &mut RawReader<R, A>,
+) -> Result<Passed, ReadFault>
+    requires { HasFault (stopped_of messages.old) }
+    ensures passes { PassesOn R.left R.calls R.packet messages.old messages.new
+        (is_by_packet refusal) result }
+    ensures in_packet { is_by_packet refusal ≡ true →
+        PassesInPacket R.packets R.packet messages.old messages.new result }
+    ensures failed { DeviceCounts (R.failures (source_of messages.old))
+        (R.failures (source_of messages.new)) result }
+    ensures same_reference { R.reference (source_of messages.new) ≡
+        R.reference (source_of messages.old) }
+    ensures packets { KeepsPackets R.packets R.packet messages.old messages.new }
+{
+    let is_whole = !matches!(refusal.fault.reason, Reason::Truncated);
+    if refusal.packet.is_some() && is_whole {
+        messages.next_packet()
+    } else {
+        messages.pass_over()
     }
 }
 

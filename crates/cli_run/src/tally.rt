@@ -58,16 +58,17 @@ impl Tally {
         }
     }
 
-    /// The tally at the end of the input, which ends within a message that was to be passed over.
-    pub(crate) fn at_end(self, end: u64) -> Tally
+    /// The tally at the end of the input, after a message that is passed over up to there: the input
+    /// ends within it, or in a capture with it.
+    pub(crate) fn at_end(self, end: u64, is_cut: bool) -> Tally
         requires few { self.count < 2 ^ 60 }
         requires few_passed { self.passed ≤ self.count }
         requires after { self.size ≤ end }
         requires low { self.passed_size + (end - self.size) < 2 ^ 60 }
-        ensures { result ≡ cut_tally self (end - self.size) }
+        ensures { result ≡ cut_tally self (end - self.size) is_cut }
     {
         Tally {
-            is_cut: true,
+            is_cut,
             ..self.past(end)
         }
     }

@@ -10,7 +10,7 @@ use Rattle.dbus_stream.specs.Gathering.{GathererState, gathering, fresh, under_w
 use Rattle.dbus_stream.specs.Next.{ReadsNothing}
 use Rattle.dbus_stream.specs.Packed.{IsOther, number_of}
 use Rattle.dbus_stream.specs.Packets.{HasPackets, KeepsPackets}
-use Rattle.dbus_stream.specs.PassingPackets.{AreOfNumber, DropsAll, IsPast, IsPastAll, PacketAnswers, PastAnswers, ReadsOnward, ReadsPast}
+use Rattle.dbus_stream.specs.PassingPackets.{AreOfNumber, DropsAll, IsBeforeOther, IsPast, IsPastAll, PacketAnswers, PastAnswers, ReadsOnward, ReadsPast}
 use Rattle.dbus_stream.specs.RawReading as raw
 use Rattle.dbus_stream.specs.Reading.{source_of, room_of, part_of, done_of, read_of, is_ended, stopped_of}
 use Rattle.dbus_stream.specs.Steps.{Calls, Drops, FillsBy}
@@ -46,6 +46,20 @@ module _ {R T B A G : Type 0} {b : Ghosts B} (k : Taking T G) (left : R → Opti
     paid = λ open_. omega arith;
     of_one = λ all has i from before. absurd (omega (arith, from, before));
   }
+
+  -- what is next is of another packet, if it passed over to it
+  pub before_other : (all : Packets) (new : Reader R T B A b) → old.held ≡ 0 → HasPackets packets packet all new → (r : ReadsPast k left calls packet number old new) (res : Result Passed ReadFault)
+      → PastAnswers k left calls packet number old new r res → IsBeforeOther all number (done_of new) res
+  before_other all new none has r (Ok Over) p =
+      let last = has.last in
+      let held = p.held in
+      let some = p.some in
+      let part = ap length p.part in
+      let within = length-take (new.end - new.start) (drop new.start (room_of new)) in
+      let first : has.first ≤ done_of new = omega (arith, last, within, held, none) in
+      let inside : done_of new < read_of new = omega (arith, some, part) in
+      λ e. p.other (sym (ap number_of (has.told (done_of new) first inside)) ∙ e)
+  before_other all new none has r res p = tt
 
   module _ (mid filled : Reader R T B A b) (h : HasPassed mid) (open_ : is_ended mid ≡ false) (c : Calls calls mid filled) (came : List ℕ) (f : FillsBy left came mid filled) where
     abbrev reads_more : ReadsPast k left calls packet number old filled

@@ -21,6 +21,11 @@ use Rattle.dbus_stream.specs.declared.read_fault.ReadFault.TheVariants.{Device, 
 abbrev pub AreOfNumber : Packets → (number from end : ℕ) → Type 0
 AreOfNumber all number from end = (i : ℕ) → from ≤ i → i < end → number_of (all i) ≡ Some number
 
+-- the next byte, at this place, is of a packet of another number, if the reader passed over to it
+abbrev pub IsBeforeOther : Packets → (number place : ℕ) → Result Passed ReadFault → Type 0
+IsBeforeOther all number place (Ok Over) = IsOther number (all place)
+IsBeforeOther all number place result = Unit {0}
+
 module _ {R T B A G : Type 0} {b : Ghosts B} (k : Taking T G) (left : R → Option (List ℕ)) (calls : R → ℕ) (packet : R → Option Packet) (number : ℕ) (old new : Reader R T B A b) where
   abbrev pub ReadsPast : Type 0
   ReadsPast = ReadsWhile k (λ before. Unit {0}) left calls old new

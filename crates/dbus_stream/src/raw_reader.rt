@@ -51,7 +51,7 @@ impl<R: Source, A: Allocator + Copy> RawReader<R, A> {
     ghost use Rattle.dbus_stream.specs.GoingOn.{GoesOn, HasFault, Looks, ReadsToGoOn};
     ghost use Rattle.dbus_device.specs.Packets.{Packets};
     ghost use Rattle.dbus_stream.specs.Passing.{Passing, WasDropped};
-    ghost use Rattle.dbus_stream.specs.PassingPackets.{AreOfNumber, PassesPacket};
+    ghost use Rattle.dbus_stream.specs.PassingPackets.{AreOfNumber, IsBeforeOther, PassesPacket};
     ghost use Rattle.dbus_stream.specs.Packed.{number_of};
     ghost use Rattle.dbus_stream.specs.Reading.{part_of};
     ghost use Rattle.dbus_stream.specs.StatedSizes.{StatesNone};
@@ -400,6 +400,11 @@ impl<R: Source, A: Allocator + Copy> RawReader<R, A> {
         ensures of_one { (all : Packets) (number : ℕ) → HasPackets R.packets R.packet all self.old →
             number_of (R.packet (source_of self.old)) ≡ Some number →
             AreOfNumber all number (read_of self.old) (done_of self.new) }
+        // The byte that is next then is not.
+        ensures next_other { (all : Packets) (number : ℕ) →
+            HasPackets R.packets R.packet all self.old →
+            number_of (R.packet (source_of self.old)) ≡ Some number →
+            IsBeforeOther all number (done_of self.new) result }
         ensures failed { DeviceCounts (R.failures (source_of self.old))
             (R.failures (source_of self.new)) result }
         ensures same_reference { R.reference (source_of self.new) ≡

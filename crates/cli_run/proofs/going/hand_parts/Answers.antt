@@ -1,7 +1,11 @@
-use Rattle.std.proofs.Common.{◌≡◌, Bool, not, true, false, inl, inr, ap, arith, refl, sym, ◌∙◌}
+use Rattle.std.proofs.Common.{◌≡◌, ℕ, Bool, not, true, false, Option, None, Some, is_some, inl, inr, ap, arith, refl, sym, ◌∙◌}
+use Rattle.std.specs.Option.{is_none}
+use Rattle.std.proofs.lemmas.Bool.{false≢true}
 use Rattle.dbus_stream.specs.RawReading.{done_of}
+use Rattle.cli_run.specs.Onward.{stop_of}
 use Rattle.cli_run.specs.Refusals.{number_of}
-use Rattle.cli_run.proofs.GoEnds.{breaks, closes, closes_enough, ends_short, finished, goes_on, grows, halts, not_less, not_told, stays}
+use Rattle.cli_run.proofs.CloseSteps.{closes, closes_enough}
+use Rattle.cli_run.proofs.GoEnds.{breaks, ends_short, finished, goes_on, grows, halts, not_less, not_told, stays}
 use Rattle.cli_run.specs.declared.tally.Tally.{Tally}
 use Rattle.cli_run.proofs.KnownPackets.{known_first, known_still}
 use Rattle.cli_run.proofs.GoSteps.{gone_none, within, done_small, reach, reach_enough, at_fault, stop_hand}
@@ -15,6 +19,13 @@ unset false e = refl
 set : (b : Bool) → not b ≡ false → b ≡ true
 set true e = refl
 set false e = sym e
+
+-- a packet that is not there
+none_if : (p : Option ℕ) (b : Bool) → is_some p ≡ not b → b ≡ is_none p
+none_if None true e = refl
+none_if None false e = absurd (false≢true e)
+none_if (Some n) true e = absurd (false≢true (sym e))
+none_if (Some n) false e = refl
 
 pub parts-init : goal.parts-init
 parts-init g c = (gone_none _ _ _ g.met.V.MessageVisitor.adds_up.nothing c.requires.new, c.requires.new.stopped, c.requires.settled, refl, known_first g.R.Source.packets g.R.Source.packet c.args.messages.now _ _ c.requires.new, λ _. (refl, refl))
@@ -68,7 +79,7 @@ returns-in-Ok-CutOff-clause-passes g c =
     let r = reach c.parts.invariant.0 laws c.parts.invariant.4 c.hand_all.new.messages c.hand_all.new.visitor
     (known_still g.R.Source.packets g.R.Source.packet c.parts.messages c.hand_all.new.messages _ c.hand_all.ensures.packets c.parts.invariant.4) c.in-Ok.counted c.up_to-tally.result c.up_to-tally.ensures (at_fault c.parts.invariant.0 g.met.V.MessageVisitor.adds_up c.parts.invariant.4 c.hand_all.new.messages c.hand_all.new.visitor c.in-Ok.counted _ c.in-Some.is c.in-Ok.ensures.hands) in
     let told = c.in-Ok-tell.ensures.tells in
-    let ended = ends_short laws r c.in-Some.is c.number_of.result (c.number_of.ensures ∙ ap number_of c.packet.ensures) told.0 told.1 told.2 c.pass_over.new.self c.at_end-ended.result c.done-in-Ok-CutOff.result c.done-in-Ok-CutOff.ensures c.at_end-ended.ensures (set c.args.settings.keeps_going c.if-not-settings.false) (rw c.in-Ok-CutOff.field-0-is at c.in-Ok-CutOff.ensures.passes) c.in-Ok-CutOff.ensures.failed in
+    let ended = ends_short laws r c.in-Some.is c.number_of.result (c.number_of.ensures ∙ ap number_of c.packet.ensures) told.0 told.1 told.2 c.pass.new.messages (known_still g.R.Source.packets g.R.Source.packet c.parts.messages c.hand_all.new.messages _ c.hand_all.ensures.packets c.parts.invariant.4) c.at_end-ended.result c.done-in-Ok-CutOff.result c.is_none.result (none_if c.number_of.result c.is_none.result c.is_none.ensures) c.done-in-Ok-CutOff.ensures c.at_end-ended.ensures (set c.args.settings.keeps_going c.if-not-settings.false) (rw c.in-Ok-CutOff.field-0-is at c.in-Ok-CutOff.ensures.passes) (rw c.in-Ok-CutOff.field-0-is at c.in-Ok-CutOff.ensures.in_packet) c.in-Ok-CutOff.ensures.failed in
     closes ended laws c.in-Ok-tell.ensures.settled c.close-in-Ok-CutOff.new.visitor c.close-in-Ok-CutOff.result c.close-in-Ok-CutOff.ensures.closes
 
 pub returns-in-Ok-Not-clause-passes : goal.returns-in-Ok-Not-clause-passes
@@ -77,27 +88,33 @@ returns-in-Ok-Not-clause-passes g c =
     let r = reach c.parts.invariant.0 laws c.parts.invariant.4 c.hand_all.new.messages c.hand_all.new.visitor
     (known_still g.R.Source.packets g.R.Source.packet c.parts.messages c.hand_all.new.messages _ c.hand_all.ensures.packets c.parts.invariant.4) c.in-Ok.counted c.up_to-tally.result c.up_to-tally.ensures (at_fault c.parts.invariant.0 g.met.V.MessageVisitor.adds_up c.parts.invariant.4 c.hand_all.new.messages c.hand_all.new.visitor c.in-Ok.counted _ c.in-Some.is c.in-Ok.ensures.hands) in
     let told = c.in-Ok-tell.ensures.tells in
-    let ended = stays laws r c.in-Some.is c.number_of.result (c.number_of.ensures ∙ ap number_of c.packet.ensures) told.0 told.1 told.2 c.pass_over.new.self (set c.args.settings.keeps_going c.if-not-settings.false) (rw c.in-Ok-Not.field-0-is at c.in-Ok-Not.ensures.passes) c.in-Ok-Not.ensures.failed in
+    let ended = stays laws r c.in-Some.is c.number_of.result (c.number_of.ensures ∙ ap number_of c.packet.ensures) told.0 told.1 told.2 c.pass.new.messages (known_still g.R.Source.packets g.R.Source.packet c.parts.messages c.hand_all.new.messages _ c.hand_all.ensures.packets c.parts.invariant.4) (set c.args.settings.keeps_going c.if-not-settings.false) (rw c.in-Ok-Not.field-0-is at c.in-Ok-Not.ensures.passes) (rw c.in-Ok-Not.field-0-is at c.in-Ok-Not.ensures.in_packet) c.in-Ok-Not.ensures.failed in
     closes ended laws c.in-Ok-tell.ensures.settled c.close-in-Ok-Not.new.visitor c.close-in-Ok-Not.result c.close-in-Ok-Not.ensures.closes
 
-pub returns-in-Err-pass_over-clause-passes : goal.returns-in-Err-pass_over-clause-passes
-returns-in-Err-pass_over-clause-passes g c =
+pub returns-in-Err-pass-clause-passes : goal.returns-in-Err-pass-clause-passes
+returns-in-Err-pass-clause-passes g c =
     let laws = g.met.V.MessageVisitor.adds_up in
     let r = reach c.parts.invariant.0 laws c.parts.invariant.4 c.hand_all.new.messages c.hand_all.new.visitor
     (known_still g.R.Source.packets g.R.Source.packet c.parts.messages c.hand_all.new.messages _ c.hand_all.ensures.packets c.parts.invariant.4) c.in-Ok.counted c.up_to-tally.result c.up_to-tally.ensures (at_fault c.parts.invariant.0 g.met.V.MessageVisitor.adds_up c.parts.invariant.4 c.hand_all.new.messages c.hand_all.new.visitor c.in-Ok.counted _ c.in-Some.is c.in-Ok.ensures.hands) in
     let told = c.in-Ok-tell.ensures.tells in
     rw c.cause_of.ensures
-    (breaks laws r c.in-Some.is c.number_of.result (c.number_of.ensures ∙ ap number_of c.packet.ensures) told.0 told.1 told.2 c.pass_over.new.self c.in-Ok-tell.ensures.settled (set c.args.settings.keeps_going c.if-not-settings.false) c.in-Err-pass_over.fault
-    c.in-Err-pass_over.ensures.passes c.in-Err-pass_over.ensures.failed)
+    (breaks laws r c.in-Some.is c.number_of.result (c.number_of.ensures ∙ ap number_of c.packet.ensures) told.0 told.1 told.2 c.pass.new.messages (known_still g.R.Source.packets g.R.Source.packet c.parts.messages c.hand_all.new.messages _ c.hand_all.ensures.packets c.parts.invariant.4) c.in-Ok-tell.ensures.settled (set c.args.settings.keeps_going c.if-not-settings.false) c.in-Err-pass.fault
+    c.in-Err-pass.ensures.passes c.in-Err-pass.ensures.in_packet c.in-Err-pass.ensures.failed)
+
+pub pass-requires : goal.pass-requires
+pass-requires g c =
+    let r = reach c.parts.invariant.0 g.met.V.MessageVisitor.adds_up c.parts.invariant.4 c.hand_all.new.messages c.hand_all.new.visitor
+    (known_still g.R.Source.packets g.R.Source.packet c.parts.messages c.hand_all.new.messages _ c.hand_all.ensures.packets c.parts.invariant.4) c.in-Ok.counted c.up_to-tally.result c.up_to-tally.ensures (at_fault c.parts.invariant.0 g.met.V.MessageVisitor.adds_up c.parts.invariant.4 c.hand_all.new.messages c.hand_all.new.visitor c.in-Ok.counted _ c.in-Some.is c.in-Ok.ensures.hands) in
+    (c.in-Some.fault, r.stopped ∙ ap stop_of c.in-Some.is)
 
 pub at_end-ended-requires : goal.at_end-ended-requires
 at_end-ended-requires g c =
     let r = reach c.parts.invariant.0 g.met.V.MessageVisitor.adds_up c.parts.invariant.4 c.hand_all.new.messages c.hand_all.new.visitor
     (known_still g.R.Source.packets g.R.Source.packet c.parts.messages c.hand_all.new.messages _ c.hand_all.ensures.packets c.parts.invariant.4) c.in-Ok.counted c.up_to-tally.result c.up_to-tally.ensures (at_fault c.parts.invariant.0 g.met.V.MessageVisitor.adds_up c.parts.invariant.4 c.hand_all.new.messages c.hand_all.new.visitor c.in-Ok.counted _ c.in-Some.is c.in-Ok.ensures.hands) in
     let far = within r.gone in
-    let on = not_less g.met.V.MessageVisitor.adds_up r c.in-Some.is c.number_of.result (c.number_of.ensures ∙ ap number_of c.packet.ensures) c.pass_over.new.self (rw c.in-Ok-CutOff.field-0-is at c.in-Ok-CutOff.ensures.passes) in
-    let small = done_small c.pass_over.new.self in
-    let end : c.done-in-Ok-CutOff.result ≡ done_of c.pass_over.new.self = c.done-in-Ok-CutOff.ensures in
+    let on = not_less g.met.V.MessageVisitor.adds_up r c.in-Some.is c.number_of.result (c.number_of.ensures ∙ ap number_of c.packet.ensures) c.pass.new.messages (known_still g.R.Source.packets g.R.Source.packet c.parts.messages c.hand_all.new.messages _ c.hand_all.ensures.packets c.parts.invariant.4) (rw c.in-Ok-CutOff.field-0-is at c.in-Ok-CutOff.ensures.passes) (rw c.in-Ok-CutOff.field-0-is at c.in-Ok-CutOff.ensures.in_packet) in
+    let small = done_small c.pass.new.messages in
+    let end : c.done-in-Ok-CutOff.result ≡ done_of c.pass.new.messages = c.done-in-Ok-CutOff.ensures in
     record {
       few = omega (arith, far.count, far.small);
       few_passed = far.passed;
@@ -110,9 +127,9 @@ past-tally-requires g c =
     let r = reach c.parts.invariant.0 g.met.V.MessageVisitor.adds_up c.parts.invariant.4 c.hand_all.new.messages c.hand_all.new.visitor
     (known_still g.R.Source.packets g.R.Source.packet c.parts.messages c.hand_all.new.messages _ c.hand_all.ensures.packets c.parts.invariant.4) c.in-Ok.counted c.up_to-tally.result c.up_to-tally.ensures (at_fault c.parts.invariant.0 g.met.V.MessageVisitor.adds_up c.parts.invariant.4 c.hand_all.new.messages c.hand_all.new.visitor c.in-Ok.counted _ c.in-Some.is c.in-Ok.ensures.hands) in
     let far = within r.gone in
-    let on = grows g.met.V.MessageVisitor.adds_up r c.in-Some.is c.number_of.result (c.number_of.ensures ∙ ap number_of c.packet.ensures) c.pass_over.new.self (rw c.in-Ok-Over.field-0-is at c.in-Ok-Over.ensures.passes) in
-    let small = done_small c.pass_over.new.self in
-    let end : c.done.result ≡ done_of c.pass_over.new.self = c.done.ensures in
+    let on = grows g.met.V.MessageVisitor.adds_up r c.in-Some.is c.number_of.result (c.number_of.ensures ∙ ap number_of c.packet.ensures) c.pass.new.messages (known_still g.R.Source.packets g.R.Source.packet c.parts.messages c.hand_all.new.messages _ c.hand_all.ensures.packets c.parts.invariant.4) (rw c.in-Ok-Over.field-0-is at c.in-Ok-Over.ensures.passes) (rw c.in-Ok-Over.field-0-is at c.in-Ok-Over.ensures.in_packet) in
+    let small = done_small c.pass.new.messages in
+    let end : c.done.result ≡ done_of c.pass.new.messages = c.done.ensures in
     record {
       few = omega (arith, far.count, far.small);
       few_passed = far.passed;
@@ -126,13 +143,15 @@ parts-preserved g c =
     let r = reach c.parts.invariant.0 laws c.parts.invariant.4 c.hand_all.new.messages c.hand_all.new.visitor
     (known_still g.R.Source.packets g.R.Source.packet c.parts.messages c.hand_all.new.messages _ c.hand_all.ensures.packets c.parts.invariant.4) c.in-Ok.counted c.up_to-tally.result c.up_to-tally.ensures (at_fault c.parts.invariant.0 g.met.V.MessageVisitor.adds_up c.parts.invariant.4 c.hand_all.new.messages c.hand_all.new.visitor c.in-Ok.counted _ c.in-Some.is c.in-Ok.ensures.hands) in
     let told = c.in-Ok-tell.ensures.tells in
-    let passes = rw c.in-Ok-Over.field-0-is at c.in-Ok-Over.ensures.passes in (
-      goes_on laws r c.in-Some.is c.number_of.result (c.number_of.ensures ∙ ap number_of c.packet.ensures) told.0 told.1 told.2 c.pass_over.new.self c.past-tally.result c.done.result c.done.ensures c.past-tally.ensures
-          (set c.args.settings.keeps_going c.if-not-settings.false) passes c.in-Ok-Over.ensures.failed,
-      (grows laws r c.in-Some.is c.number_of.result (c.number_of.ensures ∙ ap number_of c.packet.ensures) c.pass_over.new.self passes).0,
+    let known = known_still g.R.Source.packets g.R.Source.packet c.parts.messages c.hand_all.new.messages _ c.hand_all.ensures.packets c.parts.invariant.4 in
+    let passes = rw c.in-Ok-Over.field-0-is at c.in-Ok-Over.ensures.passes in
+    let input = rw c.in-Ok-Over.field-0-is at c.in-Ok-Over.ensures.in_packet in (
+      goes_on laws r c.in-Some.is c.number_of.result (c.number_of.ensures ∙ ap number_of c.packet.ensures) told.0 told.1 told.2 c.pass.new.messages known c.past-tally.result c.done.result c.done.ensures c.past-tally.ensures
+          (set c.args.settings.keeps_going c.if-not-settings.false) passes input c.in-Ok-Over.ensures.failed,
+      (grows laws r c.in-Some.is c.number_of.result (c.number_of.ensures ∙ ap number_of c.packet.ensures) c.pass.new.messages known passes input).0,
       c.in-Ok-tell.ensures.settled,
-      c.pass_over.ensures.same_reference ∙ (c.hand_all.ensures.same_reference ∙ c.parts.invariant.3),
-      known_still g.R.Source.packets g.R.Source.packet c.hand_all.new.messages c.pass_over.new.self _ c.pass_over.ensures.packets
+      c.pass.ensures.same_reference ∙ (c.hand_all.ensures.same_reference ∙ c.parts.invariant.3),
+      known_still g.R.Source.packets g.R.Source.packet c.hand_all.new.messages c.pass.new.messages _ c.pass.ensures.packets
           (known_still g.R.Source.packets g.R.Source.packet c.parts.messages c.hand_all.new.messages _ c.hand_all.ensures.packets c.parts.invariant.4),
       λ none. absurd (omega (arith, none, ap (λ (t : Tally). t.passed) c.past-tally.ensures)),
     )
@@ -142,5 +161,5 @@ parts-smaller g c =
     let r = reach c.parts.invariant.0 g.met.V.MessageVisitor.adds_up c.parts.invariant.4 c.hand_all.new.messages c.hand_all.new.visitor
     (known_still g.R.Source.packets g.R.Source.packet c.parts.messages c.hand_all.new.messages _ c.hand_all.ensures.packets c.parts.invariant.4) c.in-Ok.counted c.up_to-tally.result c.up_to-tally.ensures (at_fault c.parts.invariant.0 g.met.V.MessageVisitor.adds_up c.parts.invariant.4 c.hand_all.new.messages c.hand_all.new.visitor c.in-Ok.counted _ c.in-Some.is c.in-Ok.ensures.hands) in
     let all = (at_fault c.parts.invariant.0 g.met.V.MessageVisitor.adds_up c.parts.invariant.4 c.hand_all.new.messages c.hand_all.new.visitor c.in-Ok.counted _ c.in-Some.is c.in-Ok.ensures.hands).all in
-    let on = grows g.met.V.MessageVisitor.adds_up r c.in-Some.is c.number_of.result (c.number_of.ensures ∙ ap number_of c.packet.ensures) c.pass_over.new.self (rw c.in-Ok-Over.field-0-is at c.in-Ok-Over.ensures.passes) in
-    omega (arith, all.done, all.size_is, on.1, done_small c.pass_over.new.self)
+    let on = grows g.met.V.MessageVisitor.adds_up r c.in-Some.is c.number_of.result (c.number_of.ensures ∙ ap number_of c.packet.ensures) c.pass.new.messages (known_still g.R.Source.packets g.R.Source.packet c.parts.messages c.hand_all.new.messages _ c.hand_all.ensures.packets c.parts.invariant.4) (rw c.in-Ok-Over.field-0-is at c.in-Ok-Over.ensures.passes) (rw c.in-Ok-Over.field-0-is at c.in-Ok-Over.ensures.in_packet) in
+    omega (arith, all.done, all.size_is, on.1, done_small c.pass.new.messages)

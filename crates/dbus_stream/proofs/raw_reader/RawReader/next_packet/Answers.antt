@@ -1,12 +1,14 @@
-use Rattle.std.proofs.Common.{◌≡◌, Some, refl, sym, ap, ◌∙◌, arith, inl}
+use Rattle.std.proofs.Common.{◌≡◌, ℕ, Some, refl, sym, ap, ◌∙◌, subst, arith, inl}
 use Rattle.dbus_device.specs.Packets.{Packets}
 use Rattle.dbus_stream.specs.Gathering.{GathererState, gathering}
 use Rattle.dbus_stream.specs.Next.{ReadsNothing}
 use Rattle.dbus_stream.specs.Packed.{number_of}
 use Rattle.dbus_stream.specs.Packets.{HasPackets}
+use Rattle.dbus_stream.specs.PassingPackets.{IsBeforeOther}
 use Rattle.dbus_stream.specs.RawReading.{source_of}
+use Rattle.dbus_stream.specs.Reading.{done_of}
 use Rattle.dbus_stream.proofs.AheadSteps.{unread_both}
-use Rattle.dbus_stream.proofs.PacketPassing.{onward_reads, packet_answers}
+use Rattle.dbus_stream.proofs.PacketPassing.{before_other, onward_reads, packet_answers}
 use Rattle.dbus_stream.proofs.PacketSteps.{unread}
 use Rattle.dbus_stream.proofs.raw_reader.RawReader.next_packet.Goals as goal
 
@@ -42,3 +44,11 @@ returns-clause-of_one g c = λ all number has is i from before.
 
 pub returns-clause-packets : goal.returns-clause-packets
 returns-clause-packets g c = λ all has. c.read_past.ensures.packets all (still_of g c all has)
+
+pub returns-clause-next_other : goal.returns-clause-next_other
+returns-clause-next_other g c = λ all number has is.
+    let same : c.in-Some.packet.number ≡ number = (let both = sym (number_is g c) ∙ is in cc) in
+    let past = c.read_past.ensures.past in
+    subst (λ (n : ℕ). IsBeforeOther all n (done_of c.read_past.new.self) c.read_past.result) same
+    (before_other gathering g.R.Source.left g.R.Source.calls g.R.Source.packets g.R.Source.packet c.in-Some.packet.number c.drop_kept.new.self all c.read_past.new.self c.drop_kept.ensures.drops.held
+    (c.read_past.ensures.packets all (still_of g c all has)) past.0 c.read_past.result past.1)
