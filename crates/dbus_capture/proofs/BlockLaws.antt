@@ -14,15 +14,14 @@ use Rattle.dbus_capture.specs.Steps.{run, given}
 use Rattle.dbus_capture.specs.Reading.{InSection}
 use Rattle.dbus_capture.specs.Packets.{IsTimed, interface_of, packet_bytes, packet_time, block_front}
 use Rattle.dbus_capture.specs.BlockFiles.{FitsBody, framed_bytes, FileBlock, InterfaceBlock, PacketBlock, ObsoleteBlock, SimpleBlock, OtherBlock, block_bytes, block_body, HasInterface, IsUncut, FitsBlockIf, FitsBlock}
-use Rattle.dbus_capture.specs.CutPackets.{Captured, is_cut, whole_payload, cut_count}
+use Rattle.dbus_capture.specs.CutPackets.{Captured, is_cut, whole_payload, whole_count, cut_count}
 use Rattle.dbus_capture.specs.BlockPackets.{packet_by, block_packets}
 use Rattle.dbus_device.specs.declared.packet.Packet.{Packet}
+use Rattle.dbus_capture.proofs.Choices.{lt_true, lt_false, eq_is, eq_not, cases_same, when_true, when_false}
 use Rattle.dbus_capture.proofs.NumberLaws.{u32_size, u16_size, u32_after, u16_after, u32_last}
 use Rattle.dbus_capture.proofs.StepLaws.{run-append, given-append, run_gives}
-use Rattle.dbus_capture.proofs.KeptLaws.{Kept, kept_then, kept_as, kept_moved, kept_begun, kept_passed, whole_count}
-use Rattle.dbus_capture.proofs.PcapFaultLaws.{lt_true}
-use Rattle.dbus_capture.proofs.PcapOutcomes.{eq_is, eq_not, cases_same}
-use Rattle.dbus_capture.proofs.BlockTurns.{when_true, when_false, lt_false, length_ok, takes_head, ends_block, opens_block, opens_as}
+use Rattle.dbus_capture.proofs.KeptLaws.{Kept, kept_then, kept_as, kept_moved, kept_begun, kept_passed}
+use Rattle.dbus_capture.proofs.BlockTurns.{length_ok, takes_head, ends_block, opens_block, opens_as}
 
 -- Bytes were taken up to the end of a block, of which these were handed on. The place moves on by n,
 -- p packets began, and c that were cut were passed over.

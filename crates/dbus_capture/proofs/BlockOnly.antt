@@ -147,7 +147,7 @@ module _ (s : Scan) (a : ℕ) (order : ByteOrder) (interfaces : List Interface) 
 
 -- ---- a file
 
-after_blocks : (bytes out : List ℕ) (fault : CaptureFault) → AreBytes bytes → FailsAfterBlocks bytes out fault → Comes bytes out (Some fault)
+after_blocks : (bytes out : List ℕ) (fault : CaptureFault) → AreBytes bytes → FailsAfterBlocks bytes out fault → Comes false bytes out (Some fault)
 after_blocks bytes out fault are f =
     let s = fresh false stages.Start in
     let front = sections_bytes (f.first ∷ f.sections) in
@@ -163,7 +163,7 @@ after_blocks bytes out fault are f =
       ap (λ (l : List ℕ). (ended (run s l)).fault) f.joined ∙ all.0 ∙ ap (λ (v : ℕ). Some (record { at = v; reason = fault.reason })) (sym f.at),
     )
 
-comes : (x : ℕ) (xs out : List ℕ) (fault : Option CaptureFault) → AreBytes (x ∷ xs) → first_stage x ≡ stages.Section → IsPcapngOutcome (x ∷ xs) out fault → Comes (x ∷ xs) out fault
+comes : (x : ℕ) (xs out : List ℕ) (fault : Option CaptureFault) → AreBytes (x ∷ xs) → first_stage x ≡ stages.Section → IsPcapngOutcome (x ∷ xs) out fault → Comes false (x ∷ xs) out fault
 comes x xs out None are first f =
     let whole = pcapng_whole false f.first f.sections f.fits f.fit in (
       ap (given (fresh false stages.Start)) f.joined ∙ whole.gives ∙ sym f.gives,

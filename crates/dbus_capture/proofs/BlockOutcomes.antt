@@ -16,7 +16,7 @@ use Rattle.dbus_capture.specs.Steps.{run, ended, given}
 use Rattle.dbus_capture.specs.PcapFaults.{AreBytes}
 use Rattle.dbus_capture.specs.BlockFiles.{framed_bytes, FileBlock, block_bytes, blocks_bytes, block_payload, blocks_payload, interfaces_after, AllFitBlocks, FileSection, section_body, FitsSection, sections_bytes, sections_payload, AllFitSections}
 use Rattle.dbus_capture.specs.BlockFaults.{IsBlockFault, interfaces_all, last_section, IsPcapngOutcome}
-use Rattle.dbus_capture.proofs.PcapOutcomes.{cases_same}
+use Rattle.dbus_capture.proofs.Choices.{cases_same}
 use Rattle.dbus_capture.proofs.SectionLaws.{block_ends, order_in, interfaces_in, order_last, interfaces_last}
 use Rattle.dbus_capture.proofs.StepLaws.{run-append, given-append, opens}
 use Rattle.dbus_capture.proofs.WordLaws.{are_drop}

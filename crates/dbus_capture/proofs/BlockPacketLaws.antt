@@ -7,18 +7,17 @@ use Rattle.dbus_capture.specs.declared.interface.Interface.{Interface}
 use Rattle.dbus_capture.specs.declared.scan.Scan.{Scan}
 use Rattle.dbus_capture.specs.Scans.{place, fresh}
 use Rattle.dbus_capture.specs.Steps.{run, given, packet_given, ended}
-use Rattle.dbus_capture.specs.Reading.{IsRead}
-use Rattle.dbus_capture.specs.CutPackets.{Captured, is_cut, whole_payload, cut_count, IsReadPast}
+use Rattle.dbus_capture.specs.Reading.{IsRead, IsReadOf}
+use Rattle.dbus_capture.specs.CutPackets.{Captured, is_cut, whole_payload, whole_count, cut_count}
 use Rattle.dbus_capture.specs.BlockFiles.{FitsBody, FileBlock, InterfaceBlock, PacketBlock, ObsoleteBlock, SimpleBlock, OtherBlock, block_body, interfaces_after, block_payload, blocks_payload, bytes_by, HasInterface, IsUncut, FitsBlock, AllFitBlocks, FileSection, FitsSection, AllFitSections, FitsSectionIf, AllFitSectionsIf, sections_bytes, sections_payload}
 use Rattle.dbus_capture.specs.BlockPackets.{IsPart, packet_by, block_packets, blocks_packets, sections_packets}
 use Rattle.dbus_capture.specs.BlockFaults.{interfaces_all, last_section}
 use Rattle.dbus_capture.specs.Packets.{Reports, IsTimed, interface_of, packet_bytes, packet_time, block_front, pcapng_packet_reported}
 use Rattle.dbus_device.specs.declared.packet.Packet.{Packet}
+use Rattle.dbus_capture.proofs.Choices.{lt_false, eq_is, eq_not, cases_same, when_true, when_false}
 use Rattle.dbus_capture.proofs.PacketSteps.{packet_after}
 use Rattle.dbus_capture.proofs.StepLaws.{run-append, given-append}
-use Rattle.dbus_capture.proofs.PcapOutcomes.{eq_is, eq_not, cases_same}
-use Rattle.dbus_capture.proofs.BlockTurns.{when_true, when_false, lt_false}
-use Rattle.dbus_capture.proofs.KeptLaws.{whole_count, payload_both, whole_both}
+use Rattle.dbus_capture.proofs.KeptLaws.{payload_both, whole_both}
 use Rattle.dbus_capture.proofs.BlockLaws.{Takes, Begins, still_told, hands_on, block_reported}
 use Rattle.dbus_capture.proofs.SectionLaws.{file_read, block_ends}
 
@@ -98,13 +97,15 @@ pcapng_whole passes x sections f g =
     }
 
 -- past the packets that were cut
-pub blocks_past : (x : FileSection) (sections : List FileSection) → FitsSectionIf IsPart x → AllFitSectionsIf IsPart sections → IsReadPast (sections_bytes (x ∷ sections)) (sections_packets (x ∷ sections))
+pub blocks_past : (x : FileSection) (sections : List FileSection) → FitsSectionIf IsPart x → AllFitSectionsIf IsPart sections → IsReadOf true (sections_bytes (x ∷ sections)) (sections_packets (x ∷ sections))
 blocks_past x sections f g =
     let w = file_read IsPart true takes_part x sections f g in
     let zero_more : 0 + cut_count (sections_packets (x ∷ sections)) ≡ cut_count (sections_packets (x ∷ sections)) = omega arith in
     record {
-      gives = w.gave;
-      unfaulted = ap (λ (v : Scan). (ended v).fault) w.ran ∙ ap (λ (v : Scan). v.fault) (block_ends w.final w.stands.ready) ∙ w.stands.ready.unfaulted;
+      read = record {
+        gives = w.gave;
+        unfaulted = ap (λ (v : Scan). (ended v).fault) w.ran ∙ ap (λ (v : Scan). v.fault) (block_ends w.final w.stands.ready) ∙ w.stands.ready.unfaulted;
+      };
       counted = ap (λ (v : Scan). v.cut) w.ran ∙ w.kept.cut refl ∙ ap place zero_more;
     }
 

@@ -10,29 +10,12 @@ use Rattle.dbus_capture.specs.Scans.{place}
 use Rattle.dbus_capture.specs.Blocks.{is_length, block_stage, block_by, decoded, decoded_by}
 use Rattle.dbus_capture.specs.Reading.{Ready}
 use Rattle.dbus_capture.specs.Steps.{run, given}
+use Rattle.dbus_capture.proofs.Choices.{le_true, eq_is, eq_not, both_true, when_true, when_false}
 use Rattle.dbus_capture.proofs.NumberLaws.{u32_size, u32_after, u32_last}
 use Rattle.dbus_capture.proofs.StepLaws.{run-append, given-append, run_gives, run_skips}
 use Rattle.dbus_capture.proofs.HeadLaws.{run_head}
-use Rattle.dbus_capture.proofs.PcapOutcomes.{eq_is, eq_not}
 
 -- ---- tests
-
-pub when_true : {A : Type 0} (b : Bool) (x y : A) → b ≡ true → cond b x y ≡ x
-when_true {A} b x y e = ap (λ (v : Bool). cond {A = A} v x y) e
-
-pub when_false : {A : Type 0} (b : Bool) (x y : A) → b ≡ false → cond b x y ≡ y
-when_false {A} b x y e = ap (λ (v : Bool). cond {A = A} v x y) e
-
-pub both_true : (a b : Bool) → a ≡ true → b ≡ true → (a && b) ≡ true
-both_true true true p q = refl
-both_true true false p q = q
-both_true false b p q = p
-
-pub le_true : (a b : ℕ) → a ≤ b → nat_le a b ≡ true
-le_true a b h = grind (arith, h)
-
-pub lt_false : (a b : ℕ) → b ≤ a → nat_lt a b ≡ false
-lt_false a b h = grind (arith, h)
 
 pub length_ok : (least total : ℕ) → total % 4 ≡ 0 → least ≤ total → is_length least total ≡ true
 length_ok least total p q = both_true _ _ (eq_is (total % 4) 0 p) (le_true least total q)

@@ -13,7 +13,7 @@ use Rattle.dbus_capture.specs.declared.capture.Capture.{Capture}
 use Rattle.dbus_capture.specs.Steps.{Turn, turn_of, may_end, run, told, given, ended, IsPart}
 use Rattle.dbus_capture.specs.Captures.{given_of, source_of, scan_of, kept_of, file_of, left_of, gave_up_of, calls_of, last_packet_of, failures_of, HandsOn, Reads, GivesPart, Ends, IsUnfailed, GivesUp, ReadsPart, Waits}
 use Rattle.dbus_capture.specs.Stages.{is_raw}
-use Rattle.dbus_capture.proofs.BlockTurns.{when_true}
+use Rattle.dbus_capture.proofs.Choices.{when_true}
 use Rattle.dbus_capture.proofs.StepLaws.{run-append, given-append, run_stopped, run_raw, none_of, turn_passes}
 
 -- a part that ends where it begins

@@ -17,8 +17,8 @@ use Rattle.dbus_capture.specs.Steps.{run, given}
 use Rattle.dbus_capture.specs.PcapFaults.{AreBytes}
 use Rattle.dbus_capture.specs.BlockFiles.{FitsBody, framed_bytes, FileBlock, block_kind, block_body, block_bytes, block_payload, interfaces_after, FitsBlock}
 use Rattle.dbus_capture.specs.BlockFaults.{HasLength, HasNoLength, PacketForm, EnhancedForm, ObsoleteForm, SimpleForm, Form, OfInterface, OfPacket, OfOther, IsOf, least_length, form_part, IsSound, IsFormFault, IsBlockFault}
-use Rattle.dbus_capture.proofs.PcapOutcomes.{eq_not, cases_same}
-use Rattle.dbus_capture.proofs.BlockTurns.{when_false, takes_head}
+use Rattle.dbus_capture.proofs.Choices.{eq_not, cases_same, when_false}
+use Rattle.dbus_capture.proofs.BlockTurns.{takes_head}
 use Rattle.dbus_capture.proofs.BlockLaws.{other_stage}
 use Rattle.dbus_capture.proofs.WordLaws.{u32_within, u32_low}
 use Rattle.dbus_capture.proofs.EndLaws.{FailsAt, Reached}

@@ -17,9 +17,9 @@ use Rattle.dbus_capture.specs.Blocks.{after_option}
 use Rattle.dbus_capture.specs.PcapFaults.{AreBytes}
 use Rattle.dbus_capture.specs.BlockFiles.{options_bytes, end_bytes, FitsEnd, with_options, FileBlock, InterfaceBlock, OtherBlock, block_body, block_bytes}
 use Rattle.dbus_capture.specs.BlockFaults.{HasLength, HasOptions, IsOptionFault, IsOptionsEnd, OfInterface, OfPacket, OfOther, Form, IsOf, least_length, IsSound}
+use Rattle.dbus_capture.proofs.Choices.{le_true, eq_is, eq_not, cases_same, when_true, when_false}
 use Rattle.dbus_capture.proofs.ByteLaws.{bytes_back}
-use Rattle.dbus_capture.proofs.PcapOutcomes.{eq_is, eq_not, cases_same}
-use Rattle.dbus_capture.proofs.BlockTurns.{le_true, when_true, when_false, takes_head, length_ok, opens_as}
+use Rattle.dbus_capture.proofs.BlockTurns.{takes_head, length_ok, opens_as}
 use Rattle.dbus_capture.proofs.WordLaws.{u32_within, u16_within, are_drop, u32_low, u16_low, word, half_first, parts}
 use Rattle.dbus_capture.proofs.EndLaws.{FailsAt, fails_as, place_more, ends_within, Reached, reach_more, fails_from}
 use Rattle.dbus_capture.proofs.TrailerLaws.{At, Stepped, Stands, ends_cut, last_is, fails_end, closes, wrong_end, right_end, body_of}

@@ -16,10 +16,10 @@ use Rattle.dbus_capture.specs.Blocks.{padded, after_option, pass_option, option_
 use Rattle.dbus_capture.specs.Steps.{run, told, given}
 use Rattle.dbus_capture.specs.Reading.{Ready, InSection}
 use Rattle.dbus_capture.specs.BlockFiles.{FitsBody, framed_bytes, InterfaceOption, option_bytes, options_bytes, FitsOption, AllFitOptions, with_option, with_options, end_bytes, FitsEnd, InterfaceBlock, block_bytes, block_body, interfaces_after, FitsBlock}
+use Rattle.dbus_capture.proofs.Choices.{lt_false, eq_is, eq_not, cases_same, when_true, when_false}
 use Rattle.dbus_capture.proofs.NumberLaws.{u32_size, u16_size, u32_last, u16_after}
 use Rattle.dbus_capture.proofs.StepLaws.{run-append, given-append}
-use Rattle.dbus_capture.proofs.PcapOutcomes.{eq_is, eq_not, cases_same}
-use Rattle.dbus_capture.proofs.BlockTurns.{when_true, when_false, lt_false, takes_head, passes, opens_as}
+use Rattle.dbus_capture.proofs.BlockTurns.{takes_head, passes, opens_as}
 use Rattle.dbus_capture.proofs.KeptLaws.{Kept, kept_then, kept_as, kept_moved, kept_still}
 use Rattle.dbus_capture.proofs.BlockLaws.{Went, Took, goes_on, respell, counts_as, begins_block, framed_size}
 

@@ -1,9 +1,9 @@
--- What is kept after bytes of a pcapng file: where the next byte is, how many packets were handed on,
+-- What is kept after bytes of a file: where the next byte is, how many packets were handed on,
 -- and how many that were cut were passed over.
 use Rattle.std.proofs.Common.{◌≡◌, ℕ, ◌+◌, cond, List, [], ◌∷◌, ◌++◌, refl, sym, ap, ◌∙◌, arith, append_assoc}
 use Rattle.dbus_capture.specs.declared.scan.Scan.{Scan}
 use Rattle.dbus_capture.specs.Scans.{place}
-use Rattle.dbus_capture.specs.CutPackets.{Captured, is_cut, whole_payload, cut_count}
+use Rattle.dbus_capture.specs.CutPackets.{Captured, is_cut, whole_payload, whole_count, cut_count}
 
 pub record Kept (s t : Scan) (n p c : ℕ) : Type 0 where
   pub passes : t.passes_cut ≡ s.passes_cut
@@ -17,7 +17,7 @@ place_on a b n m e = omega (arith, e)
 place_twice : (a b c : ℕ) → place (place (a + b) + c) ≡ place (a + (b + c))
 place_twice a b c = omega arith
 
-place_same : (a : ℕ) → place a ≡ place (place a)
+pub place_same : (a : ℕ) → place a ≡ place (place a)
 place_same a = omega arith
 
 pub kept_then : (s t u : Scan) (n p c m q d : ℕ) → Kept s t n p c → Kept t u m q d → Kept s u (n + m) (p + q) (c + d)
@@ -75,10 +75,6 @@ kept_passed s t n e f g h = record {
 }
 
 -- ---- the packets that were captured whole
-
-abbrev pub whole_count : List Captured → ℕ
-whole_count [] = 0
-whole_count (p ∷ packets) = cond (is_cut p) 0 1 + whole_count packets
 
 pub payload_both : (xs ys : List Captured) → whole_payload (xs ++ ys) ≡ whole_payload xs ++ whole_payload ys
 payload_both [] ys = refl

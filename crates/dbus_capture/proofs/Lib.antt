@@ -3,6 +3,8 @@ pub mod HeadLaws
 pub mod CaptureSteps
 pub mod PacketSteps
 pub mod NumberLaws
+pub mod Choices
+pub mod KeptLaws
 pub mod PcapLaws
 pub mod PcapFileLaws
 pub mod ByteLaws
@@ -11,7 +13,6 @@ pub mod PcapOutcomes
 pub mod PacketLaws
 pub mod PcapOnly
 pub mod BlockTurns
-pub mod KeptLaws
 pub mod BlockLaws
 pub mod InterfaceLaws
 pub mod SectionLaws
@@ -26,5 +27,4 @@ pub mod InterfaceBlocks
 pub mod SectionBlocks
 pub mod BlockOutcomes
 pub mod BlockOnly
-pub mod CutLaws
 pub mod BlockPacketLaws

@@ -18,10 +18,9 @@ use Rattle.dbus_capture.specs.Reading.{Ready}
 use Rattle.dbus_capture.specs.PcapFaults.{AreBytes}
 use Rattle.dbus_capture.specs.BlockFiles.{InterfaceOption, option_bytes, options_bytes, FitsOption, with_option, with_options}
 use Rattle.dbus_capture.specs.BlockFaults.{HasOptions, IsOptionFault, IsOptionsEnd}
+use Rattle.dbus_capture.proofs.Choices.{lt_true, eq_is, eq_not, cases_same, when_true, when_false}
 use Rattle.dbus_capture.proofs.NumberLaws.{u16_size}
-use Rattle.dbus_capture.proofs.PcapFaultLaws.{lt_true}
-use Rattle.dbus_capture.proofs.PcapOutcomes.{eq_is, eq_not, cases_same}
-use Rattle.dbus_capture.proofs.BlockTurns.{when_true, when_false, takes_head, passes}
+use Rattle.dbus_capture.proofs.BlockTurns.{takes_head, passes}
 use Rattle.dbus_capture.proofs.InterfaceLaws.{is_option, ready_as, not_end}
 use Rattle.dbus_capture.proofs.WordLaws.{u16_within, are_drop, u16_low, half, half_first, parts}
 use Rattle.dbus_capture.proofs.EndLaws.{FailsAt, fails_as, place_more, within_held, within_skip, Reached, reach_more, fails_from, run_nothing, given_nothing}

@@ -18,9 +18,8 @@ use Rattle.dbus_capture.specs.Steps.{Gathers, run, may_end, given}
 use Rattle.dbus_capture.specs.PcapFaults.{AreBytes}
 use Rattle.dbus_capture.specs.BlockFiles.{FileBlock, PacketBlock, ObsoleteBlock, SimpleBlock, block_kind, block_body, block_bytes, block_payload, bytes_by, interfaces_after, FitsBlock}
 use Rattle.dbus_capture.specs.BlockFaults.{HasLength, PacketForm, EnhancedForm, ObsoleteForm, SimpleForm, SaidPacket, captured_by, said, IsPacket, packet_part, OfPacket, IsOf, least_length}
-use Rattle.dbus_capture.proofs.PcapFaultLaws.{lt_true}
-use Rattle.dbus_capture.proofs.PcapOutcomes.{eq_is, eq_not, cases_same}
-use Rattle.dbus_capture.proofs.BlockTurns.{when_true, when_false, lt_false, takes_head, opens_as}
+use Rattle.dbus_capture.proofs.Choices.{lt_true, lt_false, eq_is, eq_not, cases_same, when_true, when_false}
+use Rattle.dbus_capture.proofs.BlockTurns.{takes_head, opens_as}
 use Rattle.dbus_capture.proofs.WordLaws.{u32_within, u16_within, u32_low, u16_low, word, word_first, half, half_first, parts}
 use Rattle.dbus_capture.proofs.EndLaws.{FailsAt, fails_as, place_more, ends_within, Reached, reach_more, fails_from}
 use Rattle.dbus_capture.proofs.TrailerLaws.{At, Stepped, Stands, fails_head, refused_at, ends_cut, wrong_end, right_end, body_of}

@@ -1,5 +1,5 @@
 -- The header of a pcap file is read as it is spelled, and so is the whole file.
-use Rattle.std.proofs.Common.{◌≡◌, ℕ, ◌+◌, ◌-◌, ◌^◌, Bool, true, false, cond, List, [], ◌++◌, length, take, get_or, Option, Some, refl, sym, ap, ◌∙◌, arith, append_assoc, length-append}
+use Rattle.std.proofs.Common.{◌≡◌, ℕ, ◌+◌, ◌-◌, ◌^◌, Bool, true, false, cond, List, [], ◌++◌, length, take, get_or, Option, Some, refl, sym, ap, subst, ◌∙◌, arith, append_assoc, length-append}
 use Rattle.std.specs.Prelude.{◌&&◌, ◌==◌}
 use Rattle.std.proofs.lemmas.List.{take_all}
 use Rattle.dbus_capture.specs.declared.byte_order.ByteOrder.{ByteOrder}
@@ -15,12 +15,14 @@ use Rattle.dbus_capture.specs.Scans.{place, fresh, refused}
 use Rattle.dbus_capture.specs.Heads.{magic, file_header, file_header_by}
 use Rattle.dbus_capture.specs.Blocks.{decoded, decoded_by}
 use Rattle.dbus_capture.specs.Steps.{Turn, Gathers, run, given, ended, may_end, turn_of}
-use Rattle.dbus_capture.specs.Reading.{IsRead}
-use Rattle.dbus_capture.specs.PcapFiles.{PcapHeader, PcapPacket, magic_number, header_bytes, packets_bytes, pcap_bytes, payload, FitsHeader, AllFitPackets}
+use Rattle.dbus_capture.specs.Reading.{IsReadOf}
+use Rattle.dbus_capture.specs.CutPackets.{whole_payload, whole_count, cut_count}
+use Rattle.dbus_capture.specs.PcapFiles.{PcapHeader, PcapPacket, magic_number, header_bytes, packets_bytes, pcap_bytes, captures, FitsHeader, AllFitPackets}
 use Rattle.dbus_capture.proofs.NumberLaws.{u32_size, u16_size, u16_after, u32_last}
 use Rattle.dbus_capture.proofs.StepLaws.{run-append, given-append, opens_start, opened_filed, turn_gathers}
 use Rattle.dbus_capture.proofs.HeadLaws.{run_head}
-use Rattle.dbus_capture.proofs.PcapLaws.{Between, after_all, packets_taken}
+use Rattle.dbus_capture.proofs.KeptLaws.{Kept, kept_then, kept_as, kept_moved}
+use Rattle.dbus_capture.proofs.PcapLaws.{Between, Took, packets_taken}
 
 first_is : (o : ByteOrder) (b : Bool) (rest : List ℕ) → first_stage (get_or (u32_bytes o (magic_number b) ++ rest) 0 0) ≡ FileHeader
 first_is Little true rest = refl
@@ -134,20 +136,45 @@ header_taken passes h f =
     )
 
 -- the whole file
-pub file_taken : (passes : Bool) (h : PcapHeader) (packets : List PcapPacket) → FitsHeader h → AllFitPackets packets
-    → (run (fresh passes Start) (pcap_bytes h packets) ≡ after_all (opened_file passes h) packets)
-    × (given (fresh passes Start) (pcap_bytes h packets) ≡ payload packets) × Between (after_all (opened_file passes h) packets)
+pub record FileTook (passes : Bool) (h : PcapHeader) (packets : List PcapPacket) : Type 0 where
+  pub final : Scan
+  pub ran : run (fresh passes Start) (pcap_bytes h packets) ≡ final
+  pub gave : given (fresh passes Start) (pcap_bytes h packets) ≡ whole_payload (captures packets)
+  pub between : Between final
+  pub order_is : final.order ≡ h.order
+  pub fractions : final.nanoseconds ≡ h.nanoseconds
+  pub kept : Kept (fresh passes Start) final (length (pcap_bytes h packets)) (whole_count (captures packets)) (cut_count (captures packets))
+
+opened_kept : (passes : Bool) (h : PcapHeader) → Kept (fresh passes Start) (opened_file passes h) 24 0 0
+unfolding opened_file
+opened_kept passes h = kept_moved (fresh passes Start) (opened_file passes h) 24 refl refl refl refl
+
+fractions_of_file : (passes : Bool) (h : PcapHeader) → (opened_file passes h).nanoseconds ≡ h.nanoseconds
+unfolding opened_file
+fractions_of_file passes h = refl
+
+pub file_taken : (passes : Bool) (h : PcapHeader) (packets : List PcapPacket) → FitsHeader h → AllFitPackets passes packets → FileTook passes h packets
 file_taken passes h packets f g =
     let s = fresh passes Start in
     let b = header_bytes h in
+    let t = opened_file passes h in
     let rest = packets_bytes h.order packets in
     let one = header_taken passes h f in
-    let same : packets_bytes (opened_file passes h).order packets ≡ rest = ap (λ (o : ByteOrder). packets_bytes o packets) (order_of_file passes h) in
-    let more = packets_taken (opened_file passes h) packets (opened_between passes h) g in (
-      run-append s b rest ∙ ap (λ (v : Scan). run v rest) one.0 ∙ ap (run (opened_file passes h)) (sym same) ∙ more.0,
-      given-append s b rest ∙ ap (λ l. l ++ given (run s b) rest) one.1 ∙ ap (λ (v : Scan). given v rest) one.0 ∙ ap (given (opened_file passes h)) (sym same) ∙ more.1,
-      more.2,
-    )
+    let kept = opened_kept passes h in
+    let order = order_of_file passes h in
+    let more = subst (λ (o : ByteOrder). Took t (packets_bytes o packets) (captures packets)) order (packets_taken t packets (opened_between passes h) (subst (λ (v : Bool). AllFitPackets v packets) (sym kept.passes) g)) in
+    let size : 24 + length rest ≡ length (b ++ rest) = let l = length-append b rest in let k = head_size h f in omega (arith, l, k) in
+    let whole : 0 + whole_count (captures packets) ≡ whole_count (captures packets) = omega arith in
+    let cut : 0 + cut_count (captures packets) ≡ cut_count (captures packets) = omega arith in
+    record {
+      final = more.final;
+      ran = run-append s b rest ∙ ap (λ (v : Scan). run v rest) one.0 ∙ more.ran;
+      gave = given-append s b rest ∙ ap (λ l. l ++ given (run s b) rest) one.1 ∙ ap (λ (v : Scan). given v rest) one.0 ∙ more.gave;
+      between = more.between;
+      order_is = more.order_is ∙ order;
+      fractions = more.fractions ∙ fractions_of_file passes h;
+      kept = kept_as s more.final _ _ _ _ _ _ size whole cut (kept_then s t more.final 24 0 0 (length rest) (whole_count (captures packets)) (cut_count (captures packets)) kept more.kept);
+    }
 
 -- between two packets a file may end
 pub between_ends : (s : Scan) → Between s → ended s ≡ s
@@ -157,11 +184,14 @@ between_ends s b =
     let t : turn_of s ≡ Gathers = turn_gathers s.fault (is_raw s.head.stage) s.give s.skip b.unfaulted raw b.give b.skip in
     ap (λ (v : Turn). cond (may_end v s.head.stage s.head.bytes) s cut) t ∙ ap (λ (v : Heading). cond (may_end Gathers v.stage v.bytes) s cut) b.head
 
-pub pcap_whole : (passes : Bool) (h : PcapHeader) (packets : List PcapPacket) → FitsHeader h → AllFitPackets packets → IsRead passes (pcap_bytes h packets) (payload packets)
-pcap_whole passes h packets f g =
-    let whole = file_taken passes h packets f g in
-    let s = after_all (opened_file passes h) packets in
+pub pcap_read : (passes : Bool) (h : PcapHeader) (packets : List PcapPacket) → FitsHeader h → AllFitPackets passes packets → IsReadOf passes (pcap_bytes h packets) (captures packets)
+pcap_read passes h packets f g =
+    let t = file_taken passes h packets f g in
+    let none : 0 + cut_count (captures packets) ≡ cut_count (captures packets) = omega arith in
     record {
-      gives = whole.1;
-      unfaulted = ap (λ (v : Scan). (ended v).fault) whole.0 ∙ ap (λ (v : Scan). v.fault) (between_ends s whole.2) ∙ whole.2.unfaulted;
+      read = record {
+        gives = t.gave;
+        unfaulted = ap (λ (v : Scan). (ended v).fault) t.ran ∙ ap (λ (v : Scan). v.fault) (between_ends t.final t.between) ∙ t.between.unfaulted;
+      };
+      counted = ap (λ (v : Scan). v.cut) t.ran ∙ t.kept.cut refl ∙ ap place none;
     }

@@ -20,6 +20,7 @@ use Rattle.dbus_capture.specs.Heads.{magic, file_header, file_header_by, file_he
 use Rattle.dbus_capture.specs.Steps.{run, ended, given}
 use Rattle.dbus_capture.specs.PcapFiles.{PcapHeader, magic_number, header_bytes, packets_bytes}
 use Rattle.dbus_capture.specs.PcapFaults.{AreBytes, IsHeaderFault, IsPcapOutcome}
+use Rattle.dbus_capture.proofs.Choices.{eq_is, eq_not, cases_same}
 use Rattle.dbus_capture.proofs.NumberLaws.{part_after}
 use Rattle.dbus_capture.proofs.ByteLaws.{byte_at, bytes_front, bytes_back, u32_respelled}
 use Rattle.dbus_capture.proofs.StepLaws.{run-append, opens, given-append}
@@ -28,19 +29,6 @@ use Rattle.dbus_capture.proofs.PcapFileLaws.{head_size, decodes_header}
 use Rattle.dbus_capture.proofs.PcapFaultLaws.{Outcome, outcome_of, ended_cut, place_of, stopped_after, stopped_gives}
 
 -- ---- numbers
-
-pub eq_is : (a b : ℕ) → a ≡ b → nat_eq a b ≡ true
-eq_is a b e = grind (arith, e)
-
-pub eq_not : (a b : ℕ) → a ≢ b → nat_eq a b ≡ false
-eq_not a b n = elim (cases_lt a b) [ inl h ↦ grind (arith, h) | inr h ↦ elim (cases_lt b a) [ inl k ↦ grind (arith, k) | inr k ↦ absurd (n (omega (arith, h, k))) ] ]
-
-pub cases_same : (a b : ℕ) → (a ≡ b) ⊎ (a ≢ b)
-cases_same a b =
-    elim (cases_lt a b) [
-      | inl h ↦ inr (λ e. absurd (omega (arith, h, e)))
-      | inr h ↦ elim (cases_lt b a) [ inl k ↦ inr (λ e. absurd (omega (arith, k, e))) | inr k ↦ inl (omega (arith, h, k)) ]
-    ]
 
 -- ---- parts of the front
 
@@ -195,232 +183,233 @@ module _ (h m v w u d : List ℕ) (p : HeadParts h m v w u d) (are : AreBytes h)
 
 -- ---- what a header comes to
 
-abbrev pub header_state : Scan
-header_state = record (fresh false Start) { head = begun FileHeader }
+abbrev pub header_state : (passes_cut : Bool) → Scan
+header_state passes = record (fresh passes Start) { head = begun FileHeader }
 
-abbrev after_header : ByteOrder → Bool → Scan
-after_header o n = record header_state { head = begun Record; next = place 24; order = o; nanoseconds = n }
+abbrev after_header : (passes_cut : Bool) → ByteOrder → Bool → Scan
+after_header passes o n = record (header_state passes) { head = begun Record; next = place 24; order = o; nanoseconds = n }
 
-in_by : (h : List ℕ) (o : ByteOrder) (n a b c : Bool) → nat_eq (u16_at o 4 h) 2 ≡ a → nat_eq (u16_at o 6 h) 4 ≡ b → nat_eq (u32_at o 20 h) 231 ≡ c
-    → file_header_in header_state h o n ≡ cond (a && b) (cond c (after_header o n) (refused header_state 20 LinkType)) (refused header_state 4 Version)
-in_by h o n a b c p q r =
-    ap (λ (v : Bool). cond (v && (u16_at o 6 h == 4)) (cond (u32_at o 20 h == 231) (after_header o n) (refused header_state 20 LinkType)) (refused header_state 4 Version)) p
-    ∙ ap (λ (v : Bool). cond (a && v) (cond (u32_at o 20 h == 231) (after_header o n) (refused header_state 20 LinkType)) (refused header_state 4 Version)) q
-    ∙ ap (λ (v : Bool). cond (a && b) (cond v (after_header o n) (refused header_state 20 LinkType)) (refused header_state 4 Version)) r
+module _ (passes : Bool) where
+  in_by : (h : List ℕ) (o : ByteOrder) (n a b c : Bool) → nat_eq (u16_at o 4 h) 2 ≡ a → nat_eq (u16_at o 6 h) 4 ≡ b → nat_eq (u32_at o 20 h) 231 ≡ c
+      → file_header_in (header_state passes) h o n ≡ cond (a && b) (cond c ((after_header passes) o n) (refused (header_state passes) 20 LinkType)) (refused (header_state passes) 4 Version)
+  in_by h o n a b c p q r =
+      ap (λ (v : Bool). cond (v && (u16_at o 6 h == 4)) (cond (u32_at o 20 h == 231) ((after_header passes) o n) (refused (header_state passes) 20 LinkType)) (refused (header_state passes) 4 Version)) p
+      ∙ ap (λ (v : Bool). cond (a && v) (cond (u32_at o 20 h == 231) ((after_header passes) o n) (refused (header_state passes) 20 LinkType)) (refused (header_state passes) 4 Version)) q
+      ∙ ap (λ (v : Bool). cond (a && b) (cond v ((after_header passes) o n) (refused (header_state passes) 20 LinkType)) (refused (header_state passes) 4 Version)) r
 
-abbrev pub fault_told : List ℕ → Option CaptureFault
-fault_told bytes = (ended (run header_state bytes)).fault
+  abbrev pub fault_told : List ℕ → Option CaptureFault
+  fault_told bytes = (ended (run (header_state passes) bytes)).fault
 
-abbrev HasOutcome : List ℕ → Type 0
-HasOutcome bytes = IsPcapOutcome bytes (given header_state bytes) (fault_told bytes)
+  abbrev HasOutcome : List ℕ → Type 0
+  HasOutcome bytes = (IsPcapOutcome passes) bytes (given (header_state passes) bytes) (fault_told bytes)
 
--- the header has this fault at this place
-abbrev pub StopsAt : List ℕ → ℕ → CaptureReason → Type 0
-StopsAt bytes k reason = (given header_state bytes ≡ []) × (fault_told bytes ≡ Some (record { at = place k; reason = reason }))
+  -- the header has this fault at this place
+  abbrev pub StopsAt : List ℕ → ℕ → CaptureReason → Type 0
+  StopsAt bytes k reason = (given (header_state passes) bytes ≡ []) × (fault_told bytes ≡ Some (record { at = place k; reason = reason }))
 
-outcome_at : (bytes : List ℕ) (k : ℕ) (reason : CaptureReason) → IsHeaderFault bytes k reason → StopsAt bytes k reason → HasOutcome bytes
-outcome_at bytes k reason f (g, e) = subst (IsPcapOutcome bytes (given header_state bytes)) (sym e) (inl (record { within = k; faulty = f; at = refl; gives = g }))
+  outcome_at : (bytes : List ℕ) (k : ℕ) (reason : CaptureReason) → IsHeaderFault bytes k reason → StopsAt bytes k reason → HasOutcome bytes
+  outcome_at bytes k reason f (g, e) = subst ((IsPcapOutcome passes) bytes (given (header_state passes) bytes)) (sym e) (inl (record { within = k; faulty = f; at = refl; gives = g }))
 
--- less than a header
-short_stops : (bytes : List ℕ) → bytes ≢ [] → length bytes < 24 → StopsAt bytes (length bytes) Truncated
-short_stops [] some h = absurd (some refl)
-short_stops (x ∷ xs) some h =
-    let bytes = x ∷ xs in
-    let law = run_gathers header_state bytes refl refl refl refl (omega (arith, h)) in
-    let t : Scan = record header_state { head = record { stage = FileHeader; bytes = bytes } } in
-    let stop = ended_cut t refl in
-    (law.1, ap (λ (v : Scan). (ended v).fault) law.0 ∙ stop ∙ ap (λ (n : ℕ). Some (record { at = n; reason = Truncated })) (place_of 0 (length bytes) ∙ ap place (let z : 0 + length bytes ≡ length bytes = omega arith in z)))
+  -- less than a header
+  short_stops : (bytes : List ℕ) → bytes ≢ [] → length bytes < 24 → StopsAt bytes (length bytes) Truncated
+  short_stops [] some h = absurd (some refl)
+  short_stops (x ∷ xs) some h =
+      let bytes = x ∷ xs in
+      let law = run_gathers (header_state passes) bytes refl refl refl refl (omega (arith, h)) in
+      let t : Scan = record (header_state passes) { head = record { stage = FileHeader; bytes = bytes } } in
+      let stop = ended_cut t refl in
+      (law.1, ap (λ (v : Scan). (ended v).fault) law.0 ∙ stop ∙ ap (λ (n : ℕ). Some (record { at = n; reason = Truncated })) (place_of 0 (length bytes) ∙ ap place (let z : 0 + length bytes ≡ length bytes = omega arith in z)))
 
-short_head : (bytes : List ℕ) → bytes ≢ [] → length bytes < 24 → HasOutcome bytes
-short_head bytes some h = outcome_at bytes (length bytes) Truncated (refl, h) (short_stops bytes some h)
+  short_head : (bytes : List ℕ) → bytes ≢ [] → length bytes < 24 → HasOutcome bytes
+  short_head bytes some h = outcome_at bytes (length bytes) Truncated (refl, h) (short_stops bytes some h)
 
--- a header, and more
-module _ (front more : List ℕ) (size : length front ≡ 24) (are : AreBytes (front ++ more)) where
-  head_run : run header_state front ≡ file_header header_state front
-  head_run =
-      (run_head header_state front refl refl refl refl (λ e. let none : length front ≡ 0 = ap length e in absurd (omega (arith, size, none))) (omega (arith, size))).0
-      ∙ decodes_header header_state front refl
+  -- a header, and more
+  module _ (front more : List ℕ) (size : length front ≡ 24) (are : AreBytes (front ++ more)) where
+    head_run : run (header_state passes) front ≡ file_header (header_state passes) front
+    head_run =
+        (run_head (header_state passes) front refl refl refl refl (λ e. let none : length front ≡ 0 = ap length e in absurd (omega (arith, size, none))) (omega (arith, size))).0
+        ∙ decodes_header (header_state passes) front refl
 
-  head_gives : given header_state front ≡ []
-  head_gives = (run_head header_state front refl refl refl refl (λ e. let none : length front ≡ 0 = ap length e in absurd (omega (arith, size, none))) (omega (arith, size))).1
+    head_gives : given (header_state passes) front ≡ []
+    head_gives = (run_head (header_state passes) front refl refl refl refl (λ e. let none : length front ≡ 0 = ap length e in absurd (omega (arith, size, none))) (omega (arith, size))).1
 
-  long : 24 ≤ length (front ++ more)
-  long = let l = length-append front more in omega (arith, l, size)
+    long : 24 ≤ length (front ++ more)
+    long = let l = length-append front more in omega (arith, l, size)
 
-  stops : (k : ℕ) (reason : CaptureReason) → file_header header_state front ≡ refused header_state k reason → StopsAt (front ++ more) k reason
-  stops k reason e = (
-    stopped_gives header_state (refused header_state k reason) front more (record { at = place (0 + k); reason = reason }) (head_run ∙ e) head_gives refl,
-    stopped_after header_state (refused header_state k reason) front more (record { at = place (0 + k); reason = reason }) (head_run ∙ e) refl
-        ∙ ap (λ (n : ℕ). Some (record { at = place n; reason = reason })) (let z : 0 + k ≡ k = omega arith in z),
-  )
+    stops : (k : ℕ) (reason : CaptureReason) → file_header (header_state passes) front ≡ refused (header_state passes) k reason → StopsAt (front ++ more) k reason
+    stops k reason e = (
+      stopped_gives (header_state passes) (refused (header_state passes) k reason) front more (record { at = place (0 + k); reason = reason }) (head_run ∙ e) head_gives refl,
+      stopped_after (header_state passes) (refused (header_state passes) k reason) front more (record { at = place (0 + k); reason = reason }) (head_run ∙ e) refl
+          ∙ ap (λ (n : ℕ). Some (record { at = place n; reason = reason })) (let z : 0 + k ≡ k = omega arith in z),
+    )
 
-  stops_at : (k : ℕ) (reason : CaptureReason) → file_header header_state front ≡ refused header_state k reason → IsHeaderFault (front ++ more) k reason → HasOutcome (front ++ more)
-  stops_at k reason e f = outcome_at (front ++ more) k reason f (stops k reason e)
+    stops_at : (k : ℕ) (reason : CaptureReason) → file_header (header_state passes) front ≡ refused (header_state passes) k reason → IsHeaderFault (front ++ more) k reason → HasOutcome (front ++ more)
+    stops_at k reason e f = outcome_at (front ++ more) k reason f (stops k reason e)
 
-  magic_here : u32_at Little 0 (front ++ more) ≡ u32_at Little 0 front
-  magic_here = u32_in_front Little front more 0 (omega (arith, size))
+    magic_here : u32_at Little 0 (front ++ more) ≡ u32_at Little 0 front
+    magic_here = u32_in_front Little front more 0 (omega (arith, size))
 
-  no_magic : magic (u32_at Little 0 front) ≡ None → HasOutcome (front ++ more)
-  no_magic e = stops_at 0 Magic (ap (file_header_by header_state front) e) (refl, long, ap magic magic_here ∙ e)
+    no_magic : magic (u32_at Little 0 front) ≡ None → HasOutcome (front ++ more)
+    no_magic e = stops_at 0 Magic (ap (file_header_by (header_state passes) front) e) (refl, long, ap magic magic_here ∙ e)
 
-  module _ (o : ByteOrder) (n : Bool) (told : magic (u32_at Little 0 front) ≡ Some (o, n)) where
-    told_here : magic (u32_at Little 0 (front ++ more)) ≡ Some (o, n)
-    told_here = ap magic magic_here ∙ told
+    module _ (o : ByteOrder) (n : Bool) (told : magic (u32_at Little 0 front) ≡ Some (o, n)) where
+      told_here : magic (u32_at Little 0 (front ++ more)) ≡ Some (o, n)
+      told_here = ap magic magic_here ∙ told
 
-    major_here : u16_at o 4 (front ++ more) ≡ u16_at o 4 front
-    major_here = u16_in_front o front more 4 (omega (arith, size))
+      major_here : u16_at o 4 (front ++ more) ≡ u16_at o 4 front
+      major_here = u16_in_front o front more 4 (omega (arith, size))
 
-    minor_here : u16_at o 6 (front ++ more) ≡ u16_at o 6 front
-    minor_here = u16_in_front o front more 6 (omega (arith, size))
+      minor_here : u16_at o 6 (front ++ more) ≡ u16_at o 6 front
+      minor_here = u16_in_front o front more 6 (omega (arith, size))
 
-    link_here : u32_at o 20 (front ++ more) ≡ u32_at o 20 front
-    link_here = u32_in_front o front more 20 (omega (arith, size))
+      link_here : u32_at o 20 (front ++ more) ≡ u32_at o 20 front
+      link_here = u32_in_front o front more 20 (omega (arith, size))
 
-    major_refused : u16_at o 4 front ≢ 2 → file_header header_state front ≡ refused header_state 4 Version
-    major_refused d = ap (file_header_by header_state front) told ∙ in_by front o n false (nat_eq (u16_at o 6 front) 4) (nat_eq (u32_at o 20 front) 231) (eq_not _ _ d) refl refl
+      major_refused : u16_at o 4 front ≢ 2 → file_header (header_state passes) front ≡ refused (header_state passes) 4 Version
+      major_refused d = ap (file_header_by (header_state passes) front) told ∙ in_by front o n false (nat_eq (u16_at o 6 front) 4) (nat_eq (u32_at o 20 front) 231) (eq_not _ _ d) refl refl
 
-    no_major : u16_at o 4 front ≢ 2 → HasOutcome (front ++ more)
-    no_major d =
-        stops_at 4 Version (major_refused d)
-        (refl, long, o, n, told_here, inl (λ e. d (sym major_here ∙ e)))
+      no_major : u16_at o 4 front ≢ 2 → HasOutcome (front ++ more)
+      no_major d =
+          stops_at 4 Version (major_refused d)
+          (refl, long, o, n, told_here, inl (λ e. d (sym major_here ∙ e)))
 
-    minor_refused : u16_at o 4 front ≡ 2 → u16_at o 6 front ≢ 4 → file_header header_state front ≡ refused header_state 4 Version
-    minor_refused a d = ap (file_header_by header_state front) told ∙ in_by front o n true false (nat_eq (u32_at o 20 front) 231) (eq_is _ _ a) (eq_not _ _ d) refl
+      minor_refused : u16_at o 4 front ≡ 2 → u16_at o 6 front ≢ 4 → file_header (header_state passes) front ≡ refused (header_state passes) 4 Version
+      minor_refused a d = ap (file_header_by (header_state passes) front) told ∙ in_by front o n true false (nat_eq (u32_at o 20 front) 231) (eq_is _ _ a) (eq_not _ _ d) refl
 
-    no_minor : u16_at o 4 front ≡ 2 → u16_at o 6 front ≢ 4 → HasOutcome (front ++ more)
-    no_minor a d =
-        stops_at 4 Version (minor_refused a d)
-        (refl, long, o, n, told_here, inr (λ e. d (sym minor_here ∙ e)))
+      no_minor : u16_at o 4 front ≡ 2 → u16_at o 6 front ≢ 4 → HasOutcome (front ++ more)
+      no_minor a d =
+          stops_at 4 Version (minor_refused a d)
+          (refl, long, o, n, told_here, inr (λ e. d (sym minor_here ∙ e)))
 
-    link_refused : u16_at o 4 front ≡ 2 → u16_at o 6 front ≡ 4 → u32_at o 20 front ≢ 231 → file_header header_state front ≡ refused header_state 20 LinkType
-    link_refused a b d = ap (file_header_by header_state front) told ∙ in_by front o n true true false (eq_is _ _ a) (eq_is _ _ b) (eq_not _ _ d)
+      link_refused : u16_at o 4 front ≡ 2 → u16_at o 6 front ≡ 4 → u32_at o 20 front ≢ 231 → file_header (header_state passes) front ≡ refused (header_state passes) 20 LinkType
+      link_refused a b d = ap (file_header_by (header_state passes) front) told ∙ in_by front o n true true false (eq_is _ _ a) (eq_is _ _ b) (eq_not _ _ d)
 
-    no_link : u16_at o 4 front ≡ 2 → u16_at o 6 front ≡ 4 → u32_at o 20 front ≢ 231 → HasOutcome (front ++ more)
-    no_link a b d =
-        stops_at 20 LinkType (link_refused a b d)
-        (refl, long, o, n, told_here, major_here ∙ a, minor_here ∙ b, (λ e. d (sym link_here ∙ e)))
+      no_link : u16_at o 4 front ≡ 2 → u16_at o 6 front ≡ 4 → u32_at o 20 front ≢ 231 → HasOutcome (front ++ more)
+      no_link a b d =
+          stops_at 20 LinkType (link_refused a b d)
+          (refl, long, o, n, told_here, major_here ∙ a, minor_here ∙ b, (λ e. d (sym link_here ∙ e)))
 
-    version_refused : (u16_at o 4 (front ++ more) ≢ 2) ⊎ (u16_at o 6 (front ++ more) ≢ 4) → file_header header_state front ≡ refused header_state 4 Version
-    version_refused (inl d) = major_refused (λ e. d (major_here ∙ e))
-    version_refused (inr d) = elim (cases_same (u16_at o 4 front) 2) [ inr c ↦ major_refused c | inl a ↦ minor_refused a (λ e. d (minor_here ∙ e)) ]
+      version_refused : (u16_at o 4 (front ++ more) ≢ 2) ⊎ (u16_at o 6 (front ++ more) ≢ 4) → file_header (header_state passes) front ≡ refused (header_state passes) 4 Version
+      version_refused (inl d) = major_refused (λ e. d (major_here ∙ e))
+      version_refused (inr d) = elim (cases_same (u16_at o 4 front) 2) [ inr c ↦ major_refused c | inl a ↦ minor_refused a (λ e. d (minor_here ∙ e)) ]
 
-    module _ (u : List ℕ) (unread : length u ≡ 12) (spelled : front ≡ header_bytes (record { order = o; nanoseconds = n; unread = u })) (reads : file_header header_state front ≡ after_header o n) where
-      run_on : run header_state (front ++ more) ≡ run (after_header o n) more
-      run_on = run-append header_state front more ∙ ap (λ (v : Scan). run v more) (head_run ∙ reads)
+      module _ (u : List ℕ) (unread : length u ≡ 12) (spelled : front ≡ header_bytes (record { order = o; nanoseconds = n; unread = u })) (reads : file_header (header_state passes) front ≡ (after_header passes) o n) where
+        run_on : run (header_state passes) (front ++ more) ≡ run ((after_header passes) o n) more
+        run_on = run-append (header_state passes) front more ∙ ap (λ (v : Scan). run v more) (head_run ∙ reads)
 
-      given_on : given header_state (front ++ more) ≡ given (after_header o n) more
-      given_on = given-append header_state front more ∙ ap (λ l. l ++ given (run header_state front) more) head_gives ∙ ap (λ (v : Scan). given v more) (head_run ∙ reads)
+        given_on : given (header_state passes) (front ++ more) ≡ given ((after_header passes) o n) more
+        given_on = given-append (header_state passes) front more ∙ ap (λ l. l ++ given (run (header_state passes) front) more) head_gives ∙ ap (λ (v : Scan). given v more) (head_run ∙ reads)
 
-      told_by : Outcome (after_header o n) more → HasOutcome (front ++ more)
-      told_by (inl w) =
-          subst (IsPcapOutcome (front ++ more) (given header_state (front ++ more))) (sym (ap (λ (v : Scan). (ended v).fault) run_on ∙ w.ends))
-          (record {
-            head = record { order = o; nanoseconds = n; unread = u };
-            packets = w.packets;
-            fits = record { unread = unread };
-            fit = w.fit;
-            joined = ap (λ (l : List ℕ). l ++ more) spelled ∙ ap (λ (l : List ℕ). header_bytes (record { order = o; nanoseconds = n; unread = u }) ++ l) w.joined;
-            gives = given_on ∙ w.gives;
-          })
-      told_by (inr w) =
-          let h : PcapHeader = record { order = o; nanoseconds = n; unread = u } in
-          let tail = packets_bytes o w.packets in
-          let l = length-append (header_bytes h) tail in
-          let k = head_size h (record { unread = unread }) in
-          let total : 24 + (length tail + w.within) ≡ length (header_bytes h ++ tail) + w.within = omega (arith, l, k) in
-          subst (IsPcapOutcome (front ++ more) (given header_state (front ++ more))) (sym (ap (λ (v : Scan). (ended v).fault) run_on ∙ w.ends))
-          (inr (record {
-            head = h;
-            packets = w.packets;
-            rest = w.rest;
-            within = w.within;
-            fits = record { unread = unread };
-            fit = w.fit;
-            joined = ap (λ (l : List ℕ). l ++ more) spelled ∙ ap (λ (l : List ℕ). header_bytes h ++ l) w.joined ∙ sym (append_assoc (header_bytes h) tail w.rest);
-            faulty = w.faulty;
-            at = ap place total;
-            gives = given_on ∙ w.gives;
-          }))
+        told_by : Outcome ((after_header passes) o n) more → HasOutcome (front ++ more)
+        told_by (inl w) =
+            subst ((IsPcapOutcome passes) (front ++ more) (given (header_state passes) (front ++ more))) (sym (ap (λ (v : Scan). (ended v).fault) run_on ∙ w.ends))
+            (record {
+              head = record { order = o; nanoseconds = n; unread = u };
+              packets = w.packets;
+              fits = record { unread = unread };
+              fit = w.fit;
+              joined = ap (λ (l : List ℕ). l ++ more) spelled ∙ ap (λ (l : List ℕ). header_bytes (record { order = o; nanoseconds = n; unread = u }) ++ l) w.joined;
+              gives = given_on ∙ w.gives;
+            })
+        told_by (inr w) =
+            let h : PcapHeader = record { order = o; nanoseconds = n; unread = u } in
+            let tail = packets_bytes o w.packets in
+            let l = length-append (header_bytes h) tail in
+            let k = head_size h (record { unread = unread }) in
+            let total : 24 + (length tail + w.within) ≡ length (header_bytes h ++ tail) + w.within = omega (arith, l, k) in
+            subst ((IsPcapOutcome passes) (front ++ more) (given (header_state passes) (front ++ more))) (sym (ap (λ (v : Scan). (ended v).fault) run_on ∙ w.ends))
+            (inr (record {
+              head = h;
+              packets = w.packets;
+              rest = w.rest;
+              within = w.within;
+              fits = record { unread = unread };
+              fit = w.fit;
+              joined = ap (λ (l : List ℕ). l ++ more) spelled ∙ ap (λ (l : List ℕ). header_bytes h ++ l) w.joined ∙ sym (append_assoc (header_bytes h) tail w.rest);
+              faulty = w.faulty;
+              at = ap place total;
+              gives = given_on ∙ w.gives;
+            }))
 
-    goes_on : u16_at o 4 front ≡ 2 → u16_at o 6 front ≡ 4 → u32_at o 20 front ≡ 231 → HasOutcome (front ++ more)
-    goes_on a b c =
-        let parts = head_parts front size in
-        let u = take 12 (drop 2 (drop 2 (drop 4 front))) in
-        told_by u parts.unread
-        (head_respelled front (take 4 front) (take 2 (drop 4 front)) (take 2 (drop 2 (drop 4 front))) u (drop 12 (drop 2 (drop 2 (drop 4 front)))) parts (bytes_front front more are) o n told a b c)
-        (ap (file_header_by header_state front) told ∙ in_by front o n true true true (eq_is _ _ a) (eq_is _ _ b) (eq_is _ _ c))
-        (outcome_of (suc (length more)) (after_header o n) more (omega arith) (record { unfaulted = refl; head = refl; give = refl; skip = refl }) refl (bytes_back front more are))
+      goes_on : u16_at o 4 front ≡ 2 → u16_at o 6 front ≡ 4 → u32_at o 20 front ≡ 231 → HasOutcome (front ++ more)
+      goes_on a b c =
+          let parts = head_parts front size in
+          let u = take 12 (drop 2 (drop 2 (drop 4 front))) in
+          told_by u parts.unread
+          (head_respelled front (take 4 front) (take 2 (drop 4 front)) (take 2 (drop 2 (drop 4 front))) u (drop 12 (drop 2 (drop 2 (drop 4 front)))) parts (bytes_front front more are) o n told a b c)
+          (ap (file_header_by (header_state passes) front) told ∙ in_by front o n true true true (eq_is _ _ a) (eq_is _ _ b) (eq_is _ _ c))
+          (outcome_of (suc (length more)) ((after_header passes) o n) more (omega arith) (record { unfaulted = refl; head = refl; give = refl; skip = refl }) refl (bytes_back front more are))
 
-    by_version : HasOutcome (front ++ more)
-    by_version =
-        elim (cases_same (u16_at o 4 front) 2) [
-          | inr d ↦ no_major d
-          | inl a ↦ elim (cases_same (u16_at o 6 front) 4) [
-            | inr d ↦ no_minor a d
-            | inl b ↦ elim (cases_same (u32_at o 20 front) 231) [ inr d ↦ no_link a b d | inl c ↦ goes_on a b c ]
+      by_version : HasOutcome (front ++ more)
+      by_version =
+          elim (cases_same (u16_at o 4 front) 2) [
+            | inr d ↦ no_major d
+            | inl a ↦ elim (cases_same (u16_at o 6 front) 4) [
+              | inr d ↦ no_minor a d
+              | inl b ↦ elim (cases_same (u32_at o 20 front) 231) [ inr d ↦ no_link a b d | inl c ↦ goes_on a b c ]
+            ]
           ]
-        ]
 
-  -- the fault that such a header has is told
-  pub header_told : (k : ℕ) (reason : CaptureReason) → IsHeaderFault (front ++ more) k reason → StopsAt (front ++ more) k reason
-  header_told k Truncated f = let l = long in let h = f.1 in absurd (omega (arith, l, h))
-  header_told k Magic f = subst (λ (n : ℕ). StopsAt (front ++ more) n Magic) (sym f.0) (stops 0 Magic (ap (file_header_by header_state front) (ap magic (sym magic_here) ∙ f.2)))
-  header_told k Version (at, there, o, n, told, bad) = subst (λ (v : ℕ). StopsAt (front ++ more) v Version) (sym at) (stops 4 Version (version_refused o n (ap magic (sym magic_here) ∙ told) bad))
-  header_told k LinkType (at, there, o, n, told, a, b, d) =
-      let here = ap magic (sym magic_here) ∙ told in
-      subst (λ (v : ℕ). StopsAt (front ++ more) v LinkType) (sym at)
-      (stops 20 LinkType (link_refused o n here (sym (major_here o n here) ∙ a) (sym (minor_here o n here) ∙ b) (λ e. d (link_here o n here ∙ e))))
-  header_told k Lengths f = absurd f
-  header_told k PacketCut f = absurd f
-  header_told k BlockLength f = absurd f
-  header_told k BlockLengths f = absurd f
-  header_told k OrderMark f = absurd f
-  header_told k OptionLength f = absurd f
-  header_told k TooManyInterfaces f = absurd f
-  header_told k NoInterface f = absurd f
+    -- the fault that such a header has is told
+    pub header_told : (k : ℕ) (reason : CaptureReason) → IsHeaderFault (front ++ more) k reason → StopsAt (front ++ more) k reason
+    header_told k Truncated f = let l = long in let h = f.1 in absurd (omega (arith, l, h))
+    header_told k Magic f = subst (λ (n : ℕ). StopsAt (front ++ more) n Magic) (sym f.0) (stops 0 Magic (ap (file_header_by (header_state passes) front) (ap magic (sym magic_here) ∙ f.2)))
+    header_told k Version (at, there, o, n, told, bad) = subst (λ (v : ℕ). StopsAt (front ++ more) v Version) (sym at) (stops 4 Version (version_refused o n (ap magic (sym magic_here) ∙ told) bad))
+    header_told k LinkType (at, there, o, n, told, a, b, d) =
+        let here = ap magic (sym magic_here) ∙ told in
+        subst (λ (v : ℕ). StopsAt (front ++ more) v LinkType) (sym at)
+        (stops 20 LinkType (link_refused o n here (sym (major_here o n here) ∙ a) (sym (minor_here o n here) ∙ b) (λ e. d (link_here o n here ∙ e))))
+    header_told k Lengths f = absurd f
+    header_told k PacketCut f = absurd f
+    header_told k BlockLength f = absurd f
+    header_told k BlockLengths f = absurd f
+    header_told k OrderMark f = absurd f
+    header_told k OptionLength f = absurd f
+    header_told k TooManyInterfaces f = absurd f
+    header_told k NoInterface f = absurd f
 
-  by_magic : (m : Option (ByteOrder × Bool)) → magic (u32_at Little 0 front) ≡ m → HasOutcome (front ++ more)
-  by_magic None e = no_magic e
-  by_magic (Some m) e = by_version m.0 m.1 e
+    by_magic : (m : Option (ByteOrder × Bool)) → magic (u32_at Little 0 front) ≡ m → HasOutcome (front ++ more)
+    by_magic None e = no_magic e
+    by_magic (Some m) e = by_version m.0 m.1 e
 
--- the fault of a header is told
-pub head_told : (bytes : List ℕ) (k : ℕ) (reason : CaptureReason) → bytes ≢ [] → AreBytes bytes → IsHeaderFault bytes k reason → StopsAt bytes k reason
-head_told bytes k reason some are f =
-    elim (cases_lt (length bytes) 24) [
-      | inl short ↦ cut_told reason f short
-      | inr enough ↦
-          let size = length-take-le 24 bytes enough in
-          let both = take-append-drop 24 bytes in
-          subst (λ (l : List ℕ). StopsAt l k reason) both
-          (header_told (take 24 bytes) (drop 24 bytes) size (subst AreBytes (sym both) are) k reason (subst (λ (l : List ℕ). IsHeaderFault l k reason) (sym both) f))
-    ]
-  where
-    cut_told : (reason : CaptureReason) → IsHeaderFault bytes k reason → length bytes < 24 → StopsAt bytes k reason
-    cut_told Truncated f short = subst (λ (n : ℕ). StopsAt bytes n Truncated) (sym f.0) (short_stops bytes some short)
-    cut_told Magic f short = let l = f.1 in absurd (omega (arith, l, short))
-    cut_told Version f short = let l = f.1 in absurd (omega (arith, l, short))
-    cut_told LinkType f short = let l = f.1 in absurd (omega (arith, l, short))
-    cut_told Lengths f short = absurd f
-    cut_told PacketCut f short = absurd f
-    cut_told BlockLength f short = absurd f
-    cut_told BlockLengths f short = absurd f
-    cut_told OrderMark f short = absurd f
-    cut_told OptionLength f short = absurd f
-    cut_told TooManyInterfaces f short = absurd f
-    cut_told NoInterface f short = absurd f
+  -- the fault of a header is told
+  pub head_told : (bytes : List ℕ) (k : ℕ) (reason : CaptureReason) → bytes ≢ [] → AreBytes bytes → IsHeaderFault bytes k reason → StopsAt bytes k reason
+  head_told bytes k reason some are f =
+      elim (cases_lt (length bytes) 24) [
+        | inl short ↦ cut_told reason f short
+        | inr enough ↦
+            let size = length-take-le 24 bytes enough in
+            let both = take-append-drop 24 bytes in
+            subst (λ (l : List ℕ). StopsAt l k reason) both
+            (header_told (take 24 bytes) (drop 24 bytes) size (subst AreBytes (sym both) are) k reason (subst (λ (l : List ℕ). IsHeaderFault l k reason) (sym both) f))
+      ]
+    where
+      cut_told : (reason : CaptureReason) → IsHeaderFault bytes k reason → length bytes < 24 → StopsAt bytes k reason
+      cut_told Truncated f short = subst (λ (n : ℕ). StopsAt bytes n Truncated) (sym f.0) (short_stops bytes some short)
+      cut_told Magic f short = let l = f.1 in absurd (omega (arith, l, short))
+      cut_told Version f short = let l = f.1 in absurd (omega (arith, l, short))
+      cut_told LinkType f short = let l = f.1 in absurd (omega (arith, l, short))
+      cut_told Lengths f short = absurd f
+      cut_told PacketCut f short = absurd f
+      cut_told BlockLength f short = absurd f
+      cut_told BlockLengths f short = absurd f
+      cut_told OrderMark f short = absurd f
+      cut_told OptionLength f short = absurd f
+      cut_told TooManyInterfaces f short = absurd f
+      cut_told NoInterface f short = absurd f
 
 -- bytes that begin as a file does
-pub pcap_outcome : (x : ℕ) (xs : List ℕ) → AreBytes (x ∷ xs) → first_stage x ≡ FileHeader
-    → IsPcapOutcome (x ∷ xs) (given (fresh false Start) (x ∷ xs)) (ended (run (fresh false Start) (x ∷ xs))).fault
-pcap_outcome x xs are first =
+pub pcap_outcome : (passes : Bool) (x : ℕ) (xs : List ℕ) → AreBytes (x ∷ xs) → first_stage x ≡ FileHeader
+    → IsPcapOutcome passes (x ∷ xs) (given (fresh passes Start) (x ∷ xs)) (ended (run (fresh passes Start) (x ∷ xs))).fault
+pcap_outcome passes x xs are first =
     let bytes = x ∷ xs in
-    let opening = opens (fresh false Start) header_state x xs (ap (λ (t : Stage). record (fresh false Start) { head = begun t }) first) refl in
-    subst (λ (l : List ℕ). IsPcapOutcome bytes l (ended (run (fresh false Start) bytes)).fault) (sym opening.1)
-    (subst (λ (v : Scan). IsPcapOutcome bytes (given header_state bytes) (ended v).fault) (sym opening.0)
+    let opening = opens (fresh passes Start) (header_state passes) x xs (ap (λ (t : Stage). record (fresh passes Start) { head = begun t }) first) refl in
+    subst (λ (l : List ℕ). IsPcapOutcome passes bytes l (ended (run (fresh passes Start) bytes)).fault) (sym opening.1)
+    (subst (λ (v : Scan). IsPcapOutcome passes bytes (given (header_state passes) bytes) (ended v).fault) (sym opening.0)
     (elim (cases_lt (length bytes) 24) [
-      | inl short ↦ short_head bytes (λ e. cc) short
+      | inl short ↦ short_head passes bytes (λ e. cc) short
       | inr enough ↦
           let size = length-take-le 24 bytes enough in
-          subst HasOutcome (take-append-drop 24 bytes)
-          (by_magic (take 24 bytes) (drop 24 bytes) size (subst AreBytes (sym (take-append-drop 24 bytes)) are) (magic (u32_at Little 0 (take 24 bytes))) refl)
+          subst (HasOutcome passes) (take-append-drop 24 bytes)
+          (by_magic passes (take 24 bytes) (drop 24 bytes) size (subst AreBytes (sym (take-append-drop 24 bytes)) are) (magic (u32_at Little 0 (take 24 bytes))) refl)
     ]))

@@ -19,9 +19,9 @@ use Rattle.dbus_capture.specs.Steps.{run}
 use Rattle.dbus_capture.specs.PcapFaults.{AreBytes}
 use Rattle.dbus_capture.specs.BlockFiles.{FitsBody, framed_bytes, FileSection, section_body, FitsSection}
 use Rattle.dbus_capture.specs.BlockFaults.{HasLength, HasNoLength, HasOrder, IsVersion, IsSectionHead, IsSectionFault}
+use Rattle.dbus_capture.proofs.Choices.{eq_is, eq_not, cases_same, both_true, when_true, when_false}
 use Rattle.dbus_capture.proofs.HeadLaws.{run_head}
-use Rattle.dbus_capture.proofs.PcapOutcomes.{eq_is, eq_not, cases_same}
-use Rattle.dbus_capture.proofs.BlockTurns.{when_true, when_false, both_true, takes_head, length_ok}
+use Rattle.dbus_capture.proofs.BlockTurns.{takes_head, length_ok}
 use Rattle.dbus_capture.proofs.SectionLaws.{minor_ok, decodes_section}
 use Rattle.dbus_capture.proofs.WordLaws.{u32_within, u16_within, u32_low, word, half_first, parts}
 use Rattle.dbus_capture.proofs.EndLaws.{FailsAt, fails_now, fails_as, place_more, within_held, Reached, reach_more, fails_from}

@@ -17,12 +17,12 @@ use Rattle.dbus_capture.specs.BlockFiles.{FitsBody, framed_bytes, FileBlock, Int
 use Rattle.dbus_capture.specs.CutPackets.{Captured, whole_payload}
 use Rattle.dbus_capture.specs.BlockPackets.{block_packets, blocks_packets, sections_packets}
 use Rattle.dbus_capture.specs.BlockFaults.{interfaces_all, last_section}
+use Rattle.dbus_capture.proofs.Choices.{eq_is, both_true, when_true}
 use Rattle.dbus_capture.proofs.KeptLaws.{kept_then, kept_as, kept_moved, kept_still, payload_both, whole_both, cut_both}
 use Rattle.dbus_capture.proofs.NumberLaws.{u32_size, u16_size, u32_after, u16_after, part_after}
 use Rattle.dbus_capture.proofs.StepLaws.{run-append, given-append, opens, turn_gathers}
 use Rattle.dbus_capture.proofs.HeadLaws.{run_head}
-use Rattle.dbus_capture.proofs.PcapOutcomes.{eq_is}
-use Rattle.dbus_capture.proofs.BlockTurns.{when_true, both_true, length_ok, takes_head}
+use Rattle.dbus_capture.proofs.BlockTurns.{length_ok, takes_head}
 use Rattle.dbus_capture.proofs.BlockLaws.{Went, Took, Takes, goes_on, respell, counts_as, went, framed_size, other_read, enhanced_read, obsolete_read, simple_read}
 use Rattle.dbus_capture.proofs.InterfaceLaws.{interface_read}
 

@@ -17,8 +17,8 @@ use Rattle.dbus_capture.specs.Steps.{Gathers, run, may_end, given}
 use Rattle.dbus_capture.specs.Reading.{Ready, InSection}
 use Rattle.dbus_capture.specs.PcapFaults.{AreBytes}
 use Rattle.dbus_capture.specs.BlockFiles.{FitsBody, framed_bytes}
-use Rattle.dbus_capture.proofs.PcapOutcomes.{eq_is, eq_not}
-use Rattle.dbus_capture.proofs.BlockTurns.{when_true, when_false, takes_head, passes}
+use Rattle.dbus_capture.proofs.Choices.{eq_is, eq_not, when_true, when_false}
+use Rattle.dbus_capture.proofs.BlockTurns.{takes_head, passes}
 use Rattle.dbus_capture.proofs.WordLaws.{u32_within, word, word_first}
 use Rattle.dbus_capture.proofs.EndLaws.{FailsAt, fails_after, fails_now, fails_as, place_more, ends_within, Reached, reach_more, fails_from}
 

@@ -4,7 +4,8 @@ use Rattle.dbus_device.specs.declared.packet.Packet.{Packet}
 use Rattle.dbus_device.specs.declared.device_fault.DeviceFault.{DeviceFault}
 use Rattle.dbus_capture.specs.Scans.{place}
 use Rattle.dbus_capture.specs.Heads.{record_time}
-use Rattle.dbus_capture.specs.PcapFiles.{PcapHeader, PcapPacket, pcap_bytes}
+use Rattle.dbus_capture.specs.CutPackets.{whole_count}
+use Rattle.dbus_capture.specs.PcapFiles.{PcapHeader, PcapPacket, pcap_bytes, captures}
 use Rattle.dbus_capture.specs.declared.byte_order.ByteOrder.{ByteOrder}
 use Rattle.dbus_capture.specs.declared.interface.Interface.{Interface}
 use Rattle.dbus_capture.specs.declared.scan.Scan.{Scan}
@@ -24,10 +25,10 @@ last_packet (Err e) began before = before
 abbrev pub Reports : Scan → Packet → Type 0
 Reports s packet = s.packet ≡ Some packet
 
--- of the packet that follows these
+-- of the packet that follows these; those that were cut have no number
 abbrev pub pcap_packet_reported : PcapHeader → List PcapPacket → PcapPacket → Packet
 pcap_packet_reported h packets p = record {
-  number = place (length packets + 1);
+  number = place (whole_count (captures packets) + 1);
   at = place (length (pcap_bytes h packets));
   time = Some (record_time h.nanoseconds p.seconds p.fraction);
   length = length p.bytes;

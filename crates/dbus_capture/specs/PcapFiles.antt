@@ -3,6 +3,7 @@
 use Rattle.std.specs.Prelude.{◌≡◌, ℕ, ◌<◌, ◌^◌, Bool, true, false, List, [], ◌∷◌, ◌++◌, length}
 use Rattle.dbus_capture.specs.declared.byte_order.ByteOrder.{ByteOrder}
 use Rattle.dbus_capture.specs.Numbers.{u32_bytes, u16_bytes}
+use Rattle.dbus_capture.specs.CutPackets.{Captured, IsCaptured}
 
 -- What the header of a file says. The twelve bytes of its two reserved fields and its snap length
 -- may be any.
@@ -12,10 +13,11 @@ pub record PcapHeader : Type 0 where
   pub nanoseconds : Bool
   pub unread : List ℕ
 
--- a packet that was captured whole
+-- a packet that had so many bytes, of which these were captured
 pub record PcapPacket : Type 0 where
   pub seconds : ℕ
   pub fraction : ℕ
+  pub original : ℕ
   pub bytes : List ℕ
 
 abbrev pub magic_number : Bool → ℕ
@@ -28,7 +30,7 @@ header_bytes h = u32_bytes h.order (magic_number h.nanoseconds) ++ (u16_bytes h.
 
 -- the header of a packet
 abbrev pub packet_header_bytes : ByteOrder → PcapPacket → List ℕ
-packet_header_bytes order p = u32_bytes order p.seconds ++ (u32_bytes order p.fraction ++ (u32_bytes order (length p.bytes) ++ u32_bytes order (length p.bytes)))
+packet_header_bytes order p = u32_bytes order p.seconds ++ (u32_bytes order p.fraction ++ (u32_bytes order (length p.bytes) ++ u32_bytes order p.original))
 
 abbrev pub packets_bytes : ByteOrder → List PcapPacket → List ℕ
 packets_bytes order [] = []
@@ -38,20 +40,21 @@ packets_bytes order (p ∷ packets) = packet_header_bytes order p ++ (p.bytes ++
 abbrev pub pcap_bytes : PcapHeader → List PcapPacket → List ℕ
 pcap_bytes h packets = header_bytes h ++ packets_bytes h.order packets
 
--- the bytes of its packets
-abbrev pub payload : List PcapPacket → List ℕ
-payload [] = []
-payload (p ∷ packets) = p.bytes ++ payload packets
+-- how its packets were captured
+abbrev pub captures : List PcapPacket → List Captured
+captures [] = []
+captures (p ∷ packets) = record { original = p.original; bytes = p.bytes } ∷ captures packets
 
 -- what has a spelling
 pub record FitsHeader (h : PcapHeader) : Type 0 where
   pub unread : length h.unread ≡ 12
 
-pub record FitsPacket (p : PcapPacket) : Type 0 where
+pub record FitsPacket (passes_cut : Bool) (p : PcapPacket) : Type 0 where
   pub seconds : p.seconds < 2 ^ 32
   pub fraction : p.fraction < 2 ^ 32
-  pub length : length p.bytes < 2 ^ 32
+  pub original : p.original < 2 ^ 32
+  pub captured : IsCaptured passes_cut p.original (length p.bytes)
 
-abbrev pub AllFitPackets : List PcapPacket → Type 0
-AllFitPackets [] = Unit {0}
-AllFitPackets (p ∷ packets) = FitsPacket p × AllFitPackets packets
+abbrev pub AllFitPackets : (passes_cut : Bool) → List PcapPacket → Type 0
+AllFitPackets passes_cut [] = Unit {0}
+AllFitPackets passes_cut (p ∷ packets) = FitsPacket passes_cut p × AllFitPackets passes_cut packets

@@ -4,15 +4,15 @@
 //! clause `part`.
 //!
 //! [`Source::read`]: dbus_device::Source::read
-ghost use Rattle.std.specs.Prelude.{◌≡◌, ◌<◌, ◌+◌, ℕ, ◌++◌, List, [], ◌∷◌, length, Bool, false, Option, Some, None, slice_get};
+ghost use Rattle.std.specs.Prelude.{◌≡◌, ◌<◌, ◌+◌, ℕ, ◌++◌, List, [], ◌∷◌, length, Bool, true, false, Option, Some, None, slice_get};
 ghost use Rattle.dbus_capture.specs.Stages.{first_stage, IsFirstOfStream};
 ghost use Rattle.dbus_capture.specs.Scans.{fresh};
 ghost use Rattle.dbus_capture.specs.Steps.{run, given, packet_given, ended};
-ghost use Rattle.dbus_capture.specs.Reading.{IsRead};
-ghost use Rattle.dbus_capture.specs.PcapFiles.{PcapHeader, PcapPacket, FitsHeader, FitsPacket, AllFitPackets, packet_header_bytes, pcap_bytes, payload};
+ghost use Rattle.dbus_capture.specs.Reading.{IsRead, IsReadOf};
+ghost use Rattle.dbus_capture.specs.PcapFiles.{PcapHeader, PcapPacket, FitsHeader, FitsPacket, AllFitPackets, packet_header_bytes, pcap_bytes, captures};
 ghost use Rattle.dbus_capture.specs.BlockFiles.{FileBlock, FitsBlock, FitsBody, block_body, FileSection, FitsSectionIf, AllFitSectionsIf, FitsSection, AllFitSections, sections_bytes, sections_payload};
 ghost use Rattle.dbus_capture.specs.PcapFaults.{AreBytes, IsPcapOutcome};
-ghost use Rattle.dbus_capture.specs.CutPackets.{CutPacket, AllFitCutPackets, cut_pcap_bytes, captures, IsReadPast};
+ghost use Rattle.dbus_capture.specs.CutPackets.{whole_payload};
 ghost use Rattle.dbus_capture.specs.BlockPackets.{IsPart, sections_packets};
 ghost use Rattle.dbus_capture.specs.BlockFaults.{interfaces_all, last_section, IsPcapngOutcome};
 ghost use Rattle.dbus_capture.specs.Packets.{Reports, IsTimed, interface_of, packet_bytes, pcap_packet_reported, block_front, pcapng_packet_reported};
@@ -20,36 +20,33 @@ ghost use Rattle.dbus_capture.specs.declared.fault.CaptureFault.{CaptureFault};
 ghost use Rattle.dbus_capture.specs.declared.interface.Interface.{Interface};
 ghost use Rattle.dbus_capture.specs.declared.stage.Stage.TheVariants as stages;
 
-/// A pcap file of link type 231, all of whose packets were captured whole, is read whole: the
-/// capture gives the bytes of its packets, and there is no fault.
+/// A pcap file of link type 231 is read whole, if all of its packets were captured whole, or if
+/// those that were cut are to be passed over: the capture gives the bytes of the others, counts
+/// these, and there is no fault.
 pub fn pcap_is_read()
     ensures { (passes_cut : Bool) (header : PcapHeader) (packets : List PcapPacket) →
-        FitsHeader header → AllFitPackets packets →
-        IsRead passes_cut (pcap_bytes header packets) (payload packets) }
+        FitsHeader header → AllFitPackets passes_cut packets →
+        IsReadOf passes_cut (pcap_bytes header packets) (captures packets) }
 {}
 
-/// Bytes that begin as a pcap file are such a file, and the capture gives the bytes of its packets;
-/// or they have one fault, at one place and for one reason, and the capture gives the bytes of the
-/// packets before it, with those of the packet in which the bytes end, if they do.
+/// Bytes that begin as a pcap file are such a file, and the capture gives the bytes of its packets
+/// that were captured whole; or they have one fault, at one place and for one reason, and the
+/// capture gives the bytes of those packets before it. If the bytes end within such a packet, it
+/// also gives those of it.
 pub fn pcap_outcome()
-    ensures { (x : ℕ) (xs : List ℕ) → AreBytes (x ∷ xs) → first_stage x ≡ stages.FileHeader →
-        IsPcapOutcome (x ∷ xs) (given (fresh false stages.Start) (x ∷ xs))
-        (ended (run (fresh false stages.Start) (x ∷ xs))).fault }
+    ensures { (passes_cut : Bool) (x : ℕ) (xs : List ℕ) →
+        AreBytes (x ∷ xs) → first_stage x ≡ stages.FileHeader →
+        IsPcapOutcome passes_cut (x ∷ xs) (given (fresh passes_cut stages.Start) (x ∷ xs))
+        (ended (run (fresh passes_cut stages.Start) (x ∷ xs))).fault }
 {}
 
 /// It comes to this only: it has no second fault, and is no file if it has one.
 pub fn one_pcap_outcome()
-    ensures { (x : ℕ) (xs out more : List ℕ) (fault other : Option CaptureFault) →
-        AreBytes (x ∷ xs) → first_stage x ≡ stages.FileHeader → IsPcapOutcome (x ∷ xs) out fault →
-        IsPcapOutcome (x ∷ xs) more other → (out ≡ more) × (fault ≡ other) }
-{}
-
-/// A pcap file of packets some of which were cut is read past these, if they are to be passed over:
-/// the capture gives the bytes of the others, counts these, and there is no fault.
-pub fn cut_packets_are_passed_over()
-    ensures { (header : PcapHeader) (packets : List CutPacket) →
-        FitsHeader header → AllFitCutPackets packets →
-        IsReadPast (cut_pcap_bytes header packets) (captures packets) }
+    ensures { (passes_cut : Bool) (x : ℕ) (xs out more : List ℕ)
+        (fault other : Option CaptureFault) →
+        AreBytes (x ∷ xs) → first_stage x ≡ stages.FileHeader →
+        IsPcapOutcome passes_cut (x ∷ xs) out fault → IsPcapOutcome passes_cut (x ∷ xs) more other →
+        (out ≡ more) × (fault ≡ other) }
 {}
 
 /// A pcapng file of one section or more, all of whose packets were captured whole, is read whole:
@@ -65,7 +62,7 @@ pub fn pcapng_is_read()
 pub fn cut_blocks_are_passed_over()
     ensures { (x : FileSection) (sections : List FileSection) →
         FitsSectionIf IsPart x → AllFitSectionsIf IsPart sections →
-        IsReadPast (sections_bytes (x ∷ sections)) (sections_packets (x ∷ sections)) }
+        IsReadOf true (sections_bytes (x ∷ sections)) (sections_packets (x ∷ sections)) }
 {}
 
 /// Bytes that begin as a pcapng file are such a file, and the capture gives the bytes of its packets
@@ -86,12 +83,12 @@ pub fn one_pcapng_outcome()
 {}
 
 /// While a capture gives the bytes of a packet of a pcap file, it reports its number, place, time
-/// and length.
+/// and length. Packets that were cut have no number.
 pub fn pcap_packet_is_reported()
     ensures { (passes_cut : Bool) (header : PcapHeader) (packets : List PcapPacket)
         (packet : PcapPacket) (front back : List ℕ) →
-        FitsHeader header → AllFitPackets packets → FitsPacket packet →
-        packet.bytes ≡ front ++ back →
+        FitsHeader header → AllFitPackets passes_cut packets → FitsPacket passes_cut packet →
+        packet.original ≡ length packet.bytes → packet.bytes ≡ front ++ back →
         Reports (run (fresh passes_cut stages.Start) (pcap_bytes header packets ++
         (packet_header_bytes header.order packet ++ front)))
         (pcap_packet_reported header packets packet) }
@@ -117,10 +114,11 @@ pub fn pcapng_packet_is_reported()
 pub fn pcap_bytes_have_packets()
     ensures { (passes_cut : Bool) (header : PcapHeader) (packets : List PcapPacket)
         (packet : PcapPacket) (more : List ℕ) (i : ℕ) →
-        FitsHeader header → AllFitPackets packets → FitsPacket packet → i < length packet.bytes →
+        FitsHeader header → AllFitPackets passes_cut packets → FitsPacket passes_cut packet →
+        packet.original ≡ length packet.bytes → i < length packet.bytes →
         packet_given (fresh passes_cut stages.Start)
         ((pcap_bytes header packets ++ packet_header_bytes header.order packet) ++
-        (packet.bytes ++ more)) (length (payload packets) + i) ≡
+        (packet.bytes ++ more)) (length (whole_payload (captures packets)) + i) ≡
         Some (pcap_packet_reported header packets packet) }
 {}
 

@@ -26,7 +26,7 @@ written_time (Some time) = min time last_time
 
 -- the packet of a message
 abbrev pub packet_of : CapturedMessage → PcapPacket
-packet_of m = record { seconds = written_time m.time / 1000000000; fraction = written_time m.time % 1000000000; bytes = m.bytes }
+packet_of m = record { seconds = written_time m.time / 1000000000; fraction = written_time m.time % 1000000000; original = length m.bytes; bytes = m.bytes }
 
 -- the file of messages
 abbrev pub file_of : List CapturedMessage → List ℕ

@@ -1,0 +1,37 @@
+-- Tests of numbers, and what is chosen by them.
+use Rattle.std.proofs.Common.{◌≡◌, ◌≢◌, ◌⊎◌, inl, inr, ℕ, ◌<◌, ◌≤◌, Bool, true, false, cond, nat_lt, nat_eq, refl, ap, arith}
+use Rattle.std.specs.Prelude.{◌&&◌, nat_le}
+use Rattle.std.proofs.lemmas.Bool.{cases_lt}
+
+pub lt_true : (a b : ℕ) → a < b → nat_lt a b ≡ true
+lt_true a b h = grind (arith, h)
+
+pub lt_false : (a b : ℕ) → b ≤ a → nat_lt a b ≡ false
+lt_false a b h = grind (arith, h)
+
+pub le_true : (a b : ℕ) → a ≤ b → nat_le a b ≡ true
+le_true a b h = grind (arith, h)
+
+pub eq_is : (a b : ℕ) → a ≡ b → nat_eq a b ≡ true
+eq_is a b e = grind (arith, e)
+
+pub eq_not : (a b : ℕ) → a ≢ b → nat_eq a b ≡ false
+eq_not a b n = elim (cases_lt a b) [ inl h ↦ grind (arith, h) | inr h ↦ elim (cases_lt b a) [ inl k ↦ grind (arith, k) | inr k ↦ absurd (n (omega (arith, h, k))) ] ]
+
+pub cases_same : (a b : ℕ) → (a ≡ b) ⊎ (a ≢ b)
+cases_same a b =
+    elim (cases_lt a b) [
+      | inl h ↦ inr (λ e. absurd (omega (arith, h, e)))
+      | inr h ↦ elim (cases_lt b a) [ inl k ↦ inr (λ e. absurd (omega (arith, k, e))) | inr k ↦ inl (omega (arith, h, k)) ]
+    ]
+
+pub both_true : (a b : Bool) → a ≡ true → b ≡ true → (a && b) ≡ true
+both_true true true p q = refl
+both_true true false p q = q
+both_true false b p q = p
+
+pub when_true : {A : Type 0} (b : Bool) (x y : A) → b ≡ true → cond b x y ≡ x
+when_true {A} b x y e = ap (λ (v : Bool). cond {A = A} v x y) e
+
+pub when_false : {A : Type 0} (b : Bool) (x y : A) → b ≡ false → cond b x y ≡ y
+when_false {A} b x y e = ap (λ (v : Bool). cond {A = A} v x y) e
