@@ -1,6 +1,7 @@
 -- A block of a pcapng file that is no section's is read as it is spelled.
 use Rattle.std.proofs.Common.{◌≡◌, ◌≢◌, ◌⊎◌, inl, inr, ℕ, ◌+◌, ◌-◌, ◌*◌, ◌<◌, ◌≤◌, ◌^◌, Bool, true, false, cond, List, [], ◌∷◌, ◌++◌, length, Option, None, refl, sym, ap, subst, ◌∙◌, arith, append_assoc, append-nil, length-append, Some}
 use Rattle.std.specs.Prelude.{slice_get}
+use Rattle.std.proofs.lemmas.Bool.{cases_lt}
 use Rattle.dbus_capture.specs.declared.byte_order.ByteOrder.{ByteOrder}
 use Rattle.dbus_capture.specs.declared.stage.Stage.{Stage}
 use Rattle.dbus_capture.specs.declared.stage.Stage.TheVariants as stages
@@ -12,9 +13,9 @@ use Rattle.dbus_capture.specs.Scans.{place}
 use Rattle.dbus_capture.specs.Blocks.{padded, block_stage, block_by, time_of, give_packet, pass_packet, pass_cut, block_packet, enhanced_by, simple_by, captured_length, decoded_by}
 use Rattle.dbus_capture.specs.Steps.{run, given}
 use Rattle.dbus_capture.specs.Reading.{InSection}
-use Rattle.dbus_capture.specs.Packets.{IsTimed, interface_of, packet_bytes, packet_time, block_front}
-use Rattle.dbus_capture.specs.BlockFiles.{FitsBody, framed_bytes, FileBlock, InterfaceBlock, PacketBlock, ObsoleteBlock, SimpleBlock, OtherBlock, block_bytes, block_body, HasInterface, IsUncut, FitsBlockIf, FitsBlock}
-use Rattle.dbus_capture.specs.CutPackets.{Captured, is_cut, whole_payload, whole_count, cut_count}
+use Rattle.dbus_capture.specs.Packets.{IsTimed, interface_of, packet_original, packet_bytes, packet_time, block_front}
+use Rattle.dbus_capture.specs.BlockFiles.{FitsBody, framed_bytes, FileBlock, InterfaceBlock, PacketBlock, ObsoleteBlock, SimpleBlock, OtherBlock, block_bytes, block_body, IsCapturedBy, FitsBlock}
+use Rattle.dbus_capture.specs.CutPackets.{Captured, IsCaptured, is_cut, whole_payload, whole_count, cut_count}
 use Rattle.dbus_capture.specs.BlockPackets.{packet_by, block_packets}
 use Rattle.dbus_device.specs.declared.packet.Packet.{Packet}
 use Rattle.dbus_capture.proofs.Choices.{lt_true, lt_false, eq_is, eq_not, cases_same, when_true, when_false}
@@ -130,9 +131,9 @@ packet_skipped t size k room link_type time n original h e short passes =
 abbrev pub MayPass : Bool → (original : ℕ) → List ℕ → Type 0
 MayPass passes original bytes = (original ≡ length bytes) ⊎ ((length bytes < original) × (passes ≡ true))
 
--- such a packet is there if this is
-abbrev pub Takes : (Interface → ℕ → List ℕ → Type 0) → Bool → Type 0
-Takes P passes = (i : Interface) (original : ℕ) (bytes : List ℕ) → P i original bytes → i.link_type ≡ 231 → MayPass passes original bytes
+may_pass : (passes : Bool) (original : ℕ) (bytes : List ℕ) → IsCaptured passes original (length bytes) → MayPass passes original bytes
+may_pass false original bytes f = inl f
+may_pass true original bytes f = let most : length bytes ≤ original = f in elim (cases_lt (length bytes) original) [ inl short ↦ inr (short, refl) | inr all ↦ inl (omega (arith, most, all)) ]
 
 -- what follows the head of a packet's block
 record Handed (t x : Scan) (tail : List ℕ) (order : ByteOrder) (interfaces : List Interface) (n : ℕ) (packets : List Captured) : Type 0 where
@@ -325,28 +326,28 @@ obsolete_is order interfaces i number drops high low n original fits found =
           ∙ ap (λ (v : List Interface). enhanced_by m h (slice_get v number)) j ∙ ap (enhanced_by m h) found;
     }
 
-module _ (P : Interface → ℕ → List ℕ → Type 0) (passes : Bool) (takes : Takes P passes) (s : Scan) (order : ByteOrder) (interfaces : List Interface) (w : InSection s order interfaces) (same : s.passes_cut ≡ passes) where
-  may_pass : (i : Interface) (original : ℕ) (bytes : List ℕ) → P i original bytes → i.link_type ≡ 231 → MayPass s.passes_cut original bytes
-  may_pass i original bytes p e = subst (λ (v : Bool). MayPass v original bytes) (sym same) (takes i original bytes p e)
+module _ (passes : Bool) (s : Scan) (order : ByteOrder) (interfaces : List Interface) (w : InSection s order interfaces) (same : s.passes_cut ≡ passes) where
+  passes_as : (i : Interface) (original : ℕ) (bytes : List ℕ) → IsCapturedBy passes i original bytes → i.link_type ≡ 231 → MayPass s.passes_cut original bytes
+  passes_as i original bytes f e = subst (λ (v : Bool). MayPass v original bytes) (sym same) (may_pass passes original bytes (f e))
 
   of_found : (bytes : List ℕ) (original : ℕ) (o : Option Interface) (i : Interface) (spelled : List ℕ) → o ≡ Some i → Took s spelled order interfaces (packet_by original bytes (Some i)) → Took s spelled order interfaces (packet_by original bytes o)
   of_found bytes original o i spelled e t = subst (λ (v : Option Interface). Took s spelled order interfaces (packet_by original bytes v)) (sym e) t
 
-  pub enhanced_read : (number high low original : ℕ) (bytes rest : List ℕ) → FitsBlockIf P interfaces (PacketBlock number high low original bytes rest) → FitsBody (block_body order (PacketBlock number high low original bytes rest))
+  pub enhanced_read : (number high low original : ℕ) (bytes rest : List ℕ) → FitsBlock passes interfaces (PacketBlock number high low original bytes rest) → FitsBody (block_body order (PacketBlock number high low original bytes rest))
       → Took s (block_bytes order (PacketBlock number high low original bytes rest)) order interfaces (block_packets interfaces (PacketBlock number high low original bytes rest))
   enhanced_read number high low original bytes rest f b =
       let found = f.4 in
       of_found bytes original (slice_get interfaces number) found.0 _ found.1 (packet_read s order interfaces 6 stages.Enhanced found.0 (u32_bytes order number) (u32_size order number) high low original bytes rest
-      (enhanced_is order interfaces found.0 number high low (length bytes) original f.0 found.1) w f.1 f.2 f.3 (may_pass found.0 original bytes found.2) b)
+      (enhanced_is order interfaces found.0 number high low (length bytes) original f.0 found.1) w f.1 f.2 f.3 (passes_as found.0 original bytes found.2) b)
 
-  pub obsolete_read : (number drops high low original : ℕ) (bytes rest : List ℕ) → FitsBlockIf P interfaces (ObsoleteBlock number drops high low original bytes rest) → FitsBody (block_body order (ObsoleteBlock number drops high low original bytes rest))
+  pub obsolete_read : (number drops high low original : ℕ) (bytes rest : List ℕ) → FitsBlock passes interfaces (ObsoleteBlock number drops high low original bytes rest) → FitsBody (block_body order (ObsoleteBlock number drops high low original bytes rest))
       → Took s (block_bytes order (ObsoleteBlock number drops high low original bytes rest)) order interfaces (block_packets interfaces (ObsoleteBlock number drops high low original bytes rest))
   obsolete_read number drops high low original bytes rest f b =
       let found = f.4 in
       of_found bytes original (slice_get interfaces number) found.0 _ found.1 (packet_read s order interfaces 2 stages.ObsoletePacket found.0 (u16_bytes order number ++ u16_bytes order drops) (halves_size order number drops)
-      high low original bytes rest (obsolete_is order interfaces found.0 number drops high low (length bytes) original f.0 found.1) w f.1 f.2 f.3 (may_pass found.0 original bytes found.2) b)
+      high low original bytes rest (obsolete_is order interfaces found.0 number drops high low (length bytes) original f.0 found.1) w f.1 f.2 f.3 (passes_as found.0 original bytes found.2) b)
 
-  pub simple_read : (original : ℕ) (bytes rest : List ℕ) → FitsBlockIf P interfaces (SimpleBlock original bytes rest) → FitsBody (block_body order (SimpleBlock original bytes rest))
+  pub simple_read : (original : ℕ) (bytes rest : List ℕ) → FitsBlock passes interfaces (SimpleBlock original bytes rest) → FitsBody (block_body order (SimpleBlock original bytes rest))
       → Took s (block_bytes order (SimpleBlock original bytes rest)) order interfaces (block_packets interfaces (SimpleBlock original bytes rest))
   simple_read original bytes rest f b =
       let n = length bytes in
@@ -368,7 +369,7 @@ module _ (P : Interface → ℕ → List ℕ → Type 0) (passes : Bool) (takes 
       let low_room = f.1 in
       let room : total - 16 ≡ n + length rest = omega (arith, l, k, size) in
       let after = packet_went m order interfaces 4 0 (total - 16) found.0 None original bytes rest total w.ready.unfaulted w.ready.give w.ready.skip refl b.size w.order_is w.interfaces_are room (omega (arith, low_room, room))
-      (may_pass found.0 original bytes found.2.1) in
+      (passes_as found.0 original bytes found.2.1) in
       of_found bytes original (slice_get interfaces 0) found.0 _ found.1
       (block_took s order interfaces 3 m h bytes rest original found.0 4 (total - 16) _ w (omega arith) b.size (λ e. absurd (omega (arith, e))) opened refl refl refl refl to law.1 (omega (arith, l, k, size)) after)
 
@@ -425,7 +426,7 @@ begins_packet s m h8 h size room time bytes same next fine to_m quiet to_packet 
 
 packet_reported : (s : Scan) (order : ByteOrder) (interfaces : List Interface) (kind : ℕ) (stage : Stage) (i : Interface) (first : List ℕ) (four : length first ≡ 4) (high low original : ℕ) (bytes rest : List ℕ)
     → let h = packet_head order first four high low (length bytes) original in
-    IsPacketBlock kind stage order interfaces h i → InSection s order interfaces → length bytes < 2 ^ 32 → padded (length bytes) ≤ length bytes + length rest → original < 2 ^ 32 → IsUncut i original bytes
+    IsPacketBlock kind stage order interfaces h i → InSection s order interfaces → length bytes < 2 ^ 32 → padded (length bytes) ≤ length bytes + length rest → original < 2 ^ 32 → original ≡ length bytes
     → FitsBody (h ++ (bytes ++ rest)) → high < 2 ^ 32 → low < 2 ^ 32 → i.link_type ≡ 231
     → Begins s ((u32_bytes order kind ++ u32_bytes order (12 + length (h ++ (bytes ++ rest)))) ++ h) bytes [] (record { number = place (s.packets + 1); at = place s.next; time = time_of i (high * 2 ^ 32 + low); length = length bytes })
 packet_reported s order interfaces kind stage i first four high low original bytes rest p w fits low_room fits_original whole b fh fl link_type =
@@ -449,13 +450,13 @@ packet_reported s order interfaces kind stage i first four high low original byt
     ∙ ap (λ (v : ℕ). block_packet m 20 12 (total - 32) i.link_type (time high v) (u32_at order 12 h) (u32_at order 16 h)) (low_read order first four high low n original fl)
     ∙ ap (λ (v : ℕ). block_packet m 20 12 (total - 32) i.link_type (time high low) v (u32_at order 16 h)) (captured_read order first four high low n original fits)
     ∙ ap (λ (v : ℕ). block_packet m 20 12 (total - 32) i.link_type (time high low) n v) (original_read order first four high low n original fits_original)
-    ∙ packet_given m 20 12 (total - 32) i.link_type (time high low) n original (omega (arith, low_room, room)) link_type (whole link_type) in
+    ∙ packet_given m 20 12 (total - 32) i.link_type (time high low) n original (omega (arith, low_room, room)) link_type whole in
     begins_packet s m h8 h 20 (total - 32) (time high low) bytes refl refl w.ready.unfaulted to_m (ap (λ (v : ByteOrder). given s (u32_bytes v kind ++ u32_bytes v total)) (sym w.order_is) ∙ opened.1) to_packet law.1
 
-simple_reported : (s : Scan) (order : ByteOrder) (interfaces : List Interface) (i : Interface) (original : ℕ) (bytes rest : List ℕ) → InSection s order interfaces → FitsBlock interfaces (SimpleBlock original bytes rest)
-    → FitsBody (block_body order (SimpleBlock original bytes rest)) → slice_get interfaces 0 ≡ Some i → i.link_type ≡ 231
+simple_reported : (passes : Bool) (s : Scan) (order : ByteOrder) (interfaces : List Interface) (i : Interface) (original : ℕ) (bytes rest : List ℕ) → InSection s order interfaces → FitsBlock passes interfaces (SimpleBlock original bytes rest)
+    → FitsBody (block_body order (SimpleBlock original bytes rest)) → slice_get interfaces 0 ≡ Some i → i.link_type ≡ 231 → original ≡ length bytes
     → Begins s (block_front order (SimpleBlock original bytes rest)) bytes [] (block_packet_reported s i (SimpleBlock original bytes rest))
-simple_reported s order interfaces i original bytes rest w f b found link_type =
+simple_reported passes s order interfaces i original bytes rest w f b found link_type whole =
     let n = length bytes in
     let h = u32_bytes order original in
     let total = 12 + length (h ++ (bytes ++ rest)) in
@@ -470,31 +471,25 @@ simple_reported s order interfaces i original bytes rest w f b found link_type =
     let read : u32_at s.order 0 h ≡ original = ap (λ (v : ByteOrder). u32_at v 0 h) w.order_is ∙ u32_last order [] original 0 refl f.0 in
     let there = f.2 in
     let same : there.0 ≡ i = let x = there.1 in cc (x, found) in
-    let both = subst (λ (v : Interface). (captured_length v.snap_length original ≡ length bytes) × IsUncut v original bytes) same there.2 in
+    let snapped : captured_length i.snap_length original ≡ length bytes = subst (λ (v : Interface). captured_length v.snap_length original ≡ length bytes) same there.2.0 in
     let low_room = f.1 in
     let room : total - 16 ≡ n + length rest = omega (arith, l, k, size) in
     let to_packet : run m h ≡ give_packet m 4 (total - 16) None n =
     law.0 ∙ ap (λ (v : List Interface). simple_by m h (slice_get v 0)) w.interfaces_are ∙ ap (simple_by m h) found
     ∙ ap (λ (v : ℕ). block_packet m 4 0 (total - 16) i.link_type None (captured_length i.snap_length v) v) read
-    ∙ ap (λ (v : ℕ). block_packet m 4 0 (total - 16) i.link_type None v original) both.0
-    ∙ packet_given m 4 0 (total - 16) i.link_type None n original (omega (arith, low_room, room)) link_type (both.1 link_type) in
+    ∙ ap (λ (v : ℕ). block_packet m 4 0 (total - 16) i.link_type None v original) snapped
+    ∙ packet_given m 4 0 (total - 16) i.link_type None n original (omega (arith, low_room, room)) link_type whole in
     begins_packet s m h8 h 4 (total - 16) None bytes refl refl w.ready.unfaulted to_m (ap (λ (v : ByteOrder). given s (u32_bytes v 3 ++ u32_bytes v total)) (sym w.order_is) ∙ opened.1) to_packet law.1
 
--- the interface that was found is the one that is there
-uncut_as : (interfaces : List Interface) (number : ℕ) (i : Interface) (original : ℕ) (bytes : List ℕ) → HasInterface interfaces number (λ v. IsUncut v original bytes) → slice_get interfaces number ≡ Some i → IsUncut i original bytes
-uncut_as interfaces number i original bytes there found =
-    let same : there.0 ≡ i = let x = there.1 in cc (x, found) in
-    subst (λ (v : Interface). IsUncut v original bytes) same there.2
-
-pub block_reported : (s : Scan) (order : ByteOrder) (interfaces : List Interface) (i : Interface) (block : FileBlock) → InSection s order interfaces
-    → FitsBlock interfaces block → FitsBody (block_body order block) → IsTimed block → slice_get interfaces (interface_of block) ≡ Some i → i.link_type ≡ 231
+pub block_reported : (passes : Bool) (s : Scan) (order : ByteOrder) (interfaces : List Interface) (i : Interface) (block : FileBlock) → InSection s order interfaces
+    → FitsBlock passes interfaces block → FitsBody (block_body order block) → IsTimed block → slice_get interfaces (interface_of block) ≡ Some i → i.link_type ≡ 231 → packet_original block ≡ length (packet_bytes block)
     → Begins s (block_front order block) (packet_bytes block) [] (block_packet_reported s i block)
-block_reported s order interfaces i (PacketBlock number high low original bytes rest) w f b t found link_type =
+block_reported passes s order interfaces i (PacketBlock number high low original bytes rest) w f b t found link_type whole =
     let four = u32_size order number in
-    packet_reported s order interfaces 6 stages.Enhanced i (u32_bytes order number) four high low original bytes rest (enhanced_is order interfaces i number high low (length bytes) original f.0 found) w f.1 f.2 f.3 (uncut_as interfaces number i original bytes f.4 found) b t.0 t.1 link_type
-block_reported s order interfaces i (ObsoleteBlock number drops high low original bytes rest) w f b t found link_type =
+    packet_reported s order interfaces 6 stages.Enhanced i (u32_bytes order number) four high low original bytes rest (enhanced_is order interfaces i number high low (length bytes) original f.0 found) w f.1 f.2 f.3 whole b t.0 t.1 link_type
+block_reported passes s order interfaces i (ObsoleteBlock number drops high low original bytes rest) w f b t found link_type whole =
     packet_reported s order interfaces 2 stages.ObsoletePacket i (u16_bytes order number ++ u16_bytes order drops) (halves_size order number drops) high low original bytes rest
-    (obsolete_is order interfaces i number drops high low (length bytes) original f.0 found) w f.1 f.2 f.3 (uncut_as interfaces number i original bytes f.4 found) b t.0 t.1 link_type
-block_reported s order interfaces i (SimpleBlock original bytes rest) w f b t found link_type = simple_reported s order interfaces i original bytes rest w f b found link_type
-block_reported s order interfaces i (InterfaceBlock a b c d z) w f x t found link_type = absurd t
-block_reported s order interfaces i (OtherBlock kind body) w f b t found link_type = absurd t
+    (obsolete_is order interfaces i number drops high low (length bytes) original f.0 found) w f.1 f.2 f.3 whole b t.0 t.1 link_type
+block_reported passes s order interfaces i (SimpleBlock original bytes rest) w f b t found link_type whole = simple_reported passes s order interfaces i original bytes rest w f b found link_type whole
+block_reported passes s order interfaces i (InterfaceBlock a b c d z) w f x t found link_type whole = absurd t
+block_reported passes s order interfaces i (OtherBlock kind body) w f b t found link_type whole = absurd t

@@ -1,5 +1,5 @@
 -- What a pcapng file comes to is what is read of it, so it comes to one thing only.
-use Rattle.std.proofs.Common.{◌≡◌, ◌≢◌, inl, inr, ℕ, ◌+◌, ◌-◌, ◌<◌, ◌≤◌, false, List, [], ◌∷◌, ◌++◌, length, Option, None, Some, refl, sym, ap, subst, ◌∙◌, arith}
+use Rattle.std.proofs.Common.{◌≡◌, ◌≢◌, inl, inr, ℕ, Bool, false, ◌+◌, ◌-◌, ◌<◌, ◌≤◌, List, [], ◌∷◌, ◌++◌, length, Option, None, Some, refl, sym, ap, subst, ◌∙◌, arith}
 use Rattle.std.proofs.lemmas.Bool.{cases_lt}
 use Rattle.dbus_capture.specs.declared.byte_order.ByteOrder.{ByteOrder}
 use Rattle.dbus_capture.specs.declared.stage.Stage.{Stage}
@@ -14,7 +14,7 @@ use Rattle.dbus_capture.specs.Stages.{first_stage, begun}
 use Rattle.dbus_capture.specs.Scans.{place, fresh}
 use Rattle.dbus_capture.specs.Steps.{Gathers, run, may_end, ended, given}
 use Rattle.dbus_capture.specs.PcapFaults.{AreBytes}
-use Rattle.dbus_capture.specs.BlockFiles.{IsUncut, sections_bytes}
+use Rattle.dbus_capture.specs.BlockFiles.{sections_bytes}
 use Rattle.dbus_capture.specs.BlockFaults.{Form, OfInterface, OfPacket, OfOther, PacketForm, said, IsOf, IsFormFault, IsBlockFault, interfaces_all, last_section, FailsAfterBlocks, IsPcapngOutcome}
 use Rattle.dbus_capture.proofs.ByteLaws.{bytes_back}
 use Rattle.dbus_capture.proofs.StepLaws.{opens}
@@ -25,7 +25,7 @@ use Rattle.dbus_capture.proofs.FirstBlocks.{length_told}
 use Rattle.dbus_capture.proofs.PacketBlocks as packets
 use Rattle.dbus_capture.proofs.InterfaceBlocks as interfaces_of
 use Rattle.dbus_capture.proofs.SectionBlocks.{first_told, next_told}
-use Rattle.dbus_capture.proofs.BlockPacketLaws.{takes_uncut, sections_whole, pcapng_whole}
+use Rattle.dbus_capture.proofs.BlockPacketLaws.{pcapng_read}
 use Rattle.dbus_capture.proofs.SectionLaws.{file_read}
 
 -- ---- a block
@@ -61,7 +61,7 @@ module _ (s : Scan) (a : ℕ) (order : ByteOrder) (interfaces : List Interface) 
         ap (λ (n : ℕ). u32_at order n bytes) at ∙ same ∙ e
 
     -- of another type
-    other_told : IsOf OfOther (u32_at order 0 bytes) → (k : ℕ) (reason : CaptureReason) (part : List ℕ) → IsFormFault OfOther order interfaces bytes k reason part → FailsAt s bytes (a + k) reason part
+    other_told : IsOf OfOther (u32_at order 0 bytes) → (k : ℕ) (reason : CaptureReason) (part : List ℕ) → IsFormFault s.passes_cut OfOther order interfaces bytes k reason part → FailsAt s bytes (a + k) reason part
     other_told is k BlockLength part (at, bad, none) = moved 4 k BlockLength [] part (sym at) (sym none) (length_told s a order interfaces bytes w eight OfOther is bad)
     other_told is k BlockLengths part (has, sound, last, enough, d, none) =
         moved (total - 4) k BlockLengths [] part (omega (arith, last)) (sym none) (interfaces_of.other_unequal s a order interfaces bytes w eight is are has (omega (arith, last, enough)) (last_differs k last d))
@@ -80,7 +80,7 @@ module _ (s : Scan) (a : ℕ) (order : ByteOrder) (interfaces : List Interface) 
     other_told is k NoInterface part f = absurd f.1
 
     -- of an interface
-    interface_told : IsOf OfInterface (u32_at order 0 bytes) → (k : ℕ) (reason : CaptureReason) (part : List ℕ) → IsFormFault OfInterface order interfaces bytes k reason part → FailsAt s bytes (a + k) reason part
+    interface_told : IsOf OfInterface (u32_at order 0 bytes) → (k : ℕ) (reason : CaptureReason) (part : List ℕ) → IsFormFault s.passes_cut OfInterface order interfaces bytes k reason part → FailsAt s bytes (a + k) reason part
     interface_told is k BlockLength part (at, bad, none) = moved 4 k BlockLength [] part (sym at) (sym none) (length_told s a order interfaces bytes w eight OfInterface is bad)
     interface_told is k BlockLengths part (has, sound, last, enough, d, none) =
         moved (total - 4) k BlockLengths [] part (omega (arith, last)) (sym none) (interfaces_of.unequal_told s a order interfaces bytes w eight is are has sound (omega (arith, last, enough)) (last_differs k last d))
@@ -99,7 +99,7 @@ module _ (s : Scan) (a : ℕ) (order : ByteOrder) (interfaces : List Interface) 
 
     -- of a packet
     module _ (f : PacketForm) (is : IsOf (OfPacket f) (u32_at order 0 bytes)) where
-      whole_told : (k : ℕ) (part : List ℕ) → IsFormFault (OfPacket f) order interfaces bytes k BlockLengths part → FailsAt s bytes (a + k) BlockLengths part
+      whole_told : (k : ℕ) (part : List ℕ) → IsFormFault s.passes_cut (OfPacket f) order interfaces bytes k BlockLengths part → FailsAt s bytes (a + k) BlockLengths part
       whole_told k part (has, inl short, last, enough, d, same) = let z = packets.sizes s a order interfaces bytes w eight f is are has in absurd (omega (arith, z, short, last, enough))
       whole_told k part (has, inr p, last, enough, d, same) =
           let all : total ≤ length bytes = omega (arith, last, enough) in
@@ -107,7 +107,7 @@ module _ (s : Scan) (a : ℕ) (order : ByteOrder) (interfaces : List Interface) 
           moved (total - 4) k BlockLengths _ part (omega (arith, last)) (sym same)
           (packets.unequal_told s a order interfaces bytes w eight f is are has (packets.standing s a order interfaces bytes w eight f is are has there p) all (last_differs k last d))
 
-      cut_told : (k : ℕ) (part : List ℕ) → IsFormFault (OfPacket f) order interfaces bytes k Truncated part → FailsAt s bytes (a + k) Truncated part
+      cut_told : (k : ℕ) (part : List ℕ) → IsFormFault s.passes_cut (OfPacket f) order interfaces bytes k Truncated part → FailsAt s bytes (a + k) Truncated part
       cut_told k part (has, sound, at, short, same) =
           elim (cases_lt (length bytes) (said f order interfaces bytes).start) [
             | inl h ↦ moved (length bytes) k Truncated [] part (sym at) (sym (same ∙ packets.part_none (said f order interfaces bytes) bytes (omega (arith, h)))) (packets.head_told s a order interfaces bytes w eight f is are has h)
@@ -117,7 +117,7 @@ module _ (s : Scan) (a : ℕ) (order : ByteOrder) (interfaces : List Interface) 
             ]
           ]
 
-      packet_told : (k : ℕ) (reason : CaptureReason) (part : List ℕ) → IsFormFault (OfPacket f) order interfaces bytes k reason part → FailsAt s bytes (a + k) reason part
+      packet_told : (k : ℕ) (reason : CaptureReason) (part : List ℕ) → IsFormFault s.passes_cut (OfPacket f) order interfaces bytes k reason part → FailsAt s bytes (a + k) reason part
       packet_told k BlockLength part (at, bad, none) = moved 4 k BlockLength [] part (sym at) (sym none) (length_told s a order interfaces bytes w eight (OfPacket f) is bad)
       packet_told k BlockLengths part g = whole_told k part g
       packet_told k Truncated part g = cut_told k part g
@@ -128,61 +128,62 @@ module _ (s : Scan) (a : ℕ) (order : ByteOrder) (interfaces : List Interface) 
       packet_told k NoInterface part (has, (there, (at, e)), none) = moved 8 k NoInterface [] part (sym at) (sym none) (packets.interface_told s a order interfaces bytes w eight f is are has there e)
       packet_told k Lengths part (has, (there, (at, i, found, inl long)), none) = moved _ k Lengths [] part (sym at) (sym none) (packets.room_told s a order interfaces bytes w eight f is are has there i found long)
       packet_told k Lengths part (has, (there, (at, i, found, inr (room, dbus, h))), none) = moved _ k Lengths [] part (sym at) (sym none) (packets.over_told s a order interfaces bytes w eight f is are has there i found room dbus h)
-      packet_told k PacketCut part (has, (there, (at, i, found, room, dbus, h)), none) = moved _ k PacketCut [] part (sym at) (sym none) (packets.short_told s a order interfaces bytes w eight f is are has there i found room dbus h)
+      packet_told k PacketCut part (has, (there, (at, refusing, i, found, room, dbus, h)), none) = moved _ k PacketCut [] part (sym at) (sym none) (packets.short_told s a order interfaces bytes w eight f is are has there i found room refusing dbus h)
       packet_told k Magic part g = absurd g.1.1
       packet_told k Version part g = absurd g.1.1
       packet_told k LinkType part g = absurd g.1.1
       packet_told k OrderMark part g = absurd g.1.1
       packet_told k OptionLength part g = absurd g.1.1
 
-    form_told : (f : Form) → IsOf f (u32_at order 0 bytes) → (k : ℕ) (reason : CaptureReason) (part : List ℕ) → IsFormFault f order interfaces bytes k reason part → FailsAt s bytes (a + k) reason part
+    form_told : (f : Form) → IsOf f (u32_at order 0 bytes) → (k : ℕ) (reason : CaptureReason) (part : List ℕ) → IsFormFault s.passes_cut f order interfaces bytes k reason part → FailsAt s bytes (a + k) reason part
     form_told OfInterface is k reason part g = interface_told is k reason part g
     form_told (OfPacket f) is k reason part g = packet_told f is k reason part g
     form_told OfOther is k reason part g = other_told is k reason part g
 
-  block_told : (k : ℕ) (reason : CaptureReason) (part : List ℕ) → IsBlockFault order interfaces bytes k reason part → FailsAt s bytes (a + k) reason part
+  block_told : (k : ℕ) (reason : CaptureReason) (part : List ℕ) → IsBlockFault s.passes_cut order interfaces bytes k reason part → FailsAt s bytes (a + k) reason part
   block_told k reason part (inl ((some, short, is, at), none)) = short_told k reason part some short is at none
   block_told k reason part (inr (inl (eight, kind, bad, none))) = moved k k reason [] part refl (sym none) (next_told s a order interfaces bytes w eight are kind k reason bad)
   block_told k reason part (inr (inr (eight, f, is, bad))) = form_told eight f is k reason part bad
 
 -- ---- a file
 
-after_blocks : (bytes out : List ℕ) (fault : CaptureFault) → AreBytes bytes → FailsAfterBlocks bytes out fault → Comes false bytes out (Some fault)
-after_blocks bytes out fault are f =
-    let s = fresh false stages.Start in
+after_blocks : (passes : Bool) (bytes out : List ℕ) (fault : CaptureFault) → AreBytes bytes → FailsAfterBlocks passes bytes out fault → Comes passes bytes out (Some fault)
+after_blocks passes bytes out fault are f =
+    let s = fresh passes stages.Start in
     let front = sections_bytes (f.first ∷ f.sections) in
     let n = length front in
-    let w = file_read IsUncut false (takes_uncut false) f.first f.sections f.fits f.fit in
+    let w = file_read passes f.first f.sections f.fits f.fit in
     let last = last_section f.first f.sections in
     let zero_more : 0 + n ≡ n = omega arith in
-    let at : At w.final n last.order (interfaces_all [] last.blocks) = record { stands = w.stands; next = w.kept.next refl ∙ ap place zero_more; refuses = w.kept.passes } in
+    let at : At w.final n last.order (interfaces_all [] last.blocks) = record { stands = w.stands; next = w.kept.next refl ∙ ap place zero_more } in
     let are_rest = bytes_back front f.rest (subst AreBytes f.joined are) in
-    let told = block_told w.final n last.order (interfaces_all [] last.blocks) f.rest at are_rest f.within fault.reason f.part f.faulty in
-    let all = fails_after s w.final front f.rest (n + f.within) fault.reason _ f.part w.ran (w.gave ∙ (sections_whole (f.first ∷ f.sections) (f.fits, f.fit)).payload) told in (
+    let faulty = subst (λ (v : Bool). IsBlockFault v last.order (interfaces_all [] last.blocks) f.rest f.within fault.reason f.part) (sym w.kept.passes) f.faulty in
+    let told = block_told w.final n last.order (interfaces_all [] last.blocks) f.rest at are_rest f.within fault.reason f.part faulty in
+    let all = fails_after s w.final front f.rest (n + f.within) fault.reason _ f.part w.ran w.gave told in (
       ap (given s) f.joined ∙ all.1 ∙ sym f.gives,
       ap (λ (l : List ℕ). (ended (run s l)).fault) f.joined ∙ all.0 ∙ ap (λ (v : ℕ). Some (record { at = v; reason = fault.reason })) (sym f.at),
     )
 
-comes : (x : ℕ) (xs out : List ℕ) (fault : Option CaptureFault) → AreBytes (x ∷ xs) → first_stage x ≡ stages.Section → IsPcapngOutcome (x ∷ xs) out fault → Comes false (x ∷ xs) out fault
-comes x xs out None are first f =
-    let whole = pcapng_whole false f.first f.sections f.fits f.fit in (
-      ap (given (fresh false stages.Start)) f.joined ∙ whole.gives ∙ sym f.gives,
-      ap (λ (l : List ℕ). (ended (run (fresh false stages.Start) l)).fault) f.joined ∙ whole.unfaulted,
+comes : (passes : Bool) (x : ℕ) (xs out : List ℕ) (fault : Option CaptureFault) → AreBytes (x ∷ xs) → first_stage x ≡ stages.Section → IsPcapngOutcome passes (x ∷ xs) out fault → Comes passes (x ∷ xs) out fault
+comes passes x xs out None are first f =
+    let whole = (pcapng_read passes f.first f.sections f.fits f.fit).read in (
+      ap (given (fresh passes stages.Start)) f.joined ∙ whole.gives ∙ sym f.gives,
+      ap (λ (l : List ℕ). (ended (run (fresh passes stages.Start) l)).fault) f.joined ∙ whole.unfaulted,
     )
-comes x xs out (Some fault) are first (inr f) = after_blocks (x ∷ xs) out fault are f
-comes x xs out (Some fault) are first (inl f) =
+comes passes x xs out (Some fault) are first (inr f) = after_blocks passes (x ∷ xs) out fault are f
+comes passes x xs out (Some fault) are first (inl f) =
     let bytes = x ∷ xs in
-    let s : Scan = record (fresh false stages.Start) { head = begun stages.Section } in
-    let opening = opens (fresh false stages.Start) s x xs (ap (λ (t : Stage). record (fresh false stages.Start) { head = begun t }) first) refl in
-    let told = first_told s bytes refl refl refl refl refl refl are f.within fault.reason f.faulty in
+    let s : Scan = record (fresh passes stages.Start) { head = begun stages.Section } in
+    let opening = opens (fresh passes stages.Start) s x xs (ap (λ (t : Stage). record (fresh passes stages.Start) { head = begun t }) first) refl in
+    let told = first_told s bytes refl refl refl refl refl are f.within fault.reason f.faulty in
     let zero_more : 0 + f.within ≡ f.within = omega arith in (
       opening.1 ∙ told.1 ∙ sym f.gives,
       ap (λ (v : Scan). (ended v).fault) opening.0 ∙ told.0 ∙ ap (λ (n : ℕ). Some (record { at = n; reason = fault.reason })) (ap place zero_more ∙ sym f.at),
     )
 
-pub one_pcapng : (x : ℕ) (xs out more : List ℕ) (fault other : Option CaptureFault) → AreBytes (x ∷ xs) → first_stage x ≡ stages.Section
-    → IsPcapngOutcome (x ∷ xs) out fault → IsPcapngOutcome (x ∷ xs) more other → (out ≡ more) × (fault ≡ other)
-one_pcapng x xs out more fault other are first f g =
-    let a = comes x xs out fault are first f in
-    let b = comes x xs more other are first g in
+pub one_pcapng : (passes : Bool) (x : ℕ) (xs out more : List ℕ) (fault other : Option CaptureFault) → AreBytes (x ∷ xs) → first_stage x ≡ stages.Section
+    → IsPcapngOutcome passes (x ∷ xs) out fault → IsPcapngOutcome passes (x ∷ xs) more other → (out ≡ more) × (fault ≡ other)
+one_pcapng passes x xs out more fault other are first f g =
+    let a = comes passes x xs out fault are first f in
+    let b = comes passes x xs more other are first g in
     (sym a.0 ∙ b.0, sym a.1 ∙ b.1)

@@ -1,5 +1,5 @@
 -- Bytes that begin as a pcapng file does are one, or have one fault.
-use Rattle.std.proofs.Common.{◌≡◌, ◌≢◌, ◌⊎◌, inl, inr, ℕ, zero, suc, ◌+◌, ◌<◌, ◌≤◌, false, List, [], ◌∷◌, ◌++◌, length, take, drop, None, refl, sym, ap, subst, ◌∙◌, arith, append_assoc, length-append, take-append-drop}
+use Rattle.std.proofs.Common.{◌≡◌, ◌≢◌, ◌⊎◌, inl, inr, ℕ, zero, suc, ◌+◌, ◌<◌, ◌≤◌, Bool, List, [], ◌∷◌, ◌++◌, length, take, drop, None, refl, sym, ap, subst, ◌∙◌, arith, append_assoc, length-append, take-append-drop}
 use Rattle.std.proofs.lemmas.Bool.{cases_lt}
 use Rattle.std.proofs.lemmas.List.{length-drop}
 use Rattle.dbus_capture.specs.declared.byte_order.ByteOrder.{ByteOrder}
@@ -14,9 +14,12 @@ use Rattle.dbus_capture.specs.Stages.{first_stage, begun}
 use Rattle.dbus_capture.specs.Scans.{place, fresh}
 use Rattle.dbus_capture.specs.Steps.{run, ended, given}
 use Rattle.dbus_capture.specs.PcapFaults.{AreBytes}
-use Rattle.dbus_capture.specs.BlockFiles.{framed_bytes, FileBlock, block_bytes, blocks_bytes, block_payload, blocks_payload, interfaces_after, AllFitBlocks, FileSection, section_body, FitsSection, sections_bytes, sections_payload, AllFitSections}
+use Rattle.dbus_capture.specs.BlockFiles.{framed_bytes, FileBlock, block_bytes, blocks_bytes, interfaces_after, AllFitBlocks, FileSection, section_body, FitsSection, sections_bytes, AllFitSections}
+use Rattle.dbus_capture.specs.BlockPackets.{block_packets, blocks_packets, sections_packets}
+use Rattle.dbus_capture.specs.CutPackets.{whole_payload}
 use Rattle.dbus_capture.specs.BlockFaults.{IsBlockFault, interfaces_all, last_section, IsPcapngOutcome}
 use Rattle.dbus_capture.proofs.Choices.{cases_same}
+use Rattle.dbus_capture.proofs.KeptLaws.{payload_both}
 use Rattle.dbus_capture.proofs.SectionLaws.{block_ends, order_in, interfaces_in, order_last, interfaces_last}
 use Rattle.dbus_capture.proofs.StepLaws.{run-append, given-append, opens}
 use Rattle.dbus_capture.proofs.WordLaws.{are_drop}
@@ -66,10 +69,10 @@ first_of s a order interfaces bytes w are some =
 record AllBlocks (s : Scan) (order : ByteOrder) (interfaces : List Interface) (bytes : List ℕ) : Type 0 where
   blocks : List FileBlock
   sections : List FileSection
-  fit : AllFitBlocks order interfaces blocks
-  fits : AllFitSections sections
+  fit : AllFitBlocks s.passes_cut order interfaces blocks
+  fits : AllFitSections s.passes_cut sections
   joined : bytes ≡ blocks_bytes order blocks ++ sections_bytes sections
-  gives : given s bytes ≡ blocks_payload interfaces blocks ++ sections_payload sections
+  gives : given s bytes ≡ whole_payload (blocks_packets interfaces blocks) ++ whole_payload (sections_packets sections)
   ends : (ended (run s bytes)).fault ≡ None
 
 -- or a fault comes after these
@@ -80,11 +83,11 @@ record FaultAfter (s : Scan) (a : ℕ) (order : ByteOrder) (interfaces : List In
   within : ℕ
   reason : CaptureReason
   part : List ℕ
-  fit : AllFitBlocks order interfaces blocks
-  fits : AllFitSections sections
+  fit : AllFitBlocks s.passes_cut order interfaces blocks
+  fits : AllFitSections s.passes_cut sections
   joined : bytes ≡ (blocks_bytes order blocks ++ sections_bytes sections) ++ rest
-  faulty : IsBlockFault (order_in order sections) (interfaces_in (interfaces_all interfaces blocks) sections) rest within reason part
-  fails : FailsAt s bytes (a + (length (blocks_bytes order blocks ++ sections_bytes sections) + within)) reason ((blocks_payload interfaces blocks ++ sections_payload sections) ++ part)
+  faulty : IsBlockFault s.passes_cut (order_in order sections) (interfaces_in (interfaces_all interfaces blocks) sections) rest within reason part
+  fails : FailsAt s bytes (a + (length (blocks_bytes order blocks ++ sections_bytes sections) + within)) reason ((whole_payload (blocks_packets interfaces blocks) ++ whole_payload (sections_packets sections)) ++ part)
 
 abbrev Outcome : Scan → ℕ → ByteOrder → List Interface → List ℕ → Type 0
 Outcome s a order interfaces bytes = AllBlocks s order interfaces bytes ⊎ FaultAfter s a order interfaces bytes
@@ -115,26 +118,33 @@ module _ (s : Scan) (a : ℕ) (order : ByteOrder) (interfaces : List Interface) 
   abbrev after_block : List Interface
   after_block = interfaces_after interfaces b.block
 
+  abbrev one : List ℕ
+  one = block_bytes order b.block
+
+  abbrev out : List ℕ
+  out = whole_payload (block_packets interfaces b.block)
+
+  -- what is handed on of all blocks
+  out_then : (blocks : List FileBlock) (last : List ℕ) → out ++ (whole_payload (blocks_packets after_block blocks) ++ last) ≡ whole_payload (blocks_packets interfaces (b.block ∷ blocks)) ++ last
+  out_then blocks last =
+      sym (append_assoc out (whole_payload (blocks_packets after_block blocks)) last) ∙ ap (λ l. l ++ last) (sym (payload_both (block_packets interfaces b.block) (blocks_packets after_block blocks)))
+
   block_before : Outcome b.step.final (a + b.step.total) order after_block (drop b.step.total bytes) → Outcome s a order interfaces bytes
   block_before (inl o) =
-      let one = block_bytes order b.block in
-      let out = block_payload interfaces b.block in
       inl (record {
         blocks = b.block ∷ o.blocks;
         sections = o.sections;
-        fit = (b.fits, b.body, o.fit);
-        fits = o.fits;
+        fit = (b.fits, b.body, subst (λ (v : Bool). AllFitBlocks v order after_block o.blocks) b.step.passes o.fit);
+        fits = subst (λ (v : Bool). AllFitSections v o.sections) b.step.passes o.fits;
         joined = joined_on s a bytes one order after_block out b.step (blocks_bytes order o.blocks) (sections_bytes o.sections) o.joined;
-        gives = gives_on s a bytes one order after_block out b.step (blocks_payload after_block o.blocks ++ sections_payload o.sections) o.gives ∙ sym (append_assoc out (blocks_payload after_block o.blocks) (sections_payload o.sections));
+        gives = gives_on s a bytes one order after_block out b.step _ o.gives ∙ out_then o.blocks (whole_payload (sections_packets o.sections));
         ends = ap (λ (v : Scan). (ended v).fault) (runs_on s a bytes one order after_block out b.step) ∙ o.ends;
       })
   block_before (inr o) =
-      let one = block_bytes order b.block in
-      let out = block_payload interfaces b.block in
       let others = blocks_bytes order o.blocks in
       let later = sections_bytes o.sections in
-      let payload = blocks_payload after_block o.blocks in
-      let last = sections_payload o.sections in
+      let payload = whole_payload (blocks_packets after_block o.blocks) in
+      let last = whole_payload (sections_packets o.sections) in
       let regroup : one ++ (others ++ later) ≡ (one ++ others) ++ later = sym (append_assoc one others later) in
       let same : a + (length (one ++ (others ++ later)) + o.within) ≡ a + (length ((one ++ others) ++ later) + o.within) = ap (λ (l : List ℕ). a + (length l + o.within)) regroup in
       inr (record {
@@ -144,11 +154,11 @@ module _ (s : Scan) (a : ℕ) (order : ByteOrder) (interfaces : List Interface) 
         within = o.within;
         reason = o.reason;
         part = o.part;
-        fit = (b.fits, b.body, o.fit);
-        fits = o.fits;
+        fit = (b.fits, b.body, subst (λ (v : Bool). AllFitBlocks v order after_block o.blocks) b.step.passes o.fit);
+        fits = subst (λ (v : Bool). AllFitSections v o.sections) b.step.passes o.fits;
         joined = joined_on s a bytes one order after_block out b.step (others ++ later) o.rest o.joined ∙ ap (λ l. l ++ o.rest) regroup;
-        faulty = o.faulty;
-        fails = fails_as s bytes _ _ o.reason _ _ same (ap (λ l. l ++ o.part) (sym (append_assoc out payload last)))
+        faulty = subst (λ (v : Bool). IsBlockFault v (order_in order o.sections) (interfaces_in (interfaces_all after_block o.blocks) o.sections) o.rest o.within o.reason o.part) b.step.passes o.faulty;
+        fails = fails_as s bytes _ _ o.reason _ _ same (ap (λ l. l ++ o.part) (out_then o.blocks last))
             (fails_on s a bytes one order after_block out b.step (others ++ later) o.part o.within o.reason (payload ++ last) o.fails);
       })
 
@@ -156,10 +166,10 @@ module _ (s : Scan) (a : ℕ) (order : ByteOrder) (interfaces : List Interface) 
 record AllSections (s : Scan) (bytes : List ℕ) : Type 0 where
   first : FileSection
   sections : List FileSection
-  fits : FitsSection first
-  fit : AllFitSections sections
+  fits : FitsSection s.passes_cut first
+  fit : AllFitSections s.passes_cut sections
   joined : bytes ≡ sections_bytes (first ∷ sections)
-  gives : given s bytes ≡ sections_payload (first ∷ sections)
+  gives : given s bytes ≡ whole_payload (sections_packets (first ∷ sections))
   ends : (ended (run s bytes)).fault ≡ None
 
 -- or a fault comes after these
@@ -170,15 +180,15 @@ record FaultAfterSections (s : Scan) (a : ℕ) (bytes : List ℕ) : Type 0 where
   within : ℕ
   reason : CaptureReason
   part : List ℕ
-  fits : FitsSection first
-  fit : AllFitSections sections
+  fits : FitsSection s.passes_cut first
+  fit : AllFitSections s.passes_cut sections
   joined : bytes ≡ sections_bytes (first ∷ sections) ++ rest
-  faulty : IsBlockFault (order_in first.order sections) (interfaces_in (interfaces_all [] first.blocks) sections) rest within reason part
-  fails : FailsAt s bytes (a + (length (sections_bytes (first ∷ sections)) + within)) reason (sections_payload (first ∷ sections) ++ part)
+  faulty : IsBlockFault s.passes_cut (order_in first.order sections) (interfaces_in (interfaces_all [] first.blocks) sections) rest within reason part
+  fails : FailsAt s bytes (a + (length (sections_bytes (first ∷ sections)) + within)) reason (whole_payload (sections_packets (first ∷ sections)) ++ part)
 
 -- the first block of a section
 module _ (s : Scan) (a : ℕ) (bytes : List ℕ) (b : SectionStep s a bytes) where
-  with_blocks : (blocks : List FileBlock) → AllFitBlocks b.first.order [] blocks → FitsSection (record b.first { blocks = blocks })
+  with_blocks : (blocks : List FileBlock) → AllFitBlocks s.passes_cut b.first.order [] blocks → FitsSection s.passes_cut (record b.first { blocks = blocks })
   with_blocks blocks fit = record { minor = b.fits.minor; size = b.fits.size; body = b.fits.body; blocks = fit }
 
   section_first : Outcome b.step.final (a + b.step.total) b.first.order [] (drop b.step.total bytes) → AllSections s bytes ⊎ FaultAfterSections s a bytes
@@ -187,10 +197,10 @@ module _ (s : Scan) (a : ℕ) (bytes : List ℕ) (b : SectionStep s a bytes) whe
       inl (record {
         first = record b.first { blocks = o.blocks };
         sections = o.sections;
-        fits = with_blocks o.blocks o.fit;
-        fit = o.fits;
+        fits = with_blocks o.blocks (subst (λ (v : Bool). AllFitBlocks v b.first.order [] o.blocks) b.step.passes o.fit);
+        fit = subst (λ (v : Bool). AllFitSections v o.sections) b.step.passes o.fits;
         joined = joined_on s a bytes one b.first.order [] [] b.step (blocks_bytes b.first.order o.blocks) (sections_bytes o.sections) o.joined;
-        gives = gives_on s a bytes one b.first.order [] [] b.step (blocks_payload [] o.blocks ++ sections_payload o.sections) o.gives;
+        gives = gives_on s a bytes one b.first.order [] [] b.step _ o.gives ∙ sym (payload_both (blocks_packets [] o.blocks) (sections_packets o.sections));
         ends = ap (λ (v : Scan). (ended v).fault) (runs_on s a bytes one b.first.order [] [] b.step) ∙ o.ends;
       })
   section_first (inr o) =
@@ -206,12 +216,12 @@ module _ (s : Scan) (a : ℕ) (bytes : List ℕ) (b : SectionStep s a bytes) whe
         within = o.within;
         reason = o.reason;
         part = o.part;
-        fits = with_blocks o.blocks o.fit;
-        fit = o.fits;
+        fits = with_blocks o.blocks (subst (λ (v : Bool). AllFitBlocks v b.first.order [] o.blocks) b.step.passes o.fit);
+        fit = subst (λ (v : Bool). AllFitSections v o.sections) b.step.passes o.fits;
         joined = joined_on s a bytes one b.first.order [] [] b.step (others ++ later) o.rest o.joined ∙ ap (λ l. l ++ o.rest) regroup;
-        faulty = o.faulty;
-        fails = fails_as s bytes _ _ o.reason _ _ same refl
-            (fails_on s a bytes one b.first.order [] [] b.step (others ++ later) o.part o.within o.reason (blocks_payload [] o.blocks ++ sections_payload o.sections) o.fails);
+        faulty = subst (λ (v : Bool). IsBlockFault v (order_in b.first.order o.sections) (interfaces_in (interfaces_all [] o.blocks) o.sections) o.rest o.within o.reason o.part) b.step.passes o.faulty;
+        fails = fails_as s bytes _ _ o.reason _ _ same (ap (λ l. l ++ o.part) (sym (payload_both (blocks_packets [] o.blocks) (sections_packets o.sections))))
+            (fails_on s a bytes one b.first.order [] [] b.step (others ++ later) o.part o.within o.reason (whole_payload (blocks_packets [] o.blocks) ++ whole_payload (sections_packets o.sections)) o.fails);
       })
 
 -- in a section
@@ -281,14 +291,14 @@ outcome_of (suc n) s a order interfaces (x ∷ xs) low w are =
 -- ---- a file
 
 abbrev HasOutcome : Scan → List ℕ → Type 0
-HasOutcome s bytes = IsPcapngOutcome bytes (given s bytes) (ended (run s bytes)).fault
+HasOutcome s bytes = IsPcapngOutcome s.passes_cut bytes (given s bytes) (ended (run s bytes)).fault
 
 file_outcome : (s : Scan) (bytes : List ℕ) → AllSections s bytes ⊎ FaultAfterSections s 0 bytes → HasOutcome s bytes
-file_outcome s bytes (inl o) = subst (IsPcapngOutcome bytes (given s bytes)) (sym o.ends) (record { first = o.first; sections = o.sections; fits = o.fits; fit = o.fit; joined = o.joined; gives = o.gives })
+file_outcome s bytes (inl o) = subst (IsPcapngOutcome s.passes_cut bytes (given s bytes)) (sym o.ends) (record { first = o.first; sections = o.sections; fits = o.fits; fit = o.fit; joined = o.joined; gives = o.gives })
 file_outcome s bytes (inr o) =
     let n = length (sections_bytes (o.first ∷ o.sections)) + o.within in
     let zero_more : 0 + n ≡ n = omega arith in
-    subst (IsPcapngOutcome bytes (given s bytes)) (sym o.fails.0) (inr (record {
+    subst (IsPcapngOutcome s.passes_cut bytes (given s bytes)) (sym o.fails.0) (inr (record {
       first = o.first;
       sections = o.sections;
       rest = o.rest;
@@ -297,8 +307,8 @@ file_outcome s bytes (inr o) =
       fits = o.fits;
       fit = o.fit;
       joined = o.joined;
-      faulty = subst (λ (v : ByteOrder). IsBlockFault v (interfaces_all [] (last_section o.first o.sections).blocks) o.rest o.within o.reason o.part) (order_last o.first o.sections)
-          (subst (λ (l : List Interface). IsBlockFault (order_in o.first.order o.sections) l o.rest o.within o.reason o.part) (interfaces_last o.first o.sections) o.faulty);
+      faulty = subst (λ (v : ByteOrder). IsBlockFault s.passes_cut v (interfaces_all [] (last_section o.first o.sections).blocks) o.rest o.within o.reason o.part) (order_last o.first o.sections)
+          (subst (λ (l : List Interface). IsBlockFault s.passes_cut (order_in o.first.order o.sections) l o.rest o.within o.reason o.part) (interfaces_last o.first o.sections) o.faulty);
       at = ap place zero_more;
       gives = o.fails.1;
     }))
@@ -306,17 +316,17 @@ file_outcome s bytes (inr o) =
 start_outcome : (s : Scan) (bytes : List ℕ) → AreBytes bytes → SectionOutcome s 0 bytes → HasOutcome s bytes
 start_outcome s bytes are (inl f) =
     let zero_more : 0 + f.within ≡ f.within = omega arith in
-    subst (IsPcapngOutcome bytes (given s bytes)) (sym f.fails.0) (inl (record { within = f.within; faulty = f.faulty; at = ap place zero_more; gives = f.fails.1 }))
+    subst (IsPcapngOutcome s.passes_cut bytes (given s bytes)) (sym f.fails.0) (inl (record { within = f.within; faulty = f.faulty; at = ap place zero_more; gives = f.fails.1 }))
 start_outcome s bytes are (inr b) =
     file_outcome s bytes (section_first s 0 bytes b
     (outcome_of (suc (length (drop b.step.total bytes))) b.step.final (0 + b.step.total) b.first.order [] (drop b.step.total bytes) (omega arith) b.step.after (are_drop b.step.total bytes are)))
 
 -- bytes that begin as a file does
-pub pcapng_outcome : (x : ℕ) (xs : List ℕ) → AreBytes (x ∷ xs) → first_stage x ≡ stages.Section → IsPcapngOutcome (x ∷ xs) (given (fresh false stages.Start) (x ∷ xs)) (ended (run (fresh false stages.Start) (x ∷ xs))).fault
-pcapng_outcome x xs are first =
+pub pcapng_outcome : (passes : Bool) (x : ℕ) (xs : List ℕ) → AreBytes (x ∷ xs) → first_stage x ≡ stages.Section → IsPcapngOutcome passes (x ∷ xs) (given (fresh passes stages.Start) (x ∷ xs)) (ended (run (fresh passes stages.Start) (x ∷ xs))).fault
+pcapng_outcome passes x xs are first =
     let bytes = x ∷ xs in
-    let s : Scan = record (fresh false stages.Start) { head = begun stages.Section } in
-    let opening = opens (fresh false stages.Start) s x xs (ap (λ (t : Stage). record (fresh false stages.Start) { head = begun t }) first) refl in
-    subst (λ (l : List ℕ). IsPcapngOutcome bytes l (ended (run (fresh false stages.Start) bytes)).fault) (sym opening.1)
-    (subst (λ (v : Scan). IsPcapngOutcome bytes (given s bytes) (ended v).fault) (sym opening.0)
-    (start_outcome s bytes are (first_outcome s bytes refl refl refl refl refl refl are)))
+    let s : Scan = record (fresh passes stages.Start) { head = begun stages.Section } in
+    let opening = opens (fresh passes stages.Start) s x xs (ap (λ (t : Stage). record (fresh passes stages.Start) { head = begun t }) first) refl in
+    subst (λ (l : List ℕ). IsPcapngOutcome passes bytes l (ended (run (fresh passes stages.Start) bytes)).fault) (sym opening.1)
+    (subst (λ (v : Scan). IsPcapngOutcome passes bytes (given s bytes) (ended v).fault) (sym opening.0)
+    (start_outcome s bytes are (first_outcome s bytes refl refl refl refl refl are)))

@@ -15,7 +15,9 @@ use Rattle.dbus_capture.specs.Scans.{refused}
 use Rattle.dbus_capture.specs.Blocks.{is_length, block_stage, block_by}
 use Rattle.dbus_capture.specs.Steps.{run, given}
 use Rattle.dbus_capture.specs.PcapFaults.{AreBytes}
-use Rattle.dbus_capture.specs.BlockFiles.{FitsBody, framed_bytes, FileBlock, block_kind, block_body, block_bytes, block_payload, interfaces_after, FitsBlock}
+use Rattle.dbus_capture.specs.BlockFiles.{FitsBody, framed_bytes, FileBlock, block_kind, block_body, block_bytes, interfaces_after, FitsBlock}
+use Rattle.dbus_capture.specs.BlockPackets.{block_packets}
+use Rattle.dbus_capture.specs.CutPackets.{whole_payload}
 use Rattle.dbus_capture.specs.BlockFaults.{HasLength, HasNoLength, PacketForm, EnhancedForm, ObsoleteForm, SimpleForm, Form, OfInterface, OfPacket, OfOther, IsOf, least_length, form_part, IsSound, IsFormFault, IsBlockFault}
 use Rattle.dbus_capture.proofs.Choices.{eq_not, cases_same, when_false}
 use Rattle.dbus_capture.proofs.BlockTurns.{takes_head}
@@ -49,16 +51,16 @@ length_cases least total =
 -- the bytes begin with a whole block of the section
 pub record BlockStep (s : Scan) (a : ℕ) (order : ByteOrder) (interfaces : List Interface) (bytes : List ℕ) : Type 0 where
   pub block : FileBlock
-  pub fits : FitsBlock interfaces block
+  pub fits : FitsBlock s.passes_cut interfaces block
   pub body : FitsBody (block_body order block)
-  pub step : Stepped s a bytes (block_bytes order block) order (interfaces_after interfaces block) (block_payload interfaces block)
+  pub step : Stepped s a bytes (block_bytes order block) order (interfaces_after interfaces block) (whole_payload (block_packets interfaces block))
 
 -- or the first block is at fault
 pub record BlockFails (s : Scan) (a : ℕ) (order : ByteOrder) (interfaces : List Interface) (bytes : List ℕ) : Type 0 where
   pub within : ℕ
   pub reason : CaptureReason
   pub part : List ℕ
-  pub faulty : IsBlockFault order interfaces bytes within reason part
+  pub faulty : IsBlockFault s.passes_cut order interfaces bytes within reason part
   pub fails : FailsAt s bytes (a + within) reason part
 
 abbrev pub BlockOutcome : Scan → ℕ → ByteOrder → List Interface → List ℕ → Type 0
@@ -132,7 +134,7 @@ module _ (s : Scan) (a : ℕ) (order : ByteOrder) (interfaces : List Interface) 
   opened m e = record { ran = opens.0 ∙ e; gave = opens.1 }
 
   -- a fault of it
-  pub form_fails : (k : ℕ) (reason : CaptureReason) (part : List ℕ) → IsFormFault f order interfaces bytes k reason part → FailsAt s bytes (a + k) reason part → BlockFails s a order interfaces bytes
+  pub form_fails : (k : ℕ) (reason : CaptureReason) (part : List ℕ) → IsFormFault s.passes_cut f order interfaces bytes k reason part → FailsAt s bytes (a + k) reason part → BlockFails s a order interfaces bytes
   form_fails k reason part g e = record { within = k; reason = reason; part = part; faulty = inr (inr (eight, f, is, g)); fails = e }
 
   pub length_told : HasNoLength (least_length f) (u32_at order 4 bytes) → FailsAt s bytes (a + 4) BlockLength []
@@ -141,7 +143,7 @@ module _ (s : Scan) (a : ℕ) (order : ByteOrder) (interfaces : List Interface) 
   pub bad_length : HasNoLength (least_length f) (u32_at order 4 bytes) → BlockFails s a order interfaces bytes
   bad_length h = form_fails 4 BlockLength [] (refl, h, refl) (length_told h)
 
-  module _ (are : AreBytes bytes) (has : HasLength (least_length f) (u32_at order 4 bytes)) (sound : IsSound f order interfaces bytes) (twelve : 12 ≤ u32_at order 4 bytes) where
+  module _ (are : AreBytes bytes) (has : HasLength (least_length f) (u32_at order 4 bytes)) (sound : IsSound s.passes_cut f order interfaces bytes) (twelve : 12 ≤ u32_at order 4 bytes) where
     -- the bytes end in it
     pub cut_block : (part : List ℕ) → length bytes < u32_at order 4 bytes → FailsAt s bytes (a + length bytes) Truncated part → part ≡ form_part f order interfaces bytes → BlockFails s a order interfaces bytes
     cut_block part short e p = form_fails (length bytes) Truncated part (has, sound, refl, short, p) e

@@ -53,7 +53,7 @@ module _ (s : Scan) (a : ℕ) (order : ByteOrder) (interfaces : List Interface) 
         low = u32_low order bytes 4 are;
         order_is = w.stands.order_is;
         interfaces_are = w.stands.interfaces_are;
-        refuses = w.refuses;
+        passes = refl;
       }
 
   none_given : take passing.give (drop 8 bytes) ≡ []
@@ -176,12 +176,11 @@ module _ (s : Scan) (a : ℕ) (order : ByteOrder) (interfaces : List Interface) 
           interface_is = ap (λ (v : ℕ). record { link_type = v; snap_length = u32_at s.order 4 head; resolution = 6; has_offset = false }) link
               ∙ ap (λ (v : ℕ). record { link_type = u16_at order 8 bytes; snap_length = v; resolution = 6; has_offset = false }) snap;
           next = ap (λ (v : ℕ). place (v + 8)) at_m ∙ place_more (a + 8) 8 ∙ ap place (let z : a + 8 + 8 ≡ a + 16 = omega arith in z);
-          refuses = w.refuses;
         }
 
     -- its options are taken
     module _ (v : OptionsTaken begins (a + 16) order interfaces total (total - 20) described (drop 16 bytes)) where
-      sound : IsSound OfInterface order interfaces bytes
+      sound : IsSound s.passes_cut OfInterface order interfaces bytes
       sound = inr (v.over, v.tail, v.has, ends_as v.over v.tail v.ends)
 
       stands : Stands s a bytes stages.InterfaceTrailer order interfaces total (16 + v.taken) v.final
@@ -202,7 +201,7 @@ module _ (s : Scan) (a : ℕ) (order : ByteOrder) (interfaces : List Interface) 
             low = u32_low order bytes 4 are;
             order_is = v.order_is;
             interfaces_are = v.interfaces_are;
-            refuses = v.refuses;
+            passes = v.passes;
           }
 
       none_handed : take v.final.give (drop (16 + v.taken) bytes) ≡ []
@@ -286,7 +285,7 @@ module _ (s : Scan) (a : ℕ) (order : ByteOrder) (interfaces : List Interface) 
                       ready = record { unfaulted = v.unfaulted; head = refl; give = refl; skip = refl };
                       order_is = v.order_is;
                       interfaces_are = ap (λ (l : List Interface). l ++ v.final.interface ∷ []) v.interfaces_are ∙ ap (λ (j : Interface). interfaces ++ j ∷ []) v.interface_is;
-                    }) v.refuses);
+                    }) v.passes);
               }
 
           by_count : BlockOutcome s a order interfaces bytes
@@ -346,7 +345,7 @@ module _ (s : Scan) (a : ℕ) (order : ByteOrder) (interfaces : List Interface) 
       ]
 
   -- what comes if no option is: they are taken, or the bytes end in one
-  sound_told : (k : ℕ) (reason : CaptureReason) (there : 16 ≤ length bytes) → IsSound OfInterface order interfaces bytes → (OptionsTaken (begins there) (a + 16) order interfaces total (total - 20) described (drop 16 bytes) → Told k reason)
+  sound_told : (k : ℕ) (reason : CaptureReason) (there : 16 ≤ length bytes) → IsSound s.passes_cut OfInterface order interfaces bytes → (OptionsTaken (begins there) (a + 16) order interfaces total (total - 20) described (drop 16 bytes) → Told k reason)
       → (OptionsCut (begins there) (a + 16) order (total - 20) (drop 16 bytes) → Told k reason) → Told k reason
   sound_told k reason there sound taken cut =
       elim (options_here there) [
@@ -364,16 +363,16 @@ module _ (s : Scan) (a : ℕ) (order : ByteOrder) (interfaces : List Interface) 
       let short = v.short in
       absurd (omega (arith, l, short, there, enough))
 
-  pub cut_told : IsSound OfInterface order interfaces bytes → length bytes < total → Told (length bytes) Truncated
+  pub cut_told : IsSound s.passes_cut OfInterface order interfaces bytes → length bytes < total → Told (length bytes) Truncated
   cut_told sound short = elim (cases_lt (length bytes) 16) [ inl h ↦ interface_cut h | inr there ↦ sound_told (length bytes) Truncated there sound (λ v. cut_here there v short) (cut_options there) ]
 
   there_all : total ≤ length bytes → 16 ≤ length bytes
   there_all enough = let z = has.enough in omega (arith, z, enough)
 
-  pub unequal_told : IsSound OfInterface order interfaces bytes → total ≤ length bytes → u32_at order (total - 4) bytes ≢ total → Told (total - 4) BlockLengths
+  pub unequal_told : IsSound s.passes_cut OfInterface order interfaces bytes → total ≤ length bytes → u32_at order (total - 4) bytes ≢ total → Told (total - 4) BlockLengths
   unequal_told sound enough d = let there = there_all enough in sound_told (total - 4) BlockLengths there sound (λ v. unequal_here there v enough d) (no_cut (total - 4) BlockLengths there enough)
 
-  pub many_told : IsSound OfInterface order interfaces bytes → total ≤ length bytes → u32_at order (total - 4) bytes ≡ total → 64 ≤ length interfaces → Told (total - 4) TooManyInterfaces
+  pub many_told : IsSound s.passes_cut OfInterface order interfaces bytes → total ≤ length bytes → u32_at order (total - 4) bytes ≡ total → 64 ≤ length interfaces → Told (total - 4) TooManyInterfaces
   many_told sound enough same h = let there = there_all enough in sound_told (total - 4) TooManyInterfaces there sound (λ v. many_here there v enough same h) (no_cut (total - 4) TooManyInterfaces there enough)
 
   pub interface_outcome : BlockOutcome s a order interfaces bytes

@@ -291,10 +291,10 @@ went_after : (t : Scan) (xs ys : List ℕ) (order : ByteOrder) (interfaces inter
     → Went t (xs ++ ys) order interfaces' [] (n + k) 0 0
 went_after t xs ys order interfaces interfaces' total left i n k w v = goes_on t w.final xs ys order interfaces' [] n 0 0 k 0 0 w.ran w.gave w.kept v
 
-pub interface_read : (s : Scan) (order : ByteOrder) (interfaces : List Interface) (link_type reserved snap_length : ℕ) (options : List InterfaceOption) (end : Option (List ℕ)) → InSection s order interfaces → FitsBlock interfaces (InterfaceBlock link_type reserved snap_length options end)
+pub interface_read : (passes : Bool) (s : Scan) (order : ByteOrder) (interfaces : List Interface) (link_type reserved snap_length : ℕ) (options : List InterfaceOption) (end : Option (List ℕ)) → InSection s order interfaces → FitsBlock passes interfaces (InterfaceBlock link_type reserved snap_length options end)
     → FitsBody (block_body order (InterfaceBlock link_type reserved snap_length options end))
     → Took s (block_bytes order (InterfaceBlock link_type reserved snap_length options end)) order (interfaces_after interfaces (InterfaceBlock link_type reserved snap_length options end)) []
-interface_read s order interfaces link_type reserved snap_length options end i f b =
+interface_read passes s order interfaces link_type reserved snap_length options end i f b =
     let h = u16_bytes order link_type ++ (u16_bytes order reserved ++ u32_bytes order snap_length) in
     let spelled = options_bytes order options in
     let ending = end_bytes order end in

@@ -48,7 +48,6 @@ pub record InOptions (t : Scan) (at : ℕ) (order : ByteOrder) (interfaces : Lis
   pub rest_is : t.rest ≡ left
   pub interface_is : t.interface ≡ i
   pub next : t.next ≡ place at
-  pub refuses : t.passes_cut ≡ false
 
 -- options that fit were taken, and then the end of all, if it is there
 pub record OptionsTaken (t : Scan) (at : ℕ) (order : ByteOrder) (interfaces : List Interface) (total left : ℕ) (i : Interface) (rest : List ℕ) : Type 0 where
@@ -69,7 +68,7 @@ pub record OptionsTaken (t : Scan) (at : ℕ) (order : ByteOrder) (interfaces : 
   pub interfaces_are : final.interfaces ≡ interfaces
   pub total_is : final.total ≡ total
   pub interface_is : final.interface ≡ with_options i has.options
-  pub refuses : final.passes_cut ≡ false
+  pub passes : final.passes_cut ≡ t.passes_cut
 
 -- or one is at fault
 pub record OptionFails (t : Scan) (at : ℕ) (order : ByteOrder) (left : ℕ) (rest : List ℕ) : Type 0 where
@@ -166,6 +165,7 @@ record OptionTaken (t : Scan) (at : ℕ) (order : ByteOrder) (interfaces : List 
   final : Scan
   reached : Reached t rest k [] final
   stands : InOptions final (at + k) order interfaces total (left - k) (with_option i option)
+  passes : final.passes_cut ≡ t.passes_cut
 
 module _ (t : Scan) (at : ℕ) (order : ByteOrder) (interfaces : List Interface) (total left : ℕ) (i : Interface) (rest : List ℕ) (o : InOptions t at order interfaces total left i) (are : AreBytes rest) (more : 4 ≤ left) where
   abbrev code : ℕ
@@ -240,7 +240,7 @@ module _ (t : Scan) (at : ℕ) (order : ByteOrder) (interfaces : List Interface)
           interfaces_are = o.interfaces_are;
           total_is = o.total_is;
           interface_is = o.interface_is;
-          refuses = o.refuses;
+          passes = refl;
         }
 
     module _ (some : code ≢ 0) where
@@ -324,8 +324,8 @@ module _ (t : Scan) (at : ℕ) (order : ByteOrder) (interfaces : List Interface)
                     rest_is = left_is;
                     interface_is = ap (λ (v : Interface). record v { resolution = slice_index value 0 }) o.interface_is ∙ ap (λ (n : ℕ). record i { resolution = n }) first ∙ sym (when_true _ _ _ (eq_is code 9 nine));
                     next = ap (λ (v : ℕ). place (v + 4)) at_value ∙ place_more (at + 4) 4 ∙ ap place (let z : at + 4 + 4 ≡ at + 8 = omega arith in z);
-                    refuses = o.refuses;
                   };
+                  passes = refl;
                 }
 
         -- another option
@@ -379,8 +379,8 @@ module _ (t : Scan) (at : ℕ) (order : ByteOrder) (interfaces : List Interface)
                   rest_is = left_is;
                   interface_is = is;
                   next = after_it ∙ ap place (let z : at + 4 + padded size ≡ at + (4 + padded size) = omega arith in z);
-                  refuses = o.refuses;
                 };
+                passes = refl;
               }
 
 -- ---- all of them
@@ -404,7 +404,7 @@ options_none t at order interfaces total i rest o = record {
   interfaces_are = o.interfaces_are;
   total_is = o.total_is;
   interface_is = o.interface_is;
-  refuses = o.refuses;
+  passes = refl;
 }
 
 -- an option comes before what is left
@@ -450,7 +450,7 @@ module _ (t : Scan) (at : ℕ) (order : ByteOrder) (interfaces : List Interface)
         interfaces_are = v.interfaces_are;
         total_is = v.total_is;
         interface_is = v.interface_is;
-        refuses = v.refuses;
+        passes = v.passes ∙ w.passes;
       })
   option_before (inr (inl v)) =
       let least = w.least in

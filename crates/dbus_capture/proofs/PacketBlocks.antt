@@ -1,5 +1,5 @@
 -- A block of a packet is whole, or at fault.
-use Rattle.std.proofs.Common.{◌≡◌, ◌≢◌, inl, inr, ℕ, zero, suc, ◌+◌, ◌-◌, ◌*◌, ◌<◌, ◌≤◌, ◌^◌, Bool, true, false, cond, nat_lt, List, [], ◌++◌, length, take, drop, Option, None, Some, refl, sym, ap, subst, ◌∙◌, arith}
+use Rattle.std.proofs.Common.{◌≡◌, ◌≢◌, inl, inr, ℕ, zero, suc, ◌+◌, ◌-◌, ◌*◌, ◌<◌, ◌≤◌, ◌^◌, Bool, true, false, cond, nat_lt, List, [], ◌∷◌, ◌++◌, length, take, drop, Option, None, Some, refl, sym, ap, subst, ◌∙◌, arith, append-nil}
 use Rattle.std.specs.Prelude.{◌==◌, slice_get}
 use Rattle.std.proofs.lemmas.Bool.{cases_lt}
 use Rattle.std.proofs.lemmas.List.{length-take-le, length-drop, drop_all}
@@ -13,12 +13,15 @@ use Rattle.dbus_capture.specs.declared.scan.Scan.{Scan}
 use Rattle.dbus_capture.specs.Numbers.{u32_bytes, u16_bytes, u32_at, u16_at}
 use Rattle.dbus_capture.specs.Stages.{want, is_filed, begun}
 use Rattle.dbus_capture.specs.Scans.{place, refused}
-use Rattle.dbus_capture.specs.Blocks.{padded, block_by, time_of, give_packet, pass_packet, block_packet, enhanced_by, simple_by, captured_length, decoded_by}
+use Rattle.dbus_capture.specs.Blocks.{padded, block_by, time_of, give_packet, pass_packet, pass_cut, block_packet, enhanced_by, simple_by, captured_length, decoded_by}
 use Rattle.dbus_capture.specs.Steps.{Gathers, run, may_end, given}
 use Rattle.dbus_capture.specs.PcapFaults.{AreBytes}
-use Rattle.dbus_capture.specs.BlockFiles.{FileBlock, PacketBlock, ObsoleteBlock, SimpleBlock, block_kind, block_body, block_bytes, block_payload, bytes_by, interfaces_after, FitsBlock}
-use Rattle.dbus_capture.specs.BlockFaults.{HasLength, PacketForm, EnhancedForm, ObsoleteForm, SimpleForm, SaidPacket, captured_by, said, IsPacket, packet_part, OfPacket, IsOf, least_length}
+use Rattle.dbus_capture.specs.BlockFiles.{FileBlock, PacketBlock, ObsoleteBlock, SimpleBlock, block_kind, block_body, block_bytes, interfaces_after, FitsBlock}
+use Rattle.dbus_capture.specs.CutPackets.{Captured, IsCaptured, is_cut, whole_payload}
+use Rattle.dbus_capture.specs.BlockPackets.{packet_by, block_packets}
+use Rattle.dbus_capture.specs.BlockFaults.{HasLength, PacketForm, EnhancedForm, ObsoleteForm, SimpleForm, SaidPacket, captured_by, said, IsPacket, bytes_by, packet_part, OfPacket, IsOf, least_length}
 use Rattle.dbus_capture.proofs.Choices.{lt_true, lt_false, eq_is, eq_not, cases_same, when_true, when_false}
+use Rattle.dbus_capture.proofs.PcapLaws.{captured_most, over_is, captured_or}
 use Rattle.dbus_capture.proofs.BlockTurns.{takes_head, opens_as}
 use Rattle.dbus_capture.proofs.WordLaws.{u32_within, u16_within, u32_low, u16_low, word, word_first, half, half_first, parts}
 use Rattle.dbus_capture.proofs.EndLaws.{FailsAt, fails_as, place_more, ends_within, Reached, reach_more, fails_from}
@@ -110,7 +113,24 @@ bytes_none None = refl
 bytes_none (Some i) = cond_none (i.link_type == 231)
 
 pub part_none : (p : SaidPacket) (bytes : List ℕ) → length bytes ≤ p.start → packet_part p bytes ≡ []
-part_none p bytes h = ap (λ (l : List ℕ). bytes_by (take p.captured l) p.interface) (drop_all p.start bytes h) ∙ ap (λ (l : List ℕ). bytes_by l p.interface) (take_none p.captured) ∙ bytes_none p.interface
+part_none p bytes h =
+    ap (λ (l : List ℕ). cond (nat_lt p.captured p.original) [] (bytes_by (take p.captured l) p.interface)) (drop_all p.start bytes h)
+    ∙ ap (λ (l : List ℕ). cond (nat_lt p.captured p.original) [] (bytes_by l p.interface)) (take_none p.captured) ∙ ap (λ (l : List ℕ). cond (nat_lt p.captured p.original) [] l) (bytes_none p.interface) ∙ cond_none (nat_lt p.captured p.original)
+
+-- those of a packet that is there
+part_is : (original captured : ℕ) (bytes : List ℕ) (o : Option Interface) → length bytes ≡ captured → cond (nat_lt captured original) [] (bytes_by bytes o) ≡ whole_payload (packet_by original bytes o)
+part_is original captured bytes None e = cond_none (nat_lt captured original)
+part_is original captured bytes (Some i) e =
+    let one : Captured = record { original = original; bytes = bytes } in
+    elim (cases_same i.link_type 231) [
+      | inr other ↦
+          let no = eq_not i.link_type 231 other in
+          ap (λ (l : List ℕ). cond (nat_lt captured original) [] l) (when_false _ bytes [] no) ∙ cond_none (nat_lt captured original) ∙ sym (ap whole_payload (when_false _ (one ∷ []) [] no))
+      | inl dbus ↦
+          let yes = eq_is i.link_type 231 dbus in
+          ap (λ (l : List ℕ). cond (nat_lt captured original) [] l) (when_true _ bytes [] yes) ∙ ap (λ (n : ℕ). cond (nat_lt n original) [] bytes) (sym e)
+          ∙ sym (append-nil (cond (is_cut one) [] bytes)) ∙ sym (ap whole_payload (when_true _ (one ∷ []) [] yes))
+    ]
 
 -- ---- the block as it is spelled
 
@@ -133,11 +153,6 @@ kind_is : (f : PacketForm) (order : ByteOrder) (interfaces : List Interface) (by
 kind_is EnhancedForm order interfaces bytes e = sym e
 kind_is ObsoleteForm order interfaces bytes e = sym e
 kind_is SimpleForm order interfaces bytes e = sym e
-
-payload_is : (f : PacketForm) (order : ByteOrder) (interfaces : List Interface) (bytes : List ℕ) → packet_part (said f order interfaces bytes) bytes ≡ block_payload interfaces (block_of f order interfaces bytes)
-payload_is EnhancedForm order interfaces bytes = refl
-payload_is ObsoleteForm order interfaces bytes = refl
-payload_is SimpleForm order interfaces bytes = refl
 
 interfaces_stay : (f : PacketForm) (order : ByteOrder) (interfaces : List Interface) (bytes : List ℕ) → interfaces ≡ interfaces_after interfaces (block_of f order interfaces bytes)
 interfaces_stay EnhancedForm order interfaces bytes = refl
@@ -172,6 +187,16 @@ module _ (start captured total : ℕ) (bytes : List ℕ) (room : start + padded 
       let split : total - (start + 4) ≡ captured + (total - (start + 4) - captured) = omega (arith, p, room) in
       ap (λ (v : ℕ). take v (drop start bytes)) split ∙ parts bytes start captured (total - (start + 4) - captured)
 
+payload_is : (f : PacketForm) (passes : Bool) (order : ByteOrder) (interfaces : List Interface) (bytes : List ℕ) → IsPacket passes (said f order interfaces bytes) (u32_at order 4 bytes) → u32_at order 4 bytes ≤ length bytes
+    → packet_part (said f order interfaces bytes) bytes ≡ whole_payload (block_packets interfaces (block_of f order interfaces bytes))
+payload_is EnhancedForm passes order interfaces bytes p enough =
+    part_is (u32_at order 24 bytes) (u32_at order 20 bytes) (body_there 28 (u32_at order 20 bytes) bytes) (slice_get interfaces (u32_at order 8 bytes)) (body_length 28 (u32_at order 20 bytes) (u32_at order 4 bytes) bytes p.room enough)
+payload_is ObsoleteForm passes order interfaces bytes p enough =
+    part_is (u32_at order 24 bytes) (u32_at order 20 bytes) (body_there 28 (u32_at order 20 bytes) bytes) (slice_get interfaces (u16_at order 8 bytes)) (body_length 28 (u32_at order 20 bytes) (u32_at order 4 bytes) bytes p.room enough)
+payload_is SimpleForm passes order interfaces bytes p enough =
+    let n = captured_by (slice_get interfaces 0) (u32_at order 8 bytes) in
+    part_is (u32_at order 8 bytes) n (body_there 12 n bytes) (slice_get interfaces 0) (body_length 12 n (u32_at order 4 bytes) bytes p.room enough)
+
 -- four words
 four_words : (order : ByteOrder) (bytes : List ℕ) → AreBytes bytes → 28 ≤ length bytes
     → take 16 (drop 12 bytes) ≡ u32_bytes order (u32_at order 12 bytes) ++ (u32_bytes order (u32_at order 16 bytes) ++ (u32_bytes order (u32_at order 20 bytes) ++ u32_bytes order (u32_at order 24 bytes)))
@@ -198,40 +223,40 @@ after_word order bytes first total are room enough e =
     ∙ sym (ap (λ (v : ℕ). take v (drop 8 bytes)) split ∙ parts bytes 8 20 (total - 32) ∙ ap (λ (l : List ℕ). l ++ take (total - 32) (drop 28 bytes)) head
     ∙ ap (λ (l : List ℕ). (first ++ (high ++ (low ++ (u32_bytes order n ++ original)))) ++ l) (rest_split 28 n total bytes room enough))
 
-body_is : (f : PacketForm) (order : ByteOrder) (interfaces : List Interface) (bytes : List ℕ) → AreBytes bytes → IsPacket (said f order interfaces bytes) (u32_at order 4 bytes) → u32_at order 4 bytes ≤ length bytes
+body_is : (f : PacketForm) (passes : Bool) (order : ByteOrder) (interfaces : List Interface) (bytes : List ℕ) → AreBytes bytes → IsPacket passes (said f order interfaces bytes) (u32_at order 4 bytes) → u32_at order 4 bytes ≤ length bytes
     → block_body order (block_of f order interfaces bytes) ≡ body_of bytes (u32_at order 4 bytes)
-body_is EnhancedForm order interfaces bytes are p enough =
+body_is EnhancedForm passes order interfaces bytes are p enough =
     let room = p.room in
     after_word order bytes (u32_bytes order (u32_at order 8 bytes)) (u32_at order 4 bytes) are room enough (word order bytes 8 are (omega (arith, room, enough)))
-body_is ObsoleteForm order interfaces bytes are p enough =
+body_is ObsoleteForm passes order interfaces bytes are p enough =
     let room = p.room in
     after_word order bytes (u16_bytes order (u16_at order 8 bytes) ++ u16_bytes order (u16_at order 10 bytes)) (u32_at order 4 bytes) are room enough
     (half_first order bytes 8 2 are (omega (arith, room, enough)) ∙ ap (λ (l : List ℕ). u16_bytes order (u16_at order 8 bytes) ++ l) (half order bytes 10 are (omega (arith, room, enough))))
-body_is SimpleForm order interfaces bytes are p enough =
+body_is SimpleForm passes order interfaces bytes are p enough =
     let total = u32_at order 4 bytes in
     let n = captured_by (slice_get interfaces 0) (u32_at order 8 bytes) in
     let room = p.room in
     let split : total - 12 ≡ 4 + (total - 16) = omega (arith, room) in
     sym (ap (λ (v : ℕ). take v (drop 8 bytes)) split ∙ word_first order bytes 8 (total - 16) are (omega (arith, room, enough)) ∙ ap (λ (l : List ℕ). u32_bytes order (u32_at order 8 bytes) ++ l) (rest_split 12 n total bytes room enough))
 
-fits_is : (f : PacketForm) (order : ByteOrder) (interfaces : List Interface) (bytes : List ℕ) → AreBytes bytes → IsPacket (said f order interfaces bytes) (u32_at order 4 bytes) → u32_at order 4 bytes ≤ length bytes
-    → FitsBlock interfaces (block_of f order interfaces bytes)
-fits_is EnhancedForm order interfaces bytes are p enough =
+fits_is : (f : PacketForm) (passes : Bool) (order : ByteOrder) (interfaces : List Interface) (bytes : List ℕ) → AreBytes bytes → IsPacket passes (said f order interfaces bytes) (u32_at order 4 bytes) → u32_at order 4 bytes ≤ length bytes
+    → FitsBlock passes interfaces (block_of f order interfaces bytes)
+fits_is EnhancedForm passes order interfaces bytes are p enough =
     let n = u32_at order 20 bytes in
     let size = body_length 28 n (u32_at order 4 bytes) bytes p.room enough in
     let low = u32_low order bytes 20 are in
-    (u32_low order bytes 8 are, omega (arith, size, low), room_fits 28 n (u32_at order 4 bytes) bytes p.room enough, u32_low order bytes 24 are, (p.interface, p.found, λ e. p.uncut e ∙ sym size))
-fits_is ObsoleteForm order interfaces bytes are p enough =
+    (u32_low order bytes 8 are, omega (arith, size, low), room_fits 28 n (u32_at order 4 bytes) bytes p.room enough, u32_low order bytes 24 are, (p.interface, p.found, λ e. subst (IsCaptured passes (u32_at order 24 bytes)) (sym size) (p.captured e)))
+fits_is ObsoleteForm passes order interfaces bytes are p enough =
     let n = u32_at order 20 bytes in
     let size = body_length 28 n (u32_at order 4 bytes) bytes p.room enough in
     let low = u32_low order bytes 20 are in
-    (u16_low order bytes 8 are, omega (arith, size, low), room_fits 28 n (u32_at order 4 bytes) bytes p.room enough, u32_low order bytes 24 are, (p.interface, p.found, λ e. p.uncut e ∙ sym size))
-fits_is SimpleForm order interfaces bytes are p enough =
+    (u16_low order bytes 8 are, omega (arith, size, low), room_fits 28 n (u32_at order 4 bytes) bytes p.room enough, u32_low order bytes 24 are, (p.interface, p.found, λ e. subst (IsCaptured passes (u32_at order 24 bytes)) (sym size) (p.captured e)))
+fits_is SimpleForm passes order interfaces bytes are p enough =
     let n = captured_by (slice_get interfaces 0) (u32_at order 8 bytes) in
     let size = body_length 12 n (u32_at order 4 bytes) bytes p.room enough in (
       u32_low order bytes 8 are,
       room_fits 12 n (u32_at order 4 bytes) bytes p.room enough,
-      (p.interface, p.found, (sym (ap (λ (v : Option Interface). captured_by v (u32_at order 8 bytes)) p.found) ∙ sym size, λ e. p.uncut e ∙ sym size)),
+      (p.interface, p.found, (sym (ap (λ (v : Option Interface). captured_by v (u32_at order 8 bytes)) p.found) ∙ sym size, λ e. subst (IsCaptured passes (u32_at order 8 bytes)) (sym size) (p.captured e))),
     )
 
 -- ---- what it comes to
@@ -291,7 +316,7 @@ module _ (s : Scan) (a : ℕ) (order : ByteOrder) (interfaces : List Interface) 
   pub record Standing : Type 0 where
     pub final : Scan
     pub stands : Stands s a bytes stages.Trailer order interfaces total p.start final
-    pub packet : IsPacket p total
+    pub packet : IsPacket s.passes_cut p total
     pub part : take final.give (drop p.start bytes) ≡ packet_part p bytes
 
   pub cut_told : Standing → length bytes < total → FailsAt s bytes (a + length bytes) Truncated (packet_part p bytes)
@@ -309,13 +334,13 @@ module _ (s : Scan) (a : ℕ) (order : ByteOrder) (interfaces : List Interface) 
           | inl same ↦
               let block = block_of f order interfaces bytes in
               let kind = kind_is f order interfaces bytes is in
-              let body = body_is f order interfaces bytes are t.packet enough in
+              let body = body_is f s.passes_cut order interfaces bytes are t.packet enough in
               inr (record {
                 block = block;
-                fits = fits_is f order interfaces bytes are t.packet enough;
+                fits = fits_is f s.passes_cut order interfaces bytes are t.packet enough;
                 body = body_fitting s a order interfaces bytes w eight (OfPacket f) is are has (inr t.packet) twelve block kind body enough same;
-                step = subst (λ (l : List Interface). Stepped s a bytes (block_bytes order block) order l (block_payload interfaces block)) (interfaces_stay f order interfaces bytes)
-                    (subst (λ (l : List ℕ). Stepped s a bytes (block_bytes order block) order interfaces l) (t.part ∙ payload_is f order interfaces bytes)
+                step = subst (λ (l : List Interface). Stepped s a bytes (block_bytes order block) order l (whole_payload (block_packets interfaces block))) (interfaces_stay f order interfaces bytes)
+                    (subst (λ (l : List ℕ). Stepped s a bytes (block_bytes order block) order interfaces l) (t.part ∙ payload_is f s.passes_cut order interfaces bytes t.packet enough)
                     (right_end s a bytes order interfaces total p.start t.final t.stands enough (block_bytes order block)
                     (spelled_is s a order interfaces bytes w eight (OfPacket f) is are has (inr t.packet) twelve block kind body enough same)
                     (spelled_size s a order interfaces bytes w eight (OfPacket f) is are has (inr t.packet) twelve block kind body enough same) same));
@@ -371,7 +396,7 @@ module _ (s : Scan) (a : ℕ) (order : ByteOrder) (interfaces : List Interface) 
 
         -- what is left of the block, once all that it says is taken
         stands_as : (t : Scan) → block_packet m (p.start - 8) (p.at - 8) (total - (p.start + 4)) i.link_type (time i) p.captured p.original ≡ t → t.fault ≡ None → t.head ≡ begun stages.Trailer
-            → t.give + t.skip ≡ total - (p.start + 4) → t.next ≡ place (m.next + (p.start - 8 + (total - (p.start + 4)))) → t.total ≡ total → t.order ≡ order → t.interfaces ≡ interfaces → t.passes_cut ≡ false
+            → t.give + t.skip ≡ total - (p.start + 4) → t.next ≡ place (m.next + (p.start - 8 + (total - (p.start + 4)))) → t.total ≡ total → t.order ≡ order → t.interfaces ≡ interfaces → t.passes_cut ≡ s.passes_cut
             → Stands s a bytes stages.Trailer order interfaces total p.start t
         stands_as t e u h g n same o j r =
             let z = sizes in
@@ -389,7 +414,7 @@ module _ (s : Scan) (a : ℕ) (order : ByteOrder) (interfaces : List Interface) 
               low = u32_low order bytes 4 are;
               order_is = o;
               interfaces_are = j;
-              refuses = r;
+              passes = r;
             }
 
         pub over_told : i.link_type ≡ 231 → p.original < p.captured → FailsAt s bytes (a + p.at) Lengths []
@@ -398,53 +423,74 @@ module _ (s : Scan) (a : ℕ) (order : ByteOrder) (interfaces : List Interface) 
         over_long : i.link_type ≡ 231 → p.original < p.captured → BlockFails s a order interfaces bytes
         over_long dbus h = form_fails s a order interfaces bytes w eight (OfPacket f) is p.at Lengths [] (has, (there, (refl, i, found, inr (room, dbus, h))), refl) (over_told dbus h)
 
-        pub short_told : i.link_type ≡ 231 → p.captured < p.original → FailsAt s bytes (a + p.at) PacketCut []
-        short_told dbus h =
+        pub short_told : s.passes_cut ≡ false → i.link_type ≡ 231 → p.captured < p.original → FailsAt s bytes (a + p.at) PacketCut []
+        short_told refusing dbus h =
             refuses PacketCut (when_false _ _ _ fits_room ∙ when_true _ _ _ (eq_is i.link_type 231 dbus) ∙ when_false _ _ _ (lt_false p.original p.captured (omega (arith, h)))
-            ∙ when_true _ _ _ (lt_true p.captured p.original h) ∙ when_false _ _ _ w.refuses)
+            ∙ when_true _ _ _ (lt_true p.captured p.original h) ∙ when_false _ _ _ refusing)
 
-        cut_short : i.link_type ≡ 231 → p.captured < p.original → BlockFails s a order interfaces bytes
-        cut_short dbus h = form_fails s a order interfaces bytes w eight (OfPacket f) is p.at PacketCut [] (has, (there, (refl, i, found, room, dbus, h)), refl) (short_told dbus h)
+        cut_short : s.passes_cut ≡ false → i.link_type ≡ 231 → p.captured < p.original → BlockFails s a order interfaces bytes
+        cut_short refusing dbus h = form_fails s a order interfaces bytes w eight (OfPacket f) is p.at PacketCut [] (has, (there, (refl, refusing, i, found, room, dbus, h)), refl) (short_told refusing dbus h)
 
-        gives : i.link_type ≡ 231 → p.original ≡ p.captured → Standing
-        gives dbus same =
+        gives : i.link_type ≡ 231 → IsCaptured s.passes_cut p.original p.captured → p.original ≡ p.captured → Standing
+        gives dbus captured same =
             let t = give_packet m (p.start - 8) (total - (p.start + 4)) (time i) p.captured in
             let least = padded_least p.captured in
             let is_t = when_false _ _ _ fits_room ∙ when_true _ _ _ (eq_is i.link_type 231 dbus) ∙ when_false _ _ _ (lt_false p.original p.captured (omega (arith, same))) ∙ when_false _ _ _ (lt_false p.captured p.original (omega (arith, same))) in
             record {
               final = t;
-              stands = stands_as t is_t w.stands.ready.unfaulted refl (omega (arith, least, room)) refl refl w.stands.order_is w.stands.interfaces_are w.refuses;
-              packet = record { interface = i; found = found; room = room; uncut = λ e. same };
-              part = sym (ap (bytes_by (take p.captured (drop p.start bytes))) found ∙ when_true _ _ _ (eq_is i.link_type 231 dbus));
+              stands = stands_as t is_t w.stands.ready.unfaulted refl (omega (arith, least, room)) refl refl w.stands.order_is w.stands.interfaces_are refl;
+              packet = record { interface = i; found = found; room = room; captured = λ e. captured };
+              part = sym (when_false _ [] _ (lt_false p.captured p.original (omega (arith, same))) ∙ ap (bytes_by (take p.captured (drop p.start bytes))) found ∙ when_true _ _ _ (eq_is i.link_type 231 dbus));
             }
 
-        passes : i.link_type ≢ 231 → Standing
-        passes other =
+        none_there : (t : Scan) → t.give ≡ 0 → take t.give (drop p.start bytes) ≡ []
+        none_there t give = ap (λ (v : ℕ). take v (drop p.start bytes)) give
+
+        skips : i.link_type ≡ 231 → IsCaptured s.passes_cut p.original p.captured → p.captured < p.original → Standing
+        skips dbus captured short =
+            let t = pass_cut m (p.start - 8) (total - (p.start + 4)) in
+            let give = w.stands.ready.give in
+            let passes = over_is s.passes_cut p.original p.captured captured short in
+            let is_t = when_false _ _ _ fits_room ∙ when_true _ _ _ (eq_is i.link_type 231 dbus) ∙ when_false _ _ _ (lt_false p.original p.captured (omega (arith, short))) ∙ when_true _ _ _ (lt_true p.captured p.original short) ∙ when_true _ _ _ passes in
+            record {
+              final = t;
+              stands = stands_as t is_t w.stands.ready.unfaulted refl (omega (arith, give)) refl refl w.stands.order_is w.stands.interfaces_are refl;
+              packet = record { interface = i; found = found; room = room; captured = λ e. captured };
+              part = none_there t give ∙ sym (when_true _ [] _ (lt_true p.captured p.original short));
+            }
+
+        takes_dbus : i.link_type ≡ 231 → IsCaptured s.passes_cut p.original p.captured → Standing
+        takes_dbus dbus captured =
+            let most = captured_most s.passes_cut p.original p.captured captured in
+            elim (cases_lt p.captured p.original) [ inl short ↦ skips dbus captured short | inr all ↦ gives dbus captured (omega (arith, most, all)) ]
+
+        passes_on : i.link_type ≢ 231 → Standing
+        passes_on other =
             let t = pass_packet m (p.start - 8) (total - (p.start + 4)) in
             let give = w.stands.ready.give in
             let is_t = when_false _ _ _ fits_room ∙ when_false _ _ _ (eq_not i.link_type 231 other) in
             record {
               final = t;
-              stands = stands_as t is_t w.stands.ready.unfaulted refl (omega (arith, give)) refl refl w.stands.order_is w.stands.interfaces_are w.refuses;
-              packet = record { interface = i; found = found; room = room; uncut = λ e. absurd (other e) };
-              part = ap (λ (v : ℕ). take v (drop p.start bytes)) give ∙ sym (ap (bytes_by (take p.captured (drop p.start bytes))) found ∙ when_false _ _ _ (eq_not i.link_type 231 other));
+              stands = stands_as t is_t w.stands.ready.unfaulted refl (omega (arith, give)) refl refl w.stands.order_is w.stands.interfaces_are refl;
+              packet = record { interface = i; found = found; room = room; captured = λ e. absurd (other e) };
+              part = none_there t give ∙ sym (ap (λ (l : List ℕ). cond (nat_lt p.captured p.original) [] l) (ap (bytes_by (take p.captured (drop p.start bytes))) found ∙ when_false _ _ _ (eq_not i.link_type 231 other)) ∙ cond_none (nat_lt p.captured p.original));
             }
 
         with_room : BlockOutcome s a order interfaces bytes
         with_room =
             elim (cases_same i.link_type 231) [
-              | inr other ↦ finish (passes other)
+              | inr other ↦ finish (passes_on other)
               | inl dbus ↦ elim (cases_lt p.original p.captured) [
                 | inl over ↦ inl (over_long dbus over)
-                | inr least ↦ elim (cases_lt p.captured p.original) [ inl cut ↦ inl (cut_short dbus cut) | inr most ↦ finish (gives dbus (omega (arith, least, most))) ]
+                | inr least ↦ elim (captured_or s.passes_cut p.original p.captured least) [ inl cut ↦ inl (cut_short cut.0 dbus cut.1) | inr captured ↦ finish (takes_dbus dbus captured) ]
               ]
             ]
 
       of_interface : BlockOutcome s a order interfaces bytes
       of_interface = elim (cases_lt total (p.start + padded p.captured + 4)) [ inl short ↦ inl (no_room short) | inr room ↦ with_room room ]
 
-    pub standing : IsPacket p total → Standing
-    standing e = elim (cases_same e.interface.link_type 231) [ inl dbus ↦ gives e.interface e.found e.room dbus (e.uncut dbus) | inr other ↦ passes e.interface e.found e.room other ]
+    pub standing : IsPacket s.passes_cut p total → Standing
+    standing e = elim (cases_same e.interface.link_type 231) [ inl dbus ↦ takes_dbus e.interface e.found e.room dbus (e.captured dbus) | inr other ↦ passes_on e.interface e.found e.room other ]
 
     by_interface : (o : Option Interface) → p.interface ≡ o → BlockOutcome s a order interfaces bytes
     by_interface None e = inl (no_interface e)

@@ -22,7 +22,7 @@ use Rattle.dbus_capture.proofs.ByteLaws.{bytes_front, bytes_back, u32_respelled,
 use Rattle.dbus_capture.proofs.StepLaws.{run-append, run_stopped, run_gives, run_skips, turn_gives, turn_skips, turn_gathers, given-append}
 use Rattle.dbus_capture.proofs.HeadLaws.{run_gathers}
 use Rattle.dbus_capture.proofs.KeptLaws.{place_same, payload_both}
-use Rattle.dbus_capture.proofs.PcapLaws.{captured_most, over_is, by_lengths, time_at, record_by, Between, Took, packet_taken, record_taken}
+use Rattle.dbus_capture.proofs.PcapLaws.{captured_most, over_is, captured_or, by_lengths, time_at, record_by, Between, Took, packet_taken, record_taken}
 use Rattle.dbus_capture.proofs.PcapFileLaws.{between_ends}
 
 -- ---- the end of the input
@@ -263,10 +263,6 @@ short_tells s bytes b some h = (head_cut_gives s bytes b h ∙ sym (none_either 
 ends_short : (s : Scan) (bytes : List ℕ) → length bytes < 16 → Between s → Outcome s bytes
 ends_short s [] h b = inl (record { gives = nothing_given s; packets = []; fit = tt; joined = refl; ends = nothing_ends s b })
 ends_short s (x ∷ xs) h b = fault_here s (x ∷ xs) (length (x ∷ xs)) Truncated (refl, (λ e. cc), inl h) (short_tells s (x ∷ xs) b (λ e. cc) h)
-
-captured_or : (passes : Bool) (original captured : ℕ) → captured ≤ original → ((passes ≡ false) × (captured < original)) ⊎ IsCaptured passes original captured
-captured_or true original captured most = inr most
-captured_or false original captured most = elim (cases_lt captured original) [ inl cut ↦ inl (refl, cut) | inr all ↦ let e : original ≡ captured = omega (arith, most, all) in inr e ]
 
 module _ (s : Scan) (bytes a b c d more : List ℕ) (w : FourWords bytes a b c d more) (between : Between s) (are : AreBytes bytes) where
   whole_is : bytes ≡ (a ++ (b ++ (c ++ d))) ++ more

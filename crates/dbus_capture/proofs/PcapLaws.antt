@@ -1,5 +1,5 @@
 -- The packets of a pcap file are read as they are spelled.
-use Rattle.std.proofs.Common.{◌≡◌, inl, inr, ℕ, ◌+◌, ◌-◌, ◌<◌, ◌≤◌, ◌^◌, Bool, true, false, cond, nat_lt, List, [], ◌∷◌, ◌++◌, length, None, Some, refl, sym, ap, subst, ◌∙◌, arith, append_assoc, append-nil, length-append}
+use Rattle.std.proofs.Common.{◌≡◌, ◌⊎◌, inl, inr, ℕ, ◌+◌, ◌-◌, ◌<◌, ◌≤◌, ◌^◌, Bool, true, false, cond, nat_lt, List, [], ◌∷◌, ◌++◌, length, None, Some, refl, sym, ap, subst, ◌∙◌, arith, append_assoc, append-nil, length-append}
 use Rattle.std.proofs.lemmas.Bool.{cases_lt}
 use Rattle.dbus_capture.specs.declared.byte_order.ByteOrder.{ByteOrder}
 use Rattle.dbus_capture.specs.declared.stage.Stage.TheVariants.{Record}
@@ -200,6 +200,10 @@ took_then s xs ys ps qs t u = record {
 pub over_is : (passes : Bool) (original captured : ℕ) → IsCaptured passes original captured → captured < original → passes ≡ true
 over_is true original captured f h = refl
 over_is false original captured f h = let e : original ≡ captured = f in absurd (omega (arith, e, h))
+
+pub captured_or : (passes : Bool) (original captured : ℕ) → captured ≤ original → ((passes ≡ false) × (captured < original)) ⊎ IsCaptured passes original captured
+captured_or true original captured most = inr most
+captured_or false original captured most = elim (cases_lt captured original) [ inl cut ↦ inl (refl, cut) | inr all ↦ let e : original ≡ captured = omega (arith, most, all) in inr e ]
 
 -- one packet
 module _ (s : Scan) (p : PcapPacket) (b : Between s) (f : FitsPacket s.passes_cut p) where

@@ -33,7 +33,7 @@ use Rattle.dbus_capture.proofs.FirstBlocks.{and_false, length_bad, length_cases}
 -- the bytes begin with the whole first block of a section
 pub record SectionStep (s : Scan) (a : ℕ) (bytes : List ℕ) : Type 0 where
   pub first : FileSection
-  pub fits : FitsSection first
+  pub fits : FitsSection s.passes_cut first
   pub step : Stepped s a bytes (framed_bytes first.order 0x0a0d0d0a (section_body first)) first.order [] []
 
 -- or it is at fault
@@ -82,7 +82,7 @@ minor_bad n c d = ap (λ (b : Bool). b || (n == 2)) (eq_not n 0 c) ∙ eq_not n 
 -- ---- what it comes to, once its head is gathered
 
 module _ (s m : Scan) (a : ℕ) (bytes : List ℕ) (are : AreBytes bytes) (there : 24 ≤ length bytes) (reached : Reached s bytes 24 [] (section_head m (take 24 bytes)))
-    (unfaulted : m.fault ≡ None) (give : m.give ≡ 0) (next : m.next ≡ place a) (refuses : m.passes_cut ≡ false) where
+    (unfaulted : m.fault ≡ None) (give : m.give ≡ 0) (next : m.next ≡ place a) (passes : m.passes_cut ≡ s.passes_cut) where
   abbrev head : List ℕ
   head = take 24 bytes
 
@@ -165,7 +165,7 @@ module _ (s m : Scan) (a : ℕ) (bytes : List ℕ) (are : AreBytes bytes) (there
                 low = u32_low o bytes 4 are;
                 order_is = refl;
                 interfaces_are = refl;
-                refuses = refuses;
+                passes = passes;
               }
 
           none_given : take m.give (drop 24 bytes) ≡ []
@@ -297,7 +297,7 @@ short_section bytes k TooManyInterfaces f short = absurd f
 short_section bytes k NoInterface f short = absurd f
 
 -- where the head of the first section stands
-module _ (s : Scan) (bytes : List ℕ) (u : s.fault ≡ None) (e : s.head ≡ begun stages.Section) (g : s.give ≡ 0) (k : s.skip ≡ 0) (n : s.next ≡ 0) (r : s.passes_cut ≡ false) (are : AreBytes bytes) where
+module _ (s : Scan) (bytes : List ℕ) (u : s.fault ≡ None) (e : s.head ≡ begun stages.Section) (g : s.give ≡ 0) (k : s.skip ≡ 0) (n : s.next ≡ 0) (are : AreBytes bytes) where
   first_short : length bytes < 24 → FailsAt s bytes (0 + length bytes) Truncated []
   first_short short =
       let same : 0 + (0 + length bytes) ≡ 0 + length bytes = omega arith in
@@ -313,14 +313,14 @@ module _ (s : Scan) (bytes : List ℕ) (u : s.fault ≡ None) (e : s.head ≡ be
   first_outcome =
       elim (cases_lt (length bytes) 24) [
         | inl short ↦ inl (record { within = length bytes; reason = Truncated; faulty = (refl, inl short); fails = first_short short })
-        | inr there ↦ section_outcome s s 0 bytes are there (first_reached there) u g n r
+        | inr there ↦ section_outcome s s 0 bytes are there (first_reached there) u g n refl
       ]
 
   pub first_told : (k : ℕ) (reason : CaptureReason) → IsSectionFault bytes k reason → FailsAt s bytes (0 + k) reason []
   first_told k reason f =
       elim (cases_lt (length bytes) 24) [
         | inl short ↦ let t = short_section bytes k reason f short in subst (λ (v : CaptureReason). FailsAt s bytes (0 + k) v []) (sym t.1) (subst (λ (v : ℕ). FailsAt s bytes (0 + v) Truncated []) (sym t.0) (first_short short))
-        | inr there ↦ section_told s s 0 bytes are there (first_reached there) u g n r k reason f
+        | inr there ↦ section_told s s 0 bytes are there (first_reached there) u g n refl k reason f
       ]
 
 -- and that of another
@@ -361,12 +361,12 @@ module _ (s : Scan) (a : ℕ) (order : ByteOrder) (interfaces : List Interface) 
   next_outcome =
       elim (cases_lt (length bytes) 24) [
         | inl short ↦ inl (record { within = length bytes; reason = Truncated; faulty = (refl, inl short); fails = next_short short })
-        | inr there ↦ section_outcome s (record s { head = begun stages.Section }) a bytes are there (next_reached there) w.stands.ready.unfaulted w.stands.ready.give w.next w.refuses
+        | inr there ↦ section_outcome s (record s { head = begun stages.Section }) a bytes are there (next_reached there) w.stands.ready.unfaulted w.stands.ready.give w.next refl
       ]
 
   pub next_told : (k : ℕ) (reason : CaptureReason) → IsSectionFault bytes k reason → FailsAt s bytes (a + k) reason []
   next_told k reason f =
       elim (cases_lt (length bytes) 24) [
         | inl short ↦ let t = short_section bytes k reason f short in subst (λ (v : CaptureReason). FailsAt s bytes (a + k) v []) (sym t.1) (subst (λ (v : ℕ). FailsAt s bytes (a + v) Truncated []) (sym t.0) (next_short short))
-        | inr there ↦ section_told s (record s { head = begun stages.Section }) a bytes are there (next_reached there) w.stands.ready.unfaulted w.stands.ready.give w.next w.refuses k reason f
+        | inr there ↦ section_told s (record s { head = begun stages.Section }) a bytes are there (next_reached there) w.stands.ready.unfaulted w.stands.ready.give w.next refl k reason f
       ]

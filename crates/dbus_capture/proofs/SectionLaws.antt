@@ -13,7 +13,7 @@ use Rattle.dbus_capture.specs.Scans.{place, fresh, refused}
 use Rattle.dbus_capture.specs.Blocks.{is_length, order_mark, section_by, section_head, decoded, decoded_by}
 use Rattle.dbus_capture.specs.Steps.{Turn, Gathers, run, told, given, turn_of, may_end, ended}
 use Rattle.dbus_capture.specs.Reading.{Ready, InSection}
-use Rattle.dbus_capture.specs.BlockFiles.{FitsBody, framed_bytes, FileBlock, InterfaceBlock, PacketBlock, ObsoleteBlock, SimpleBlock, OtherBlock, block_bytes, block_body, blocks_bytes, interfaces_after, FitsBlockIf, AllFitBlocksIf, FileSection, section_body, section_bytes, FitsSectionIf, sections_bytes, AllFitSectionsIf}
+use Rattle.dbus_capture.specs.BlockFiles.{FitsBody, framed_bytes, FileBlock, InterfaceBlock, PacketBlock, ObsoleteBlock, SimpleBlock, OtherBlock, block_bytes, block_body, blocks_bytes, interfaces_after, FitsBlock, AllFitBlocks, FileSection, section_body, section_bytes, FitsSection, sections_bytes, AllFitSections}
 use Rattle.dbus_capture.specs.CutPackets.{Captured, whole_payload}
 use Rattle.dbus_capture.specs.BlockPackets.{block_packets, blocks_packets, sections_packets}
 use Rattle.dbus_capture.specs.BlockFaults.{interfaces_all, last_section}
@@ -23,7 +23,7 @@ use Rattle.dbus_capture.proofs.NumberLaws.{u32_size, u16_size, u32_after, u16_af
 use Rattle.dbus_capture.proofs.StepLaws.{run-append, given-append, opens, turn_gathers}
 use Rattle.dbus_capture.proofs.HeadLaws.{run_head}
 use Rattle.dbus_capture.proofs.BlockTurns.{length_ok, takes_head}
-use Rattle.dbus_capture.proofs.BlockLaws.{Went, Took, Takes, goes_on, respell, counts_as, went, framed_size, other_read, enhanced_read, obsolete_read, simple_read}
+use Rattle.dbus_capture.proofs.BlockLaws.{Went, Took, goes_on, respell, counts_as, went, framed_size, other_read, enhanced_read, obsolete_read, simple_read}
 use Rattle.dbus_capture.proofs.InterfaceLaws.{interface_read}
 
 -- bytes that were taken, and then more
@@ -42,16 +42,16 @@ took_nothing s order interfaces i = record { final = s; ran = refl; gave = refl;
 
 -- ---- the blocks of a section
 
-module _ (P : Interface → ℕ → List ℕ → Type 0) (passes : Bool) (takes : Takes P passes) where
-  block_read : (s : Scan) (order : ByteOrder) (interfaces : List Interface) (block : FileBlock) → InSection s order interfaces → s.passes_cut ≡ passes → FitsBlockIf P interfaces block → FitsBody (block_body order block)
+module _ (passes : Bool) where
+  block_read : (s : Scan) (order : ByteOrder) (interfaces : List Interface) (block : FileBlock) → InSection s order interfaces → s.passes_cut ≡ passes → FitsBlock passes interfaces block → FitsBody (block_body order block)
       → Took s (block_bytes order block) order (interfaces_after interfaces block) (block_packets interfaces block)
-  block_read s order interfaces (InterfaceBlock link_type reserved snap_length options end) i e f b = interface_read s order interfaces link_type reserved snap_length options end i f b
-  block_read s order interfaces (PacketBlock number high low original bytes rest) i e f b = enhanced_read P passes takes s order interfaces i e number high low original bytes rest f b
-  block_read s order interfaces (ObsoleteBlock number drops high low original bytes rest) i e f b = obsolete_read P passes takes s order interfaces i e number drops high low original bytes rest f b
-  block_read s order interfaces (SimpleBlock original bytes rest) i e f b = simple_read P passes takes s order interfaces i e original bytes rest f b
+  block_read s order interfaces (InterfaceBlock link_type reserved snap_length options end) i e f b = interface_read passes s order interfaces link_type reserved snap_length options end i f b
+  block_read s order interfaces (PacketBlock number high low original bytes rest) i e f b = enhanced_read passes s order interfaces i e number high low original bytes rest f b
+  block_read s order interfaces (ObsoleteBlock number drops high low original bytes rest) i e f b = obsolete_read passes s order interfaces i e number drops high low original bytes rest f b
+  block_read s order interfaces (SimpleBlock original bytes rest) i e f b = simple_read passes s order interfaces i e original bytes rest f b
   block_read s order interfaces (OtherBlock kind body) i e f b = other_read s order interfaces kind body i f.0 f.1 f.2 f.3 f.4 f.5 b
 
-  blocks_read : (s : Scan) (order : ByteOrder) (interfaces : List Interface) (blocks : List FileBlock) → InSection s order interfaces → s.passes_cut ≡ passes → AllFitBlocksIf P order interfaces blocks
+  blocks_read : (s : Scan) (order : ByteOrder) (interfaces : List Interface) (blocks : List FileBlock) → InSection s order interfaces → s.passes_cut ≡ passes → AllFitBlocks passes order interfaces blocks
       → Took s (blocks_bytes order blocks) order (interfaces_all interfaces blocks) (blocks_packets interfaces blocks)
   blocks_read s order interfaces [] i e f = took_nothing s order interfaces i
   blocks_read s order interfaces (block ∷ blocks) i e f =
@@ -156,10 +156,10 @@ unfolding decoded
 decodes_section t h e = ap (λ (v : Heading). decoded_by v.stage t h) e
 
 -- what follows the head of a section's first block
-section_went : (P : Interface → ℕ → List ℕ → Type 0) (t : Scan) (s : FileSection) → t.fault ≡ None → t.give ≡ 0 → FitsSectionIf P s
+section_went : (passes : Bool) (t : Scan) (s : FileSection) → t.fault ≡ None → t.give ≡ 0 → FitsSection passes s
     → let total = 12 + length (section_body s) in
     Went (record t { head = begun stages.Trailer; skip = total - 28; next = place (t.next + (total - 4)); order = s.order; total = total; interfaces = [] }) (s.options ++ u32_bytes s.order total) s.order [] [] 4 0 0
-section_went P t s u g f =
+section_went passes t s u g f =
     let total = 12 + length (section_body s) in
     let head = u32_bytes s.order 0x1a2b3c4d ++ (u16_bytes s.order 1 ++ (u16_bytes s.order s.minor ++ s.size)) in
     let l = length-append head s.options in
@@ -168,26 +168,26 @@ section_went P t s u g f =
     went _ [] s.options total s.order [] u refl g left refl f.body.size refl refl
 
 -- the whole of it
-section_took : (s t : Scan) (x : FileSection) (head : List ℕ) → {P : Interface → ℕ → List ℕ → Type 0} → t.fault ≡ None → t.give ≡ 0 → t.passes_cut ≡ s.passes_cut → t.next ≡ s.next → t.packets ≡ s.packets → t.cut ≡ s.cut
+section_took : (s t : Scan) (x : FileSection) (head : List ℕ) → {passes : Bool} → t.fault ≡ None → t.give ≡ 0 → t.passes_cut ≡ s.passes_cut → t.next ≡ s.next → t.packets ≡ s.packets → t.cut ≡ s.cut
     → let total = 12 + length (section_body x) in
     let m : Scan = record t { head = begun stages.Trailer; skip = total - 28; next = place (t.next + (total - 4)); order = x.order; total = total; interfaces = [] } in
-    run s head ≡ m → given s head ≡ [] → FitsSectionIf P x → framed_bytes x.order 0x0a0d0d0a (section_body x) ≡ head ++ (x.options ++ u32_bytes x.order total) → 4 ≤ total
+    run s head ≡ m → given s head ≡ [] → FitsSection passes x → framed_bytes x.order 0x0a0d0d0a (section_body x) ≡ head ++ (x.options ++ u32_bytes x.order total) → 4 ≤ total
     → Took s (framed_bytes x.order 0x0a0d0d0a (section_body x)) x.order [] []
-section_took s t x head {P} u g passes next packets cut to none f spelled least =
+section_took s t x head {passes} u g same next packets cut to none f spelled least =
     let total = 12 + length (section_body x) in
     let m : Scan = record t { head = begun stages.Trailer; skip = total - 28; next = place (t.next + (total - 4)); order = x.order; total = total; interfaces = [] } in
     let size = framed_size x.order 0x0a0d0d0a (section_body x) in
     let moved : total - 4 + 4 ≡ length (framed_bytes x.order 0x0a0d0d0a (section_body x)) = omega (arith, size, least) in
     counts_as s _ x.order [] [] _ _ _ _ _ _ moved refl refl
     (respell s _ _ x.order [] [] _ _ _ spelled
-    (goes_on s m head (x.options ++ u32_bytes x.order total) x.order [] [] (total - 4) 0 0 4 0 0 to none (kept_moved s m (total - 4) passes (ap (λ (v : ℕ). place (v + (total - 4))) next) packets cut) (section_went P t x u g f)))
+    (goes_on s m head (x.options ++ u32_bytes x.order total) x.order [] [] (total - 4) 0 0 4 0 0 to none (kept_moved s m (total - 4) same (ap (λ (v : ℕ). place (v + (total - 4))) next) packets cut) (section_went passes t x u g f)))
 
 regroup_section : (h8 h16 options w : List ℕ) → h8 ++ ((h16 ++ options) ++ w) ≡ (h8 ++ h16) ++ (options ++ w)
 regroup_section h8 h16 options w = ap (λ (l : List ℕ). h8 ++ l) (append_assoc h16 options w) ∙ sym (append_assoc h8 h16 (options ++ w))
 
 -- a section after another
-next_section : (P : Interface → ℕ → List ℕ → Type 0) (s : Scan) (order : ByteOrder) (interfaces : List Interface) (x : FileSection) → InSection s order interfaces → FitsSectionIf P x → Took s (framed_bytes x.order 0x0a0d0d0a (section_body x)) x.order [] []
-next_section P s order interfaces x i f =
+next_section : (passes : Bool) (s : Scan) (order : ByteOrder) (interfaces : List Interface) (x : FileSection) → InSection s order interfaces → FitsSection passes x → Took s (framed_bytes x.order 0x0a0d0d0a (section_body x)) x.order [] []
+next_section passes s order interfaces x i f =
     let o = x.order in
     let total = 12 + length (section_body x) in
     let h8 = u32_bytes o 0x0a0d0d0a ++ u32_bytes o total in
@@ -211,8 +211,8 @@ opens_section : (passes : Bool) (o : ByteOrder) (rest : List ℕ) → let t : Sc
 opens_section passes Little rest = opens (fresh passes stages.Start) (record (fresh passes stages.Start) { head = begun stages.Section }) 10 (13 ∷ 13 ∷ 10 ∷ rest) refl refl
 opens_section passes Big rest = opens (fresh passes stages.Start) (record (fresh passes stages.Start) { head = begun stages.Section }) 10 (13 ∷ 13 ∷ 10 ∷ rest) refl refl
 
-first_section : (P : Interface → ℕ → List ℕ → Type 0) (passes : Bool) (x : FileSection) → FitsSectionIf P x → Took (fresh passes stages.Start) (framed_bytes x.order 0x0a0d0d0a (section_body x)) x.order [] []
-first_section P passes x f =
+first_section : (passes : Bool) (x : FileSection) → FitsSection passes x → Took (fresh passes stages.Start) (framed_bytes x.order 0x0a0d0d0a (section_body x)) x.order [] []
+first_section passes x f =
     let s = fresh passes stages.Start in
     let o = x.order in
     let total = 12 + length (section_body x) in
@@ -251,26 +251,26 @@ pub interfaces_last : (x : FileSection) (sections : List FileSection) → interf
 interfaces_last x [] = refl
 interfaces_last x (y ∷ sections) = interfaces_last y sections
 
-module _ (P : Interface → ℕ → List ℕ → Type 0) (passes : Bool) (takes : Takes P passes) where
-  with_blocks : (s : Scan) (x : FileSection) → s.passes_cut ≡ passes → FitsSectionIf P x → Took s (framed_bytes x.order 0x0a0d0d0a (section_body x)) x.order [] [] → Took s (section_bytes x) x.order (interfaces_all [] x.blocks) (blocks_packets [] x.blocks)
+module _ (passes : Bool) where
+  with_blocks : (s : Scan) (x : FileSection) → s.passes_cut ≡ passes → FitsSection passes x → Took s (framed_bytes x.order 0x0a0d0d0a (section_body x)) x.order [] [] → Took s (section_bytes x) x.order (interfaces_all [] x.blocks) (blocks_packets [] x.blocks)
   with_blocks s x e f w =
       took_then s (framed_bytes x.order 0x0a0d0d0a (section_body x)) (blocks_bytes x.order x.blocks) x.order x.order [] (interfaces_all [] x.blocks) [] (blocks_packets [] x.blocks) w
-      (blocks_read P passes takes w.final x.order [] x.blocks w.stands (w.kept.passes ∙ e) f.blocks)
+      (blocks_read passes w.final x.order [] x.blocks w.stands (w.kept.passes ∙ e) f.blocks)
 
-  sections_read : (s : Scan) (order : ByteOrder) (interfaces : List Interface) (sections : List FileSection) → InSection s order interfaces → s.passes_cut ≡ passes → AllFitSectionsIf P sections
+  sections_read : (s : Scan) (order : ByteOrder) (interfaces : List Interface) (sections : List FileSection) → InSection s order interfaces → s.passes_cut ≡ passes → AllFitSections passes sections
       → Took s (sections_bytes sections) (order_in order sections) (interfaces_in interfaces sections) (sections_packets sections)
   sections_read s order interfaces [] i e f = took_nothing s order interfaces i
   sections_read s order interfaces (x ∷ sections) i e f =
-      let w = with_blocks s x e f.0 (next_section P s order interfaces x i f.0) in
+      let w = with_blocks s x e f.0 (next_section passes s order interfaces x i f.0) in
       let here = interfaces_all [] x.blocks in
       took_then s (section_bytes x) (sections_bytes sections) x.order (order_in x.order sections) here (interfaces_in here sections) (blocks_packets [] x.blocks) (sections_packets sections) w
       (sections_read w.final x.order here sections w.stands (w.kept.passes ∙ e) f.1)
 
-  pub file_read : (x : FileSection) (sections : List FileSection) → FitsSectionIf P x → AllFitSectionsIf P sections
+  pub file_read : (x : FileSection) (sections : List FileSection) → FitsSection passes x → AllFitSections passes sections
       → Took (fresh passes stages.Start) (sections_bytes (x ∷ sections)) (last_section x sections).order (interfaces_all [] (last_section x sections).blocks) (sections_packets (x ∷ sections))
   file_read x sections f g =
       let s = fresh passes stages.Start in
-      let w = with_blocks s x refl f (first_section P passes x f) in
+      let w = with_blocks s x refl f (first_section passes x f) in
       let here = interfaces_all [] x.blocks in
       let bytes = sections_bytes (x ∷ sections) in
       let packets = sections_packets (x ∷ sections) in

@@ -26,7 +26,6 @@ use Rattle.dbus_capture.proofs.EndLaws.{FailsAt, fails_after, fails_now, fails_a
 pub record At (s : Scan) (a : ℕ) (order : ByteOrder) (interfaces : List Interface) : Type 0 where
   pub stands : InSection s order interfaces
   pub next : s.next ≡ place a
-  pub refuses : s.passes_cut ≡ false
 
 -- the bytes begin with a whole block, spelled so, of which these bytes are handed on
 pub record Stepped (s : Scan) (a : ℕ) (bytes spelled : List ℕ) (order : ByteOrder) (interfaces : List Interface) (out : List ℕ) : Type 0 where
@@ -37,6 +36,7 @@ pub record Stepped (s : Scan) (a : ℕ) (bytes spelled : List ℕ) (order : Byte
   pub size : length spelled ≡ total
   pub reached : Reached s bytes total out final
   pub after : At final (a + total) order interfaces
+  pub passes : final.passes_cut ≡ s.passes_cut
 
 -- what a block says was taken, n bytes of it, and what is left is handed on and passed over up to
 -- the length at its end
@@ -51,7 +51,7 @@ pub record Stands (s : Scan) (a : ℕ) (bytes : List ℕ) (stage : Stage) (order
   pub low : total < 2 ^ 32
   pub order_is : t.order ≡ order
   pub interfaces_are : t.interfaces ≡ interfaces
-  pub refuses : t.passes_cut ≡ false
+  pub passes : t.passes_cut ≡ s.passes_cut
 
 -- a head that is at fault
 pub fails_head : (m r : Scan) (bytes : List ℕ) (w n : ℕ) (reason : CaptureReason) → run m (take w bytes) ≡ r → given m (take w bytes) ≡ [] → r.fault ≡ Some (record { at = place n; reason = reason }) → FailsAt m bytes n reason []
@@ -126,8 +126,8 @@ module _ (s : Scan) (a : ℕ) (bytes : List ℕ) (stage : Stage) (order : ByteOr
 
     -- or the end of a whole block
     pub closes : (final : Scan) (order' : ByteOrder) (interfaces' : List Interface) (spelled : List ℕ) → bytes ≡ spelled ++ drop total bytes → length spelled ≡ total
-        → decoded_by stage passed (take 4 (drop (total - 4) bytes)) ≡ final → final.next ≡ place (t.next + 4) → InSection final order' interfaces' → final.passes_cut ≡ false → Stepped s a bytes spelled order' interfaces' out
-    closes final order' interfaces' spelled joined size e moved stands refuses =
+        → decoded_by stage passed (take 4 (drop (total - 4) bytes)) ≡ final → final.next ≡ place (t.next + 4) → InSection final order' interfaces' → final.passes_cut ≡ s.passes_cut → Stepped s a bytes spelled order' interfaces' out
+    closes final order' interfaces' spelled joined size e moved stands same =
         let sum = w.sum in
         let all : total - 4 + 4 ≡ total = omega (arith, sum) in
         let reached = reach_more s passed final bytes (total - 4) 4 out [] reaches_end (reads_end.0 ∙ e) reads_end.1 in
@@ -141,8 +141,8 @@ module _ (s : Scan) (a : ℕ) (bytes : List ℕ) (stage : Stage) (order : ByteOr
           after = record {
             stands = stands;
             next = moved ∙ ap (λ (v : ℕ). place (v + 4)) w.next ∙ place_more (a + n + (t.give + t.skip)) 4 ∙ ap place (let z : a + n + (t.give + t.skip) + 4 ≡ a + total = omega (arith, sum) in z);
-            refuses = refuses;
           };
+          passes = same;
         }
 
 -- ---- a block that ends as it begins
@@ -160,7 +160,7 @@ module _ (s : Scan) (a : ℕ) (bytes : List ℕ) (order : ByteOrder) (interfaces
       let final : Scan = record t { give = 0; skip = 0; head = begun stages.Block; next = place (t.next + 4) } in
       closes s a bytes stages.Trailer order interfaces total n t w refl (λ held. refl) refl enough final order interfaces spelled joined size
       (when_true _ _ _ (eq_is _ _ (told ∙ same ∙ sym w.total_is))) refl
-      (record { ready = record { unfaulted = w.unfaulted; head = refl; give = refl; skip = refl }; order_is = w.order_is; interfaces_are = w.interfaces_are }) w.refuses
+      (record { ready = record { unfaulted = w.unfaulted; head = refl; give = refl; skip = refl }; order_is = w.order_is; interfaces_are = w.interfaces_are }) w.passes
 
 -- what is between the two ends of a block of this length
 abbrev pub body_of : List ℕ → ℕ → List ℕ

@@ -1,17 +1,19 @@
 -- Why bytes are no pcapng file, and at which place: in the first block of a section, or in another
 -- block. "PCAP Now Generic (pcapng) Capture File Format", "General File Structure" and "Block
 -- Definition".
-use Rattle.std.specs.Prelude.{◌≡◌, ◌≢◌, ℕ, ◌+◌, ◌-◌, ◌<◌, ◌≤◌, ◌%◌, ◌⊎◌, List, [], ◌∷◌, ◌++◌, length, Option, Some, None, take, drop, slice_get}
+use Rattle.std.specs.Prelude.{◌≡◌, ◌≢◌, ℕ, ◌+◌, ◌-◌, ◌<◌, ◌≤◌, ◌%◌, ◌⊎◌, ◌==◌, nat_lt, Bool, true, false, if◌then◌else◌, List, [], ◌∷◌, ◌++◌, length, Option, Some, None, take, drop, slice_get}
 use Rattle.dbus_capture.specs.declared.byte_order.ByteOrder.{ByteOrder}
 use Rattle.dbus_capture.specs.declared.byte_order.ByteOrder.TheVariants.{Little}
 use Rattle.dbus_capture.specs.declared.fault.CaptureFault.{CaptureFault}
 use Rattle.dbus_capture.specs.declared.fault.CaptureReason.{CaptureReason}
 use Rattle.dbus_capture.specs.declared.fault.CaptureReason.TheVariants.{Magic, Version, Lengths, PacketCut, BlockLength, BlockLengths, OrderMark, OptionLength, TooManyInterfaces, NoInterface, Truncated}
 use Rattle.dbus_capture.specs.declared.interface.Interface.{Interface}
+use Rattle.dbus_capture.specs.CutPackets.{IsCaptured, whole_payload}
 use Rattle.dbus_capture.specs.Scans.{place}
 use Rattle.dbus_capture.specs.Numbers.{u32_at, u16_at}
 use Rattle.dbus_capture.specs.Blocks.{padded, order_mark, captured_length}
-use Rattle.dbus_capture.specs.BlockFiles.{InterfaceOption, options_bytes, AllFitOptions, FileBlock, interfaces_after, bytes_by, FileSection, sections_bytes, sections_payload, FitsSection, AllFitSections}
+use Rattle.dbus_capture.specs.BlockFiles.{InterfaceOption, options_bytes, AllFitOptions, FileBlock, interfaces_after, FileSection, sections_bytes, FitsSection, AllFitSections}
+use Rattle.dbus_capture.specs.BlockPackets.{sections_packets}
 
 -- A block may have this length, if such a block has so many bytes at least; or it may not.
 pub record HasLength (least total : ℕ) : Type 0 where
@@ -77,23 +79,28 @@ said ObsoleteForm order interfaces bytes = record { start = 28; at = 20; interfa
 said SimpleForm order interfaces bytes = record { start = 12; at = 8; interface = slice_get interfaces 0; captured = captured_by (slice_get interfaces 0) (u32_at order 8 bytes); original = u32_at order 8 bytes }
 
 -- nothing of it is at fault, in a block of this length
-pub record IsPacket (p : SaidPacket) (total : ℕ) : Type 0 where
+pub record IsPacket (passes_cut : Bool) (p : SaidPacket) (total : ℕ) : Type 0 where
   pub interface : Interface
   pub found : p.interface ≡ Some interface
   pub room : p.start + padded p.captured + 4 ≤ total
-  pub uncut : interface.link_type ≡ 231 → p.original ≡ p.captured
+  pub captured : interface.link_type ≡ 231 → IsCaptured passes_cut p.original p.captured
 
 -- it is at fault at a place of the block
-abbrev pub IsPacketFault : SaidPacket → (total k : ℕ) → CaptureReason → Type 0
-IsPacketFault p total k NoInterface = (k ≡ 8) × (p.interface ≡ None)
-IsPacketFault p total k Lengths = (k ≡ p.at) × (i : Interface) × (p.interface ≡ Some i)
+abbrev pub IsPacketFault : (passes_cut : Bool) → SaidPacket → (total k : ℕ) → CaptureReason → Type 0
+IsPacketFault passes_cut p total k NoInterface = (k ≡ 8) × (p.interface ≡ None)
+IsPacketFault passes_cut p total k Lengths = (k ≡ p.at) × (i : Interface) × (p.interface ≡ Some i)
     × ((total < p.start + padded p.captured + 4) ⊎ ((p.start + padded p.captured + 4 ≤ total) × (i.link_type ≡ 231) × (p.original < p.captured)))
-IsPacketFault p total k PacketCut = (k ≡ p.at) × (i : Interface) × (p.interface ≡ Some i) × (p.start + padded p.captured + 4 ≤ total) × (i.link_type ≡ 231) × (p.captured < p.original)
-IsPacketFault p total k other = ⊥
+IsPacketFault passes_cut p total k PacketCut = (k ≡ p.at) × (passes_cut ≡ false) × (i : Interface) × (p.interface ≡ Some i) × (p.start + padded p.captured + 4 ≤ total) × (i.link_type ≡ 231) × (p.captured < p.original)
+IsPacketFault passes_cut p total k other = ⊥
 
--- its bytes, as far as they are there, if its link type is 231, D-Bus
+-- bytes of a packet, if its link type is 231, D-Bus
+abbrev pub bytes_by : List ℕ → Option Interface → List ℕ
+bytes_by bytes None = []
+bytes_by bytes (Some i) = if i.link_type == 231 then bytes else []
+
+-- those of it that are there, if it was not cut
 abbrev pub packet_part : SaidPacket → List ℕ → List ℕ
-packet_part p bytes = bytes_by (take p.captured (drop p.start bytes)) p.interface
+packet_part p bytes = if nat_lt p.captured p.original then [] else bytes_by (take p.captured (drop p.start bytes)) p.interface
 
 -- ---- the options of an interface
 
@@ -139,17 +146,17 @@ least_length (OfPacket SimpleForm) = 16
 least_length OfOther = 12
 
 -- nothing that is there of what it says is at fault
-abbrev pub IsSound : Form → ByteOrder → List Interface → List ℕ → Type 0
-IsSound OfInterface order interfaces bytes = (length bytes < 16) ⊎ ((left : ℕ) × (rest : List ℕ) × HasOptions order (u32_at order 4 bytes - 20) (drop 16 bytes) left rest × IsOptionsEnd order left rest)
-IsSound (OfPacket f) order interfaces bytes = (length bytes < (said f order interfaces bytes).start) ⊎ IsPacket (said f order interfaces bytes) (u32_at order 4 bytes)
-IsSound OfOther order interfaces bytes = Unit {0}
+abbrev pub IsSound : (passes_cut : Bool) → Form → ByteOrder → List Interface → List ℕ → Type 0
+IsSound passes_cut OfInterface order interfaces bytes = (length bytes < 16) ⊎ ((left : ℕ) × (rest : List ℕ) × HasOptions order (u32_at order 4 bytes - 20) (drop 16 bytes) left rest × IsOptionsEnd order left rest)
+IsSound passes_cut (OfPacket f) order interfaces bytes = (length bytes < (said f order interfaces bytes).start) ⊎ IsPacket passes_cut (said f order interfaces bytes) (u32_at order 4 bytes)
+IsSound passes_cut OfOther order interfaces bytes = Unit {0}
 
 -- what it says is at fault at a place of it
-abbrev pub IsFaultOf : Form → ByteOrder → List Interface → List ℕ → ℕ → CaptureReason → Type 0
-IsFaultOf OfInterface order interfaces bytes k OptionLength = (16 ≤ length bytes) × (left : ℕ) × (rest : List ℕ) × HasOptions order (u32_at order 4 bytes - 20) (drop 16 bytes) left rest × IsOptionFault order left rest
+abbrev pub IsFaultOf : (passes_cut : Bool) → Form → ByteOrder → List Interface → List ℕ → ℕ → CaptureReason → Type 0
+IsFaultOf passes_cut OfInterface order interfaces bytes k OptionLength = (16 ≤ length bytes) × (left : ℕ) × (rest : List ℕ) × HasOptions order (u32_at order 4 bytes - 20) (drop 16 bytes) left rest × IsOptionFault order left rest
     × (k + left ≡ u32_at order 4 bytes - 2)
-IsFaultOf (OfPacket f) order interfaces bytes k reason = ((said f order interfaces bytes).start ≤ length bytes) × IsPacketFault (said f order interfaces bytes) (u32_at order 4 bytes) k reason
-IsFaultOf other order interfaces bytes k reason = ⊥
+IsFaultOf passes_cut (OfPacket f) order interfaces bytes k reason = ((said f order interfaces bytes).start ≤ length bytes) × IsPacketFault passes_cut (said f order interfaces bytes) (u32_at order 4 bytes) k reason
+IsFaultOf passes_cut other order interfaces bytes k reason = ⊥
 
 -- what is there of the bytes of its packet
 abbrev pub form_part : Form → ByteOrder → List Interface → List ℕ → List ℕ
@@ -159,15 +166,15 @@ form_part OfOther order interfaces bytes = []
 
 -- The block is at fault at a place of it, for one reason, and these bytes of it are handed on: in
 -- its length, in what it says, or in the length at its end; or the bytes end within it.
-abbrev pub IsFormFault : Form → ByteOrder → List Interface → List ℕ → ℕ → CaptureReason → List ℕ → Type 0
-IsFormFault f order interfaces bytes k BlockLength part = (k ≡ 4) × HasNoLength (least_length f) (u32_at order 4 bytes) × (part ≡ [])
-IsFormFault f order interfaces bytes k BlockLengths part = HasLength (least_length f) (u32_at order 4 bytes) × IsSound f order interfaces bytes
+abbrev pub IsFormFault : (passes_cut : Bool) → Form → ByteOrder → List Interface → List ℕ → ℕ → CaptureReason → List ℕ → Type 0
+IsFormFault passes_cut f order interfaces bytes k BlockLength part = (k ≡ 4) × HasNoLength (least_length f) (u32_at order 4 bytes) × (part ≡ [])
+IsFormFault passes_cut f order interfaces bytes k BlockLengths part = HasLength (least_length f) (u32_at order 4 bytes) × IsSound passes_cut f order interfaces bytes
     × (k + 4 ≡ u32_at order 4 bytes) × (k + 4 ≤ length bytes) × (u32_at order k bytes ≢ k + 4) × (part ≡ form_part f order interfaces bytes)
-IsFormFault f order interfaces bytes k TooManyInterfaces part = (f ≡ OfInterface) × HasLength 20 (u32_at order 4 bytes) × IsSound OfInterface order interfaces bytes
+IsFormFault passes_cut f order interfaces bytes k TooManyInterfaces part = (f ≡ OfInterface) × HasLength 20 (u32_at order 4 bytes) × IsSound passes_cut OfInterface order interfaces bytes
     × (k + 4 ≡ u32_at order 4 bytes) × (k + 4 ≤ length bytes) × (u32_at order k bytes ≡ k + 4) × (64 ≤ length interfaces) × (part ≡ [])
-IsFormFault f order interfaces bytes k Truncated part = HasLength (least_length f) (u32_at order 4 bytes) × IsSound f order interfaces bytes
+IsFormFault passes_cut f order interfaces bytes k Truncated part = HasLength (least_length f) (u32_at order 4 bytes) × IsSound passes_cut f order interfaces bytes
     × (k ≡ length bytes) × (length bytes < u32_at order 4 bytes) × (part ≡ form_part f order interfaces bytes)
-IsFormFault f order interfaces bytes k reason part = HasLength (least_length f) (u32_at order 4 bytes) × IsFaultOf f order interfaces bytes k reason × (part ≡ [])
+IsFormFault passes_cut f order interfaces bytes k reason part = HasLength (least_length f) (u32_at order 4 bytes) × IsFaultOf passes_cut f order interfaces bytes k reason × (part ≡ [])
 
 -- the bytes end within the type and the length of a block
 abbrev pub EndsInStart : List ℕ → ℕ → CaptureReason → Type 0
@@ -175,10 +182,10 @@ EndsInStart bytes k reason = (bytes ≢ []) × (length bytes < 8) × (reason ≡
 
 -- Bytes that follow whole blocks of a section of this order and with these interfaces are at fault
 -- at a place of them, for one reason, and these bytes of them are handed on.
-abbrev pub IsBlockFault : ByteOrder → List Interface → List ℕ → ℕ → CaptureReason → List ℕ → Type 0
-IsBlockFault order interfaces bytes k reason part = (EndsInStart bytes k reason × (part ≡ []))
+abbrev pub IsBlockFault : (passes_cut : Bool) → ByteOrder → List Interface → List ℕ → ℕ → CaptureReason → List ℕ → Type 0
+IsBlockFault passes_cut order interfaces bytes k reason part = (EndsInStart bytes k reason × (part ≡ []))
     ⊎ (((8 ≤ length bytes) × (u32_at order 0 bytes ≡ 0x0a0d0d0a) × IsSectionFault bytes k reason × (part ≡ []))
-    ⊎ ((8 ≤ length bytes) × (f : Form) × IsOf f (u32_at order 0 bytes) × IsFormFault f order interfaces bytes k reason part))
+    ⊎ ((8 ≤ length bytes) × (f : Form) × IsOf f (u32_at order 0 bytes) × IsFormFault passes_cut f order interfaces bytes k reason part))
 
 -- ---- a file
 
@@ -193,13 +200,13 @@ last_section x [] = x
 last_section x (y ∷ sections) = last_section y sections
 
 -- the bytes are a file, and the bytes of its D-Bus packets are handed on
-pub record IsPcapng (bytes out : List ℕ) : Type 0 where
+pub record IsPcapng (passes_cut : Bool) (bytes out : List ℕ) : Type 0 where
   pub first : FileSection
   pub sections : List FileSection
-  pub fits : FitsSection first
-  pub fit : AllFitSections sections
+  pub fits : FitsSection passes_cut first
+  pub fit : AllFitSections passes_cut sections
   pub joined : bytes ≡ sections_bytes (first ∷ sections)
-  pub gives : out ≡ sections_payload (first ∷ sections)
+  pub gives : out ≡ whole_payload (sections_packets (first ∷ sections))
 
 -- the first block of the file is at fault
 pub record FailsAtStart (bytes out : List ℕ) (fault : CaptureFault) : Type 0 where
@@ -209,20 +216,20 @@ pub record FailsAtStart (bytes out : List ℕ) (fault : CaptureFault) : Type 0 w
   pub gives : out ≡ []
 
 -- what follows a file of whole blocks is
-pub record FailsAfterBlocks (bytes out : List ℕ) (fault : CaptureFault) : Type 0 where
+pub record FailsAfterBlocks (passes_cut : Bool) (bytes out : List ℕ) (fault : CaptureFault) : Type 0 where
   pub first : FileSection
   pub sections : List FileSection
   pub rest : List ℕ
   pub within : ℕ
   pub part : List ℕ
-  pub fits : FitsSection first
-  pub fit : AllFitSections sections
+  pub fits : FitsSection passes_cut first
+  pub fit : AllFitSections passes_cut sections
   pub joined : bytes ≡ sections_bytes (first ∷ sections) ++ rest
-  pub faulty : IsBlockFault (last_section first sections).order (interfaces_all [] (last_section first sections).blocks) rest within fault.reason part
+  pub faulty : IsBlockFault passes_cut (last_section first sections).order (interfaces_all [] (last_section first sections).blocks) rest within fault.reason part
   pub at : fault.at ≡ place (length (sections_bytes (first ∷ sections)) + within)
-  pub gives : out ≡ sections_payload (first ∷ sections) ++ part
+  pub gives : out ≡ whole_payload (sections_packets (first ∷ sections)) ++ part
 
 -- what a file comes to: what is handed on of it, and its fault, if it has one
-abbrev pub IsPcapngOutcome : List ℕ → List ℕ → Option CaptureFault → Type 0
-IsPcapngOutcome bytes out None = IsPcapng bytes out
-IsPcapngOutcome bytes out (Some fault) = FailsAtStart bytes out fault ⊎ FailsAfterBlocks bytes out fault
+abbrev pub IsPcapngOutcome : (passes_cut : Bool) → List ℕ → List ℕ → Option CaptureFault → Type 0
+IsPcapngOutcome passes_cut bytes out None = IsPcapng passes_cut bytes out
+IsPcapngOutcome passes_cut bytes out (Some fault) = FailsAtStart bytes out fault ⊎ FailsAfterBlocks passes_cut bytes out fault

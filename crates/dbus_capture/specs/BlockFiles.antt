@@ -1,10 +1,11 @@
 -- Which bytes are a pcapng file, and which D-Bus packets it has. "PCAP Now Generic (pcapng) Capture
 -- File Format", "General File Structure", "Options" and "Block Definition".
-use Rattle.std.specs.Prelude.{◌≡◌, ◌≢◌, ℕ, ◌+◌, ◌<◌, ◌≤◌, ◌^◌, ◌%◌, ◌⊎◌, ◌==◌, if◌then◌else◌, true, false, List, [], ◌∷◌, ◌++◌, length, slice_get, slice_index, Option, Some, None}
+use Rattle.std.specs.Prelude.{◌≡◌, ◌≢◌, ℕ, ◌+◌, ◌<◌, ◌≤◌, ◌^◌, ◌%◌, ◌⊎◌, ◌==◌, if◌then◌else◌, Bool, true, false, List, [], ◌∷◌, ◌++◌, length, slice_get, slice_index, Option, Some, None}
 use Rattle.dbus_capture.specs.declared.byte_order.ByteOrder.{ByteOrder}
 use Rattle.dbus_capture.specs.declared.interface.Interface.{Interface}
 use Rattle.dbus_capture.specs.Numbers.{u32_bytes, u16_bytes}
 use Rattle.dbus_capture.specs.Blocks.{padded, captured_length}
+use Rattle.dbus_capture.specs.CutPackets.{IsCaptured}
 
 -- a block of a type and a body, whose length is at both of its ends
 abbrev pub framed_bytes : ByteOrder → ℕ → List ℕ → List ℕ
@@ -105,49 +106,28 @@ interfaces_after interfaces (ObsoleteBlock number drops high low original bytes 
 interfaces_after interfaces (SimpleBlock original bytes rest) = interfaces
 interfaces_after interfaces (OtherBlock kind body) = interfaces
 
--- a D-Bus packet was captured whole
-abbrev pub IsUncut : Interface → (original : ℕ) → List ℕ → Type 0
-IsUncut i original bytes = i.link_type ≡ 231 → original ≡ length bytes
+-- a D-Bus packet was captured whole, or it may be passed over
+abbrev pub IsCapturedBy : (passes_cut : Bool) → Interface → (original : ℕ) → List ℕ → Type 0
+IsCapturedBy passes_cut i original bytes = i.link_type ≡ 231 → IsCaptured passes_cut original (length bytes)
 
 -- a packet's interface is there
 abbrev pub HasInterface : List Interface → ℕ → (Interface → Type 0) → Type 0
 HasInterface interfaces number P = (i : Interface) × (slice_get interfaces number ≡ Some i) × P i
 
--- a block that has a spelling, if its packet has been captured so
-abbrev pub FitsBlockIf : (Interface → (original : ℕ) → List ℕ → Type 0) → List Interface → FileBlock → Type 0
-FitsBlockIf P interfaces (InterfaceBlock link_type reserved snap_length options end) = (link_type < 2 ^ 16) × (snap_length < 2 ^ 32) × AllFitOptions options × FitsEnd end × (length interfaces < 64)
-FitsBlockIf P interfaces (PacketBlock number high low original bytes rest) = (number < 2 ^ 32) × (length bytes < 2 ^ 32) × (padded (length bytes) ≤ length bytes + length rest) × (original < 2 ^ 32) × HasInterface interfaces number (λ i. P i original bytes)
-FitsBlockIf P interfaces (ObsoleteBlock number drops high low original bytes rest) = (number < 2 ^ 16) × (length bytes < 2 ^ 32) × (padded (length bytes) ≤ length bytes + length rest) × (original < 2 ^ 32) × HasInterface interfaces number (λ i. P i original bytes)
-FitsBlockIf P interfaces (SimpleBlock original bytes rest) = (original < 2 ^ 32) × (padded (length bytes) ≤ length bytes + length rest)
-    × HasInterface interfaces 0 (λ i. (captured_length i.snap_length original ≡ length bytes) × P i original bytes)
-FitsBlockIf P interfaces (OtherBlock kind body) = (kind < 2 ^ 32) × (kind ≢ 1) × (kind ≢ 2) × (kind ≢ 3) × (kind ≢ 6) × (kind ≢ 0x0a0d0d0a)
+-- a block that has a spelling
+abbrev pub FitsBlock : (passes_cut : Bool) → List Interface → FileBlock → Type 0
+FitsBlock passes_cut interfaces (InterfaceBlock link_type reserved snap_length options end) = (link_type < 2 ^ 16) × (snap_length < 2 ^ 32) × AllFitOptions options × FitsEnd end × (length interfaces < 64)
+FitsBlock passes_cut interfaces (PacketBlock number high low original bytes rest) = (number < 2 ^ 32) × (length bytes < 2 ^ 32) × (padded (length bytes) ≤ length bytes + length rest) × (original < 2 ^ 32)
+    × HasInterface interfaces number (λ i. IsCapturedBy passes_cut i original bytes)
+FitsBlock passes_cut interfaces (ObsoleteBlock number drops high low original bytes rest) = (number < 2 ^ 16) × (length bytes < 2 ^ 32) × (padded (length bytes) ≤ length bytes + length rest) × (original < 2 ^ 32)
+    × HasInterface interfaces number (λ i. IsCapturedBy passes_cut i original bytes)
+FitsBlock passes_cut interfaces (SimpleBlock original bytes rest) = (original < 2 ^ 32) × (padded (length bytes) ≤ length bytes + length rest)
+    × HasInterface interfaces 0 (λ i. (captured_length i.snap_length original ≡ length bytes) × IsCapturedBy passes_cut i original bytes)
+FitsBlock passes_cut interfaces (OtherBlock kind body) = (kind < 2 ^ 32) × (kind ≢ 1) × (kind ≢ 2) × (kind ≢ 3) × (kind ≢ 6) × (kind ≢ 0x0a0d0d0a)
 
-abbrev pub AllFitBlocksIf : (Interface → (original : ℕ) → List ℕ → Type 0) → ByteOrder → List Interface → List FileBlock → Type 0
-AllFitBlocksIf P order interfaces [] = Unit {0}
-AllFitBlocksIf P order interfaces (block ∷ blocks) = FitsBlockIf P interfaces block × FitsBody (block_body order block) × AllFitBlocksIf P order (interfaces_after interfaces block) blocks
-
--- the same of blocks whose D-Bus packets were captured whole
-abbrev pub FitsBlock : List Interface → FileBlock → Type 0
-FitsBlock interfaces block = FitsBlockIf IsUncut interfaces block
-
-abbrev pub AllFitBlocks : ByteOrder → List Interface → List FileBlock → Type 0
-AllFitBlocks order interfaces blocks = AllFitBlocksIf IsUncut order interfaces blocks
-
--- the bytes of a packet, if its link type is 231, D-Bus
-abbrev pub bytes_by : List ℕ → Option Interface → List ℕ
-bytes_by bytes None = []
-bytes_by bytes (Some i) = if i.link_type == 231 then bytes else []
-
-abbrev pub block_payload : List Interface → FileBlock → List ℕ
-block_payload interfaces (InterfaceBlock link_type reserved snap_length options end) = []
-block_payload interfaces (PacketBlock number high low original bytes rest) = bytes_by bytes (slice_get interfaces number)
-block_payload interfaces (ObsoleteBlock number drops high low original bytes rest) = bytes_by bytes (slice_get interfaces number)
-block_payload interfaces (SimpleBlock original bytes rest) = bytes_by bytes (slice_get interfaces 0)
-block_payload interfaces (OtherBlock kind body) = []
-
-abbrev pub blocks_payload : List Interface → List FileBlock → List ℕ
-blocks_payload interfaces [] = []
-blocks_payload interfaces (block ∷ blocks) = block_payload interfaces block ++ blocks_payload (interfaces_after interfaces block) blocks
+abbrev pub AllFitBlocks : (passes_cut : Bool) → ByteOrder → List Interface → List FileBlock → Type 0
+AllFitBlocks passes_cut order interfaces [] = Unit {0}
+AllFitBlocks passes_cut order interfaces (block ∷ blocks) = FitsBlock passes_cut interfaces block × FitsBody (block_body order block) × AllFitBlocks passes_cut order (interfaces_after interfaces block) blocks
 
 -- ---- sections
 
@@ -165,28 +145,17 @@ section_body s = (u32_bytes s.order 0x1a2b3c4d ++ (u16_bytes s.order 1 ++ (u16_b
 abbrev pub section_bytes : FileSection → List ℕ
 section_bytes s = framed_bytes s.order 0x0a0d0d0a (section_body s) ++ blocks_bytes s.order s.blocks
 
-pub record FitsSectionIf (P : Interface → (original : ℕ) → List ℕ → Type 0) (s : FileSection) : Type 0 where
+pub record FitsSection (passes_cut : Bool) (s : FileSection) : Type 0 where
   pub minor : (s.minor ≡ 0) ⊎ (s.minor ≡ 2)
   pub size : length s.size ≡ 8
   pub body : FitsBody (section_body s)
-  pub blocks : AllFitBlocksIf P s.order [] s.blocks
+  pub blocks : AllFitBlocks passes_cut s.order [] s.blocks
 
-abbrev pub AllFitSectionsIf : (Interface → (original : ℕ) → List ℕ → Type 0) → List FileSection → Type 0
-AllFitSectionsIf P [] = Unit {0}
-AllFitSectionsIf P (s ∷ sections) = FitsSectionIf P s × AllFitSectionsIf P sections
-
--- the same of sections whose D-Bus packets were captured whole
-abbrev pub FitsSection : FileSection → Type 0
-FitsSection s = FitsSectionIf IsUncut s
-
-abbrev pub AllFitSections : List FileSection → Type 0
-AllFitSections sections = AllFitSectionsIf IsUncut sections
+abbrev pub AllFitSections : (passes_cut : Bool) → List FileSection → Type 0
+AllFitSections passes_cut [] = Unit {0}
+AllFitSections passes_cut (s ∷ sections) = FitsSection passes_cut s × AllFitSections passes_cut sections
 
 -- a file has one section or more
 abbrev pub sections_bytes : List FileSection → List ℕ
 sections_bytes [] = []
 sections_bytes (s ∷ sections) = section_bytes s ++ sections_bytes sections
-
-abbrev pub sections_payload : List FileSection → List ℕ
-sections_payload [] = []
-sections_payload (s ∷ sections) = blocks_payload [] s.blocks ++ sections_payload sections

@@ -1,13 +1,9 @@
--- Which D-Bus packets a pcapng file has, if some of them were cut. "PCAP Now Generic (pcapng) Capture
+-- Which D-Bus packets a pcapng file has, and how they were captured. "PCAP Now Generic (pcapng) Capture
 -- File Format", "Block Definition".
-use Rattle.std.specs.Prelude.{◌≡◌, ◌==◌, ◌≤◌, ℕ, if◌then◌else◌, List, [], ◌∷◌, ◌++◌, length, slice_get, Option, Some, None}
+use Rattle.std.specs.Prelude.{◌==◌, ℕ, if◌then◌else◌, List, [], ◌∷◌, ◌++◌, slice_get, Option, Some, None}
 use Rattle.dbus_capture.specs.declared.interface.Interface.{Interface}
 use Rattle.dbus_capture.specs.CutPackets.{Captured}
 use Rattle.dbus_capture.specs.BlockFiles.{FileBlock, InterfaceBlock, PacketBlock, ObsoleteBlock, SimpleBlock, OtherBlock, interfaces_after, FileSection}
-
--- no more of a D-Bus packet was captured than it had
-abbrev pub IsPart : Interface → (original : ℕ) → List ℕ → Type 0
-IsPart i original bytes = i.link_type ≡ 231 → length bytes ≤ original
 
 -- a packet, if its link type is 231, D-Bus
 abbrev pub packet_by : (original : ℕ) → List ℕ → Option Interface → List Captured

@@ -48,7 +48,14 @@ interface_of (PacketBlock number high low original bytes rest) = number
 interface_of (ObsoleteBlock number drops high low original bytes rest) = number
 interface_of block = 0
 
--- the bytes of a block's packet
+-- how many bytes a block's packet had
+abbrev pub packet_original : FileBlock → ℕ
+packet_original (PacketBlock number high low original bytes rest) = original
+packet_original (ObsoleteBlock number drops high low original bytes rest) = original
+packet_original (SimpleBlock original bytes rest) = original
+packet_original block = 0
+
+-- the bytes of it that were captured
 abbrev pub packet_bytes : FileBlock → List ℕ
 packet_bytes (PacketBlock number high low original bytes rest) = bytes
 packet_bytes (ObsoleteBlock number drops high low original bytes rest) = bytes
@@ -77,7 +84,7 @@ block_front order block = (u32_bytes order (block_kind block) ++ u32_bytes order
 -- of a packet of this interface, whose block follows these sections
 abbrev pub pcapng_packet_reported : List FileSection → Interface → FileBlock → Packet
 pcapng_packet_reported sections i block = record {
-  number = place (length (sections_packets sections) + 1);
+  number = place (whole_count (sections_packets sections) + 1);
   at = place (length (sections_bytes sections));
   time = packet_time i block;
   length = length (packet_bytes block);

@@ -4,18 +4,18 @@
 //! clause `part`.
 //!
 //! [`Source::read`]: dbus_device::Source::read
-ghost use Rattle.std.specs.Prelude.{◌≡◌, ◌<◌, ◌+◌, ℕ, ◌++◌, List, [], ◌∷◌, length, Bool, true, false, Option, Some, None, slice_get};
+ghost use Rattle.std.specs.Prelude.{◌≡◌, ◌<◌, ◌+◌, ℕ, ◌++◌, List, [], ◌∷◌, length, Bool, Option, Some, None, slice_get};
 ghost use Rattle.dbus_capture.specs.Stages.{first_stage, IsFirstOfStream};
 ghost use Rattle.dbus_capture.specs.Scans.{fresh};
 ghost use Rattle.dbus_capture.specs.Steps.{run, given, packet_given, ended};
-ghost use Rattle.dbus_capture.specs.Reading.{IsRead, IsReadOf};
+ghost use Rattle.dbus_capture.specs.Reading.{IsReadOf};
 ghost use Rattle.dbus_capture.specs.PcapFiles.{PcapHeader, PcapPacket, FitsHeader, FitsPacket, AllFitPackets, packet_header_bytes, pcap_bytes, captures};
-ghost use Rattle.dbus_capture.specs.BlockFiles.{FileBlock, FitsBlock, FitsBody, block_body, FileSection, FitsSectionIf, AllFitSectionsIf, FitsSection, AllFitSections, sections_bytes, sections_payload};
+ghost use Rattle.dbus_capture.specs.BlockFiles.{FileBlock, FitsBlock, FitsBody, block_body, FileSection, FitsSection, AllFitSections, sections_bytes};
 ghost use Rattle.dbus_capture.specs.PcapFaults.{AreBytes, IsPcapOutcome};
 ghost use Rattle.dbus_capture.specs.CutPackets.{whole_payload};
-ghost use Rattle.dbus_capture.specs.BlockPackets.{IsPart, sections_packets};
+ghost use Rattle.dbus_capture.specs.BlockPackets.{sections_packets};
 ghost use Rattle.dbus_capture.specs.BlockFaults.{interfaces_all, last_section, IsPcapngOutcome};
-ghost use Rattle.dbus_capture.specs.Packets.{Reports, IsTimed, interface_of, packet_bytes, pcap_packet_reported, block_front, pcapng_packet_reported};
+ghost use Rattle.dbus_capture.specs.Packets.{Reports, IsTimed, interface_of, packet_original, packet_bytes, pcap_packet_reported, block_front, pcapng_packet_reported};
 ghost use Rattle.dbus_capture.specs.declared.fault.CaptureFault.{CaptureFault};
 ghost use Rattle.dbus_capture.specs.declared.interface.Interface.{Interface};
 ghost use Rattle.dbus_capture.specs.declared.stage.Stage.TheVariants as stages;
@@ -49,37 +49,34 @@ pub fn one_pcap_outcome()
         (out ≡ more) × (fault ≡ other) }
 {}
 
-/// A pcapng file of one section or more, all of whose packets were captured whole, is read whole:
-/// the capture gives the bytes of its packets of link type 231, and there is no fault.
+/// A pcapng file of one section or more is read whole, if all of its packets of link type 231 were
+/// captured whole, or if those that were cut are to be passed over: the capture gives the bytes of
+/// the others, counts these, and there is no fault.
 pub fn pcapng_is_read()
     ensures { (passes_cut : Bool) (x : FileSection) (sections : List FileSection) →
-        FitsSection x → AllFitSections sections →
-        IsRead passes_cut (sections_bytes (x ∷ sections)) (sections_payload (x ∷ sections)) }
-{}
-
-/// A pcapng file some of whose packets of link type 231 were cut is read past these, if they are to
-/// be passed over: the capture gives the bytes of the others, counts these, and there is no fault.
-pub fn cut_blocks_are_passed_over()
-    ensures { (x : FileSection) (sections : List FileSection) →
-        FitsSectionIf IsPart x → AllFitSectionsIf IsPart sections →
-        IsReadOf true (sections_bytes (x ∷ sections)) (sections_packets (x ∷ sections)) }
+        FitsSection passes_cut x → AllFitSections passes_cut sections →
+        IsReadOf passes_cut (sections_bytes (x ∷ sections)) (sections_packets (x ∷ sections)) }
 {}
 
 /// Bytes that begin as a pcapng file are such a file, and the capture gives the bytes of its packets
-/// of link type 231; or they have one fault, at one place and for one reason, and the capture gives
-/// the bytes of those packets before it. If the fault is the end of the bytes within a packet's
-/// block, or the length at its end, it also gives those bytes of the packet that are there.
+/// of link type 231 that were captured whole; or they have one fault, at one place and for one
+/// reason, and the capture gives the bytes of those packets before it. If the fault is the end of
+/// the bytes within such a packet's block, or the length at its end, it also gives those bytes of
+/// the packet that are there.
 pub fn pcapng_outcome()
-    ensures { (x : ℕ) (xs : List ℕ) → AreBytes (x ∷ xs) → first_stage x ≡ stages.Section →
-        IsPcapngOutcome (x ∷ xs) (given (fresh false stages.Start) (x ∷ xs))
-        (ended (run (fresh false stages.Start) (x ∷ xs))).fault }
+    ensures { (passes_cut : Bool) (x : ℕ) (xs : List ℕ) →
+        AreBytes (x ∷ xs) → first_stage x ≡ stages.Section →
+        IsPcapngOutcome passes_cut (x ∷ xs) (given (fresh passes_cut stages.Start) (x ∷ xs))
+        (ended (run (fresh passes_cut stages.Start) (x ∷ xs))).fault }
 {}
 
 /// It comes to this only: it has no second fault, and is no file if it has one.
 pub fn one_pcapng_outcome()
-    ensures { (x : ℕ) (xs out more : List ℕ) (fault other : Option CaptureFault) →
-        AreBytes (x ∷ xs) → first_stage x ≡ stages.Section → IsPcapngOutcome (x ∷ xs) out fault →
-        IsPcapngOutcome (x ∷ xs) more other → (out ≡ more) × (fault ≡ other) }
+    ensures { (passes_cut : Bool) (x : ℕ) (xs out more : List ℕ)
+        (fault other : Option CaptureFault) →
+        AreBytes (x ∷ xs) → first_stage x ≡ stages.Section →
+        IsPcapngOutcome passes_cut (x ∷ xs) out fault →
+        IsPcapngOutcome passes_cut (x ∷ xs) more other → (out ≡ more) × (fault ≡ other) }
 {}
 
 /// While a capture gives the bytes of a packet of a pcap file, it reports its number, place, time
@@ -94,15 +91,17 @@ pub fn pcap_packet_is_reported()
         (pcap_packet_reported header packets packet) }
 {}
 
-/// The same of a packet in a block that follows whole sections of a pcapng file. A simple packet
-/// block has no time.
+/// The same of a packet in a block that follows sections of a pcapng file. A simple packet block has
+/// no time.
 pub fn pcapng_packet_is_reported()
     ensures { (passes_cut : Bool) (x : FileSection) (sections : List FileSection) (i : Interface)
         (block : FileBlock) (front back : List ℕ) → let last = last_section x sections in
         let interfaces = interfaces_all [] last.blocks in
-        FitsSection x → AllFitSections sections → FitsBlock interfaces block →
+        FitsSection passes_cut x → AllFitSections passes_cut sections →
+        FitsBlock passes_cut interfaces block →
         FitsBody (block_body last.order block) → IsTimed block →
         slice_get interfaces (interface_of block) ≡ Some i → i.link_type ≡ 231 →
+        packet_original block ≡ length (packet_bytes block) →
         packet_bytes block ≡ front ++ back →
         Reports (run (fresh passes_cut stages.Start) (sections_bytes (x ∷ sections) ++
         (block_front last.order block ++ front)))
@@ -127,13 +126,15 @@ pub fn pcapng_bytes_have_packets()
     ensures { (passes_cut : Bool) (x : FileSection) (sections : List FileSection) (i : Interface)
         (block : FileBlock) (more : List ℕ) (n : ℕ) → let last = last_section x sections in
         let interfaces = interfaces_all [] last.blocks in
-        FitsSection x → AllFitSections sections → FitsBlock interfaces block →
+        FitsSection passes_cut x → AllFitSections passes_cut sections →
+        FitsBlock passes_cut interfaces block →
         FitsBody (block_body last.order block) → IsTimed block →
         slice_get interfaces (interface_of block) ≡ Some i → i.link_type ≡ 231 →
+        packet_original block ≡ length (packet_bytes block) →
         n < length (packet_bytes block) →
         packet_given (fresh passes_cut stages.Start)
         ((sections_bytes (x ∷ sections) ++ block_front last.order block) ++
-        (packet_bytes block ++ more)) (length (sections_payload (x ∷ sections)) + n) ≡
+        (packet_bytes block ++ more)) (length (whole_payload (sections_packets (x ∷ sections))) + n) ≡
         Some (pcapng_packet_reported (x ∷ sections) i block) }
 {}
 
