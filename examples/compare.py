@@ -1,10 +1,11 @@
 #!/usr/bin/env python3
-"""compare.py PROGRAM LISTERS SWAPPERS FILTERS BUILDER CHECKER..: compares what each CHECKER writes of messages with what `PROGRAM check` does.
+"""compare.py PROGRAM LISTERS SWAPPERS FILTERS BUILDER EXPLAINERS CHECKER..: compares what each CHECKER writes of messages with what `PROGRAM check` does.
 
 The messages are the captures in samples/, whole and cut short, and those of the first messages of each capture of which one
 byte is changed. Both the text and the exit status are compared. What each of LISTERS, which commas separate, writes of the captures is compared with
 what `PROGRAM show` writes; what each of SWAPPERS writes of them in either byte order, with `PROGRAM swap`; what each of FILTERS writes of them for a rule and owners of names, with `PROGRAM filter`. What BUILDER builds of the
-parts of their messages has these parts, as `PROGRAM json` writes them. All but PROGRAM are run by the words in RUN, if it has any. The exit status is 1
+parts of their messages has these parts, as `PROGRAM json` writes them. What each of EXPLAINERS writes of a message that is refused is what
+`PROGRAM check --explain` does. All but PROGRAM are run by the words in RUN, if it has any. The exit status is 1
 if they differ.
 """
 
@@ -153,12 +154,29 @@ def compare_builds(program, builder, folder):
     return differing
 
 
-def main(program, listers, swappers, filters, builder, *checkers):
+def compare_explained(program, explainer, folder):
+    """How many refused messages are explained otherwise: those of which the input does not end."""
+    differing = explained = 0
+    for name, data in inputs(folder):
+        refusal, _, right = answer([program, "check", "--explain"], data)[0].partition("\n")
+        if refusal.startswith("refused at") and not refusal.endswith(": Truncated"):
+            explained += 1
+            # The whole input is read, so that the last bytes that are shown are the same.
+            other = subprocess.run([*RUN, explainer], input=data, capture_output=True).stdout.decode().rstrip("\n")
+            if other != right:
+                differing += 1
+                print(f"{name}: {program} explains {right}, {explainer} {other}")
+    print(f"{explained} refused messages explained, {differing} otherwise")
+    return differing + (explained == 0)
+
+
+def main(program, listers, swappers, filters, builder, explainers, *checkers):
     folder = os.path.join(os.path.dirname(os.path.abspath(__file__)), "..", "samples")
     kinds, differing = collections.Counter(), sum(compare_lists(program, lister, folder) for lister in listers.split(","))
     differing += sum(compare_swaps(program, swapper, folder) for swapper in swappers.split(","))
     differing += sum(compare_filters(program, filter_program, folder) for filter_program in filters.split(","))
     differing += compare_builds(program, builder, folder)
+    differing += sum(compare_explained(program, explainer, folder) for explainer in explainers.split(","))
     for name, data in inputs(folder):
         right = answer([program, "check"], data)
         kinds[right[0].split(" ")[-1] if right[1] else "ok"] += 1

@@ -45,7 +45,7 @@ echo '#include <dbus_wire.h>' | "$CXX" $flags -x c++ -fsyntax-only -
 "$CC" -std=c99 -O2 $flags -o "$built/check" "$here/c/check.c" -L"$built" -ldbus_wire
 "$CC" -std=c99 -O2 $flags -o "$built/check_shared" "$here/c/check.c" "$shared" -Wl,-rpath,"$(cd "$(dirname "$shared")" && pwd)"
 "$CC" $sanitized -o "$built/check_sanitized" "$here/c/check.c" -L"$built" -ldbus_wire
-for name in list swap rules build signal room habits texts lines watch pieces threads sharing; do
+for name in list swap rules build signal room habits texts lines watch pieces threads sharing explain; do
 	"$CC" $sanitized -pthread -o "$built/$name" "$here/c/$name.c" -L"$built" -ldbus_wire
 	"$CC" -std=c99 -O2 -g $flags -pthread -o "$built/plain_$name" "$here/c/$name.c" -L"$built" -ldbus_wire
 done
@@ -188,7 +188,7 @@ if [ -z "$target" ] && pkg-config --exists dbus-1; then
 	changes=0 try_fuzz "$here/fuzz/peer.c" "$here/../cases/peers/libdbus.c" $(pkg-config --cflags --libs dbus-1)
 fi
 
-listers=$built/list swappers=$built/swap filters=$built/rules
+listers=$built/list swappers=$built/swap filters=$built/rules explainers=$built/explain
 set -- "$built/check" "$built/check_shared" "$built/plain_pieces"
 if [ -z "$target" ]; then set -- "$@" "$built/check_sanitized"; fi
 if [ -n "$target" ]; then
@@ -199,9 +199,9 @@ elif command -v cargo > /dev/null; then
 	cargo build --quiet --offline --release --examples --manifest-path "$here/../rust/Cargo.toml"
 	rust=$built/rust/release/examples
 	if command -v dbus-daemon > /dev/null; then try_echo "$rust/descriptors"; fi
-	listers=$listers,$rust/list swappers=$swappers,$rust/swap filters=$filters,$rust/filter
+	listers=$listers,$rust/list swappers=$swappers,$rust/swap filters=$filters,$rust/filter explainers=$explainers,$rust/explain
 	set -- "$@" "$rust/check"
 else
 	echo "no cargo here: the Rust crate is not tried"
 fi
-exec "$here/compare.py" "$program" "$listers" "$swappers" "$filters" "$built/build" "$@"
+exec "$here/compare.py" "$program" "$listers" "$swappers" "$filters" "$built/build" "$explainers" "$@"

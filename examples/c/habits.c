@@ -25,6 +25,8 @@ static void sizes(void) {
            "rules 8, rule_id 24, rule_refused 16 bytes");
     expect(sizeof(struct dbus_wire_flat_item) == 32, "flat_item 32 bytes");
     expect(sizeof(struct dbus_wire_text_checked) == 16, "text_checked 16 bytes");
+    expect(sizeof(struct dbus_wire_input_place) == 16 && sizeof(struct dbus_wire_explained) == 104,
+           "input_place 16, explained 104 bytes");
 }
 
 static void nulls(void) {
@@ -105,6 +107,43 @@ static void answers(void) {
            "no type is 0, and no bytes are partial, by builders");
 }
 
+/* Why a signal is refused of which the last 0 is another byte: what is written in each room. */
+static void explanations(void) {
+    static uint8_t lines[512], cut[512];
+    uint8_t bad[SIGNAL_LENGTH];
+    struct dbus_wire_explained explained, same;
+    struct dbus_wire_checked told;
+    size_t room, at;
+
+    FRESH(explained), FRESH(lines);
+    expect(dbus_wire_explain(SIGNAL, SIGNAL_LENGTH, NULL, NULL, lines, sizeof lines, &explained, &told) == DBUS_WIRE_NO_VALUE &&
+               told.length == SIGNAL_LENGTH,
+           "of a message there is nothing to explain");
+    expect(dbus_wire_explain(NULL, 0, NULL, NULL, NULL, 0, &explained, NULL) == DBUS_WIRE_PARTIAL, "nor of no bytes");
+    expect(is_fresh(&explained, sizeof explained) && is_fresh(lines, sizeof lines), "then nothing else is written");
+
+    memcpy(bad, SIGNAL, SIGNAL_LENGTH);
+    bad[SIGNAL_LENGTH - 1] = 1;
+    expect(dbus_wire_explain(bad, SIGNAL_LENGTH, NULL, NULL, lines, sizeof lines, &explained, &told) == DBUS_WIRE_OK &&
+               told.offset == SIGNAL_LENGTH - 1 && told.reason == DBUS_WIRE_REASON_NUL,
+           "a bad signal is explained");
+    expect(strlen((const char *)lines) == explained.length && lines[explained.length - 1] == '\n', "by lines");
+    expect(explained.name.length == 7 && memcmp(lines + explained.name.offset, "body[0]", 7) == 0, "its place is body[0]");
+    expect(explained.head.is_there && memcmp(lines + explained.head.offset, "#1 l signal serial=1", 20) == 0, "its head is there");
+    expect(memcmp(lines + explained.rule.offset, "a 0 follows a text (", 20) == 0, "its rule too");
+    expect(explained.text.is_there && explained.text.length == 2 && memcmp(bad + explained.text.offset, "hi", 2) == 0,
+           "it is in a text");
+    for (room = 0; room < sizeof cut; room++) {
+        size_t written = room <= explained.length ? room : explained.length + 1;
+        FRESH(cut);
+        expect(dbus_wire_explain(bad, SIGNAL_LENGTH, NULL, NULL, cut, room, &same, NULL) ==
+                       (room > explained.length ? DBUS_WIRE_OK : DBUS_WIRE_NO_ROOM) &&
+                   memcmp(&same, &explained, sizeof same) == 0 && memcmp(cut, lines, written) == 0,
+               "as much of them as there is room for");
+        for (at = written; at < sizeof cut; at++) expect(cut[at] == 0xAA, "and no byte after it");
+    }
+}
+
 /* The reasons whose constants begin so, by the calls of their names and of their sentences. */
 static void reasons(const char *prefix, size_t (*name_of)(uint32_t, uint8_t *, size_t), const char *(*text_of)(uint32_t)) {
     uint8_t name[32];
@@ -167,6 +206,7 @@ int main(void) {
     sizes();
     nulls();
     answers();
+    explanations();
     rules();
     reasons("REASON_", dbus_wire_inline_reason_name, dbus_wire_reason_text);
     reasons("RULE_REASON_", dbus_wire_inline_rule_reason_name, dbus_wire_rule_reason_text);

@@ -13,7 +13,7 @@ linker finds it.
             print(message.serial, message.member, message.body)
 
 Bytes that are no message raise Refused or Truncated, which say where and why, as `dbus-wire check`
-does. No value that is given is changed: one that is not of its type raises BadValue, which says
+does; `explain` says why for a reader, as `dbus-wire check --explain` does. No value that is given is changed: one that is not of its type raises BadValue, which says
 where it is. examples/python has programs. All of it may be called from any thread; a thread needs 128 KiB of stack for a call. A message
 of any depth is read within Python's default limit on recursion.
 """
@@ -21,6 +21,7 @@ of any depth is read within Python's default limit on recursion.
 from ._building import build, error_to, rebuild, reply_to
 from ._checker import Checker
 from ._errors import BadValue, HeaderField, NotAMessage, Refused, Truncated
+from ._explaining import Explanation, StatedText, explain
 from ._handshake import Client, Server, Status, Step
 from ._library import LIBRARY_VERSION
 from ._limits import Limits
@@ -38,6 +39,7 @@ __all__ = [
     "BadValue",
     "Checker",
     "Client",
+    "Explanation",
     "HeaderField",
     "Limits",
     "Line",
@@ -54,6 +56,7 @@ __all__ = [
     "RuleSet",
     "Server",
     "Signature",
+    "StatedText",
     "Status",
     "Step",
     "TextFault",
@@ -67,6 +70,7 @@ __all__ = [
     "check_text",
     "client_line",
     "error_to",
+    "explain",
     "messages",
     "rebuild",
     "reply_to",

@@ -60,6 +60,14 @@ class FlatItem(ctypes.Structure):
     ]
 
 
+class InputPlace(ctypes.Structure):
+    _fields_ = [(name, c_uint64) for name in ("number", "offset")]
+
+
+class Explained(ctypes.Structure):
+    _fields_ = [("length", c_uint64)] + [(name, Text) for name in ("name", "head", "rule", "text")]
+
+
 class Writer(ctypes.Structure):
     _fields_ = [("length", c_uint64), ("order", c_uint32), ("reserved", c_uint32)]
 
@@ -129,6 +137,7 @@ _CALLS = {
     "parts_of": (c_uint32, *_MESSAGE, POINTER(Parts), POINTER(Checked)),
     "flatten": (c_uint32, *_MESSAGE, c_size_t, *_ITEMS),
     "flatten_fields": (c_uint32, *_MESSAGE, c_size_t, *_ITEMS),
+    "explain": (c_uint32, *_MESSAGE, POINTER(InputPlace), c_char_p, c_size_t, POINTER(Explained), POINTER(Checked)),
     "wanted": (c_uint64, *_MESSAGE),
     "swap": (c_uint32, *_MESSAGE, c_uint32, c_char_p, c_size_t, POINTER(Checked)),
     "build": (c_uint32, POINTER(Parts), *_MESSAGE, c_char_p, c_size_t, POINTER(Checked)),

@@ -47,6 +47,7 @@ from dbus_wire import (
     byteswap,
     check_text,
     client_line,
+    explain,
     messages,
     rebuild,
     server_line,
@@ -292,6 +293,23 @@ class Messages(unittest.TestCase):
             self.assertEqual(caught.exception.at, len(SESSION) + (0 if right is Refused else 20))
             found = messages(SESSION + rest)
             self.assertEqual(sum(1 for _ in zip(range(136), found)), 136)
+
+    def test_why_bytes_are_refused_is_explained(self):
+        path = "/" + "a" * 2000
+        signal = build(MessageType.SIGNAL, 7, "a{sv}", {"Title": Variant("s", "hi")}, path=path, interface="b.c", member="D").data
+        found = explain(signal[:-1] + b"\1" + SESSION, number=2, offset=96)
+        self.assertEqual(found.name, 'body[0]["Title"].value.variant')
+        self.assertEqual(found.head, f"#2 l signal serial=7 flags=00 path={path} interface=b.c member=D signature=a{{sv}}")
+        self.assertEqual(found.rule, 'a 0 follows a text (D-Bus Specification, "Marshaling (Wire Format)")')
+        self.assertEqual((found.text.at, found.text.length), (len(signal) - 3, 2))
+        self.assertEqual(str(found.fault), f"refused at {len(signal) - 1}: Nul")
+        place = f"  message 2 at 96, byte {len(signal) - 1}: {found.name}, a text from byte {found.text.at} of stated length 2"
+        first, second, _, last, end = str(found).split("\n")
+        self.assertEqual((first, second, last, end), (place, f"  {found.head}", f"  {found.rule}", ""))
+        self.assertEqual((explain(b"l\0").head, explain(b"l\0").text), (None, None))
+        self.assertEqual(explain(signal, Limits(message=16)).name, "the length of the header fields")
+        for data in (signal, signal + b"x", signal[:-1], b""):
+            self.assertIsNone(explain(data), data)
 
     def test_the_missing_field_is_reported(self):
         with self.assertRaises(Refused) as caught:

@@ -178,6 +178,23 @@ pub struct dbus_wire_flat_item {
 
 #[repr(C)]
 #[derive(Clone, Copy, Debug, Default)]
+pub struct dbus_wire_input_place {
+    pub number: u64,
+    pub offset: u64,
+}
+
+#[repr(C)]
+#[derive(Clone, Copy, Debug, Default)]
+pub struct dbus_wire_explained {
+    pub length: u64,
+    pub name: dbus_wire_text,
+    pub head: dbus_wire_text,
+    pub rule: dbus_wire_text,
+    pub text: dbus_wire_text,
+}
+
+#[repr(C)]
+#[derive(Clone, Copy, Debug, Default)]
 pub struct dbus_wire_writer {
     pub length: u64,
     pub order: u32,
@@ -284,6 +301,8 @@ const _: () = assert!(size_of::<dbus_wire_checked>() == 32);
 const _: () = assert!(size_of::<dbus_wire_text>() == 24);
 const _: () = assert!(size_of::<dbus_wire_parts>() == 208);
 const _: () = assert!(size_of::<dbus_wire_flat_item>() == 32);
+const _: () = assert!(size_of::<dbus_wire_input_place>() == 16);
+const _: () = assert!(size_of::<dbus_wire_explained>() == 104);
 const _: () = assert!(size_of::<dbus_wire_writer>() == 16);
 const _: () = assert!(size_of::<dbus_wire_array>() == 16);
 const _: () = assert!(size_of::<dbus_wire_text_checked>() == 16);
@@ -337,6 +356,16 @@ extern "C" {
         items: *mut dbus_wire_flat_item,
         room: usize,
         count: *mut u64,
+        told: *mut dbus_wire_checked,
+    ) -> u32;
+    pub fn dbus_wire_explain(
+        bytes: *const u8,
+        length: usize,
+        limits: *const dbus_wire_limits,
+        place: *const dbus_wire_input_place,
+        out: *mut u8,
+        room: usize,
+        explained: *mut dbus_wire_explained,
         told: *mut dbus_wire_checked,
     ) -> u32;
     pub fn dbus_wire_wanted(bytes: *const u8, length: usize, limits: *const dbus_wire_limits) -> u64;

@@ -170,7 +170,9 @@ fn write_explained<D: Draft>(draft: &mut D, form: Form, refused: &Refused)
         D.gains draft.old text draft.new }
 {
     match form {
-        Form::Lines => explain_message(draft, refused),
+        Form::Lines => {
+            explain_message(draft, refused);
+        }
         Form::Members => write_refusal_members(draft, refused),
     }
 }

@@ -9,3 +9,4 @@ pub mod Handshakes
 pub mod Watching
 pub mod Building
 pub mod Writers
+pub mod Explaining

@@ -15,9 +15,13 @@ use Rattle.dbus_c.specs.declared.parts.TextPlace.{TextPlace}
 use Rattle.dbus_c.specs.declared.flattening.Part.{Part}
 use Rattle.dbus_c.specs.declared.flattening.Part.TheVariants.{Body, Fields}
 
+-- where there is no text, all is 0
+abbrev pub no_place : TextPlace
+no_place = record { offset = 0; length = 0; is_there = 0 }
+
 -- where the text of a field's value stands among a message's bytes; of no value all is 0
 abbrev pub IsPlaceOf : Option ValueTree → List ℕ → TextPlace → Type 0
-IsPlaceOf None b p = p ≡ record { offset = 0; length = 0; is_there = 0 }
+IsPlaceOf None b p = p ≡ no_place
 IsPlaceOf (Some v) b p = (p.is_there ≡ 1) × (text_in v ≡ take p.length (drop p.offset b)) × (p.offset + p.length ≤ length b)
 
 -- the text of the first field of a code, if there is one, stands where that field has it

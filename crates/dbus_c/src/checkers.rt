@@ -85,8 +85,8 @@ pub extern "C" fn dbus_wire_checker_free(alloc: Global, checker: &mut WireHandle
     checker.free(alloc);
 }
 
-// The number of a checker's answer.
-fn answer_of(check: Check) -> u32
+/// The number of a checker's answer.
+pub(crate) fn answer_of(check: Check) -> u32
     ensures { result ≡ answer_of check }
 {
     match check {

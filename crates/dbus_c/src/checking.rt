@@ -2,16 +2,20 @@
 #![tactic(auto)]
 
 ghost use Rattle.std.specs.Prelude.{◌≡◌, ◌<◌, ◌≤◌, length, IfOk, IfErr};
-ghost use Rattle.dbus_header.specs.MessageOutcomes.{IsWhole};
+ghost use Rattle.dbus_header.specs.MessageOutcomes.{IsRefused, IsWhole};
 ghost use Rattle.dbus_message_model.specs.Messages.{MessageTree};
 ghost use Rattle.dbus_value_model.specs.declared.limits.Limits.{Limits};
 ghost use Rattle.dbus_value_model.specs.declared.order.Order.{Order};
-ghost use Rattle.dbus_c.specs.Checking.{IsChecked, fault_told, nothing_told, whole_told};
+ghost use Rattle.dbus_c.specs.Checking.{IsChecked, answer_of as check_answer, fault_told};
+ghost use Rattle.dbus_c.specs.Checking.{nothing_told, whole_told};
+ghost use Rattle.dbus_check.specs.declared.check.Check.TheVariants.{Refused};
+ghost use Rattle.dbus_value_model.specs.declared.fault.Fault.{Fault as FaultOf};
 ghost use Rattle.dbus_c.specs.GivenLimits.{limits_of};
 ghost use Rattle.dbus_c.specs.Outcomes.{IsFirstView, answer_of};
 ghost use Rattle.dbus_validate.specs.Validating.{IsValidated};
 
-use crate::answers::{PARTIAL, REFUSED, WHOLE};
+use crate::answers::WHOLE;
+use crate::checkers::answer_of;
 use crate::given_limits::{WireLimits, given_limits};
 use crate::reasons::{field_named, reason_number};
 use dbus_check::{Check, Checker};
@@ -115,28 +119,30 @@ pub(crate) fn first_validated(
             *told = whole_told(bytes, validated.length);
             Ok(validated)
         }
-        None => Err(check_all(bytes, within, told)),
+        None => Err(answer_of(check_all(bytes, within, told))),
     }
 }
 
-// What a checker returns for the bytes.
+// What a checker returns for the bytes. What a check of them reports is written.
 #[inline(never)]
-fn check_all(bytes: &[u8], limits: Limits, out: &mut Checked) -> u32
-    ensures { IsChecked limits bytes.now result out.new }
+pub(crate) fn check_all(bytes: &[u8], limits: Limits, out: &mut Checked) -> Check
+    ensures checked { IsChecked limits bytes.now (check_answer result) out.new }
+    ensures refused { (fault : FaultOf) → result ≡ Refused fault →
+        IsRefused limits bytes.now fault }
 {
     let mut checker = Checker::within(limits);
     match checker.take(bytes) {
         Check::Done(count) => {
             *out = whole_told(bytes, count);
-            WHOLE
+            Check::Done(count)
         }
         Check::Partial => {
             *out = nothing_told();
-            PARTIAL
+            Check::Partial
         }
         Check::Refused(fault) => {
             *out = fault_told(fault);
-            REFUSED
+            Check::Refused(fault)
         }
     }
 }

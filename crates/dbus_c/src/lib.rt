@@ -5,7 +5,8 @@
 //! [`dbus_wire_parts_of`] gives a message's parts, and [`dbus_wire_swap`] byteswaps.
 //! [`dbus_wire_flatten`] gives all values of its body as one row of items,
 //! [`dbus_wire_flatten_fields`] those of its header fields, and [`dbus_wire_read`] its parts and
-//! its body's values by one validation. [`dbus_wire_checker_new`] makes a checker that takes one
+//! its body's values by one validation. [`dbus_wire_explain`] explains for a reader why bytes are
+//! refused. [`dbus_wire_checker_new`] makes a checker that takes one
 //! piece after another, and [`dbus_wire_rules_add`] keeps match rules,
 //! [`dbus_wire_rules_owner`] the owners of names that their senders may be;
 //! [`dbus_wire_server_new`] and [`dbus_wire_client_new`] make an end of a handshake;
@@ -22,6 +23,7 @@ mod answers;
 mod building;
 mod checkers;
 mod checking;
+mod explaining;
 mod flattening;
 mod given_limits;
 mod handshake_lines;
@@ -50,6 +52,7 @@ pub use checkers::{
     dbus_wire_checker_take,
 };
 pub use checking::{Checked, dbus_wire_check};
+pub use explaining::{Explained, InputPlace, dbus_wire_explain};
 pub use flattening::{dbus_wire_flatten, dbus_wire_flatten_fields};
 pub use given_limits::{ANY_INDEX, INDEX_BELOW_COUNT, WireLimits, dbus_wire_specification_limits};
 pub use handshake_lines::{HandshakeLine, dbus_wire_client_line, dbus_wire_server_line};

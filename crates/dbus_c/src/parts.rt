@@ -4,7 +4,8 @@
 ghost use Rattle.std.specs.Prelude.{◌≡◌, ◌≢◌, List, ℕ, true};
 ghost use Rattle.dbus_c.specs.Checking.{IsChecked};
 ghost use Rattle.dbus_c.specs.GivenLimits.{limits_of};
-ghost use Rattle.dbus_c.specs.Parting.{HasFields, HasParts, IsOwnPlace, IsPlaceOf, number_of};
+ghost use Rattle.dbus_c.specs.Parting.{HasFields, HasParts, IsOwnPlace, IsPlaceOf, no_place};
+ghost use Rattle.dbus_c.specs.Parting.{number_of};
 ghost use Rattle.dbus_validate.specs.Seen.{AreNoted, ArePlaced};
 ghost use Rattle.dbus_validate.specs.Validating.{IsValidated};
 ghost use Rattle.dbus_value_model.specs.declared.limits.Limits.{Limits};
@@ -142,11 +143,18 @@ fn place_of(seen: &FieldPlaces, code: u8) -> TextPlace
             length: u64::from(place.length),
             is_there: 1,
         },
-        None => TextPlace {
-            offset: 0,
-            length: 0,
-            is_there: 0,
-        },
+        None => no_place(),
+    }
+}
+
+// What is told of a text that is not there.
+pub(crate) fn no_place() -> TextPlace
+    ensures { result ≡ no_place }
+{
+    TextPlace {
+        offset: 0,
+        length: 0,
+        is_there: 0,
     }
 }
 

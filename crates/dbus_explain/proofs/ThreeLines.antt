@@ -16,12 +16,13 @@ use Rattle.dbus_show.proofs.FieldTexts.{then}
 use Rattle.dbus_show.specs.Escapes.{escaped, visible}
 use Rattle.dbus_show.specs.declared.escapes.Escapes.TheVariants.{Shown, Line}
 use Rattle.dbus_explain.proofs.VisibleLines.{line_visible}
-use Rattle.dbus_explain.specs.Explained.{IsMarkAt, bytes_line, place_line, rule_line, mark_line, quoted_line, AreLines, byte_text, marked}
+use Rattle.dbus_explain.specs.Explained.{IsMarkAt, lines_of, bytes_line, place_line, rule_line, mark_line, quoted_line, AreLines, byte_text, marked}
 use Rattle.dbus_explain.specs.Explained.{window}
 use Rattle.dbus_explain.specs.Heads.{head_lines, head_part}
 use Rattle.dbus_explain.specs.Looks.{begins, is_letter, look_of, look_text}
 use Rattle.dbus_explain.specs.Names.{IsFieldName, in_field, behind_fields, text_part, IsValueName, in_value, behind_values, IsNameOf, first, missing}
 use Rattle.dbus_explain.specs.Names.{field, padding, value, code_name, first_part, path_text, step_text, is_missing}
+use Rattle.dbus_explain.specs.Rules.{rule_text as rule_of}
 use Rattle.dbus_explain.specs.declared.message.Refused.{Refused}
 use Rattle.dbus_explain.specs.declared.search.StatedText.{StatedText}
 use Rattle.dbus_explain.specs.declared.path.PathStep.{PathStep}
@@ -78,23 +79,25 @@ line_part (Some text) =
     after_literal (codes ", a text from byte ") (decimal text.start ++ (codes " of stated length " ++ decimal text.stated)) refl
     (line_append (decimal text.start) (codes " of stated length " ++ decimal text.stated) (line_decimal text.start) length)
 
-line_in_fields : (bytes : List ℕ) (at : ℕ) (name : List ℕ) → IsFieldName bytes at name → IsOneLine name
-line_in_fields bytes at name (in_field p code text is there) = after_literal (codes "header field ") (code_name code ++ text_part text) refl
-    (line_append (code_name code) (text_part text) (line_code code) (line_part text))
-line_in_fields bytes at name (behind_fields none) = literal (codes "the header fields") refl
+line_in_fields : (bytes : List ℕ) (at : ℕ) (name : List ℕ) (text : Option StatedText) → IsFieldName bytes at name text → IsOneLine name
+line_in_fields bytes at name text (in_field p code t is there) = after_literal (codes "header field ") (code_name code) refl (line_code code)
+line_in_fields bytes at name text (behind_fields none) = literal (codes "the header fields") refl
 
-line_in_body : (bytes : List ℕ) (at : ℕ) (name : List ℕ) → IsValueName bytes at name → IsOneLine name
-line_in_body bytes at name (in_value ts number t p steps u q text types among path there) =
-    after_literal (codes "body") (path_text (Number number ∷ steps) ++ text_part text) refl
-    (line_append (path_text (Number number ∷ steps)) (text_part text) (line_path (Number number ∷ steps)) (line_part text))
-line_in_body bytes at name behind_values = literal (codes "the end of the body") refl
+line_in_body : (bytes : List ℕ) (at : ℕ) (name : List ℕ) (text : Option StatedText) → IsValueName bytes at name text → IsOneLine name
+line_in_body bytes at name text (in_value ts number t p steps u q stated types among path there) =
+    after_literal (codes "body") (path_text (Number number ∷ steps)) refl (line_path (Number number ∷ steps))
+line_in_body bytes at name text behind_values = literal (codes "the end of the body") refl
 
-line_name : (bytes : List ℕ) (reason : Reason) (at : ℕ) (name : List ℕ) → IsNameOf bytes reason at name → IsOneLine name
-line_name bytes reason at name (first h) = line_first at
-line_name bytes reason at name (missing h m) = literal (codes "the end of the header fields") refl
-line_name bytes reason at name (field n h m e is) = line_in_fields bytes at n is
-line_name bytes reason at name (padding h m e f) = literal (codes "the padding after the header fields") refl
-line_name bytes reason at name (value n h m e is) = line_in_body bytes at n is
+line_name : (bytes : List ℕ) (reason : Reason) (at : ℕ) (name : List ℕ) (text : Option StatedText) → IsNameOf bytes reason at name text → IsOneLine name
+line_name bytes reason at name text (first h) = line_first at
+line_name bytes reason at name text (missing h m) = literal (codes "the end of the header fields") refl
+line_name bytes reason at name text (field n t h m e is) = line_in_fields bytes at n t is
+line_name bytes reason at name text (padding h m e f) = literal (codes "the padding after the header fields") refl
+line_name bytes reason at name text (value n t h m e is) = line_in_body bytes at n t is
+
+-- what is told of the place
+line_told : (bytes : List ℕ) (reason : Reason) (at : ℕ) (name : List ℕ) (text : Option StatedText) → IsNameOf bytes reason at name text → IsOneLine (name ++ text_part text)
+line_told bytes reason at name text is = line_append name (text_part text) (line_name bytes reason at name text is) (line_part text)
 
 -- ---- lines
 
@@ -118,10 +121,9 @@ line_bytes bytes at =
         (line_append (encode_lower (b ∷ [])) (codes "]" ++ flat_map byte_text bs) (line_hex (b ∷ []))
         (after_literal (codes "]") (flat_map byte_text bs) refl (line_texts bs)))
 
-line_place : (refused : Refused) (bytes : List ℕ) (reason : Reason) (at : ℕ) (name : List ℕ) → IsNameOf bytes reason at name
-    → IsOneLine (place_line refused at name)
-line_place refused bytes reason at name is =
-    let named = after_literal (codes ": ") name refl (line_name bytes reason at name is) in
+line_place : (refused : Refused) (at : ℕ) (name : List ℕ) → IsOneLine name → IsOneLine (place_line refused at name)
+line_place refused at name is =
+    let named = after_literal (codes ": ") name refl is in
     let placed = line_append (decimal at) (codes ": " ++ name) (line_decimal at) named in
     let byte = after_literal (codes ", byte ") (decimal at ++ (codes ": " ++ name)) refl placed in
     let begun = line_append (decimal refused.offset) (codes ", byte " ++ (decimal at ++ (codes ": " ++ name))) (line_decimal refused.offset)
@@ -197,23 +199,29 @@ joined_rule : (front shown rule look : List ℕ) → front ++ (codes "\n " ++ (s
     ≡ front ++ (codes "\n " ++ (shown ++ (codes "\n  " ++ ((rule ++ look) ++ codes "\n"))))
 joined_rule front shown rule look = ap (λ (s : List ℕ). front ++ (codes "\n " ++ (shown ++ (codes "\n  " ++ s)))) (sym (append_assoc rule look (codes "\n")))
 
-pub message_lines : (refused : Refused) (bytes : List ℕ) (reason : Reason) (at : ℕ) (name rule : List ℕ) (head : Option (List ℕ)) → IsNameOf bytes reason at name
-    → line_feeds rule ≡ 0
-    → AreLines (place_line refused at name ∷ (head_lines head ++ (bytes_line bytes at ∷ rule_line (rule ++ look_text refused) ∷ [])))
-    (place_line refused at name ++ (head_part head ++ (codes "\n " ++ (window bytes at ++ (codes "\n  " ++ (rule ++ (look_text refused ++ codes "\n")))))))
-message_lines refused bytes reason at name rule None is one =
-    let place = place_line refused at name in
+pub message_lines : (refused : Refused) (at : ℕ) (name : List ℕ) (text : Option StatedText) (head : Option (List ℕ)) → IsNameOf refused.bytes.now refused.fault.reason at name text
+    → line_feeds (rule_of refused.fault.reason) ≡ 0
+    → AreLines (lines_of refused at name text head)
+    (place_line refused at (name ++ text_part text) ++ (head_part head ++ (codes "\n " ++ (window refused.bytes.now at ++ (codes "\n  " ++ (rule_of refused.fault.reason ++ (look_text refused ++ codes "\n")))))))
+message_lines refused at name text None is one =
+    let bytes = refused.bytes.now in
+    let rule = rule_of refused.fault.reason in
+    let told = name ++ text_part text in
+    let place = place_line refused at told in
     let shown = window bytes at in
     let look = look_text refused in
-    three place (bytes_line bytes at) (rule_line (rule ++ look)) _ (line_place refused bytes reason at name is) (line_bytes bytes at)
+    three place (bytes_line bytes at) (rule_line (rule ++ look)) _ (line_place refused at told (line_told bytes refused.fault.reason at name text is)) (line_bytes bytes at)
     (after_literal (codes "  ") (rule ++ look) refl (line_append rule look (literal rule one) (line_look refused)))
     (joined_rule place shown rule look ∙ message_text place shown (rule ++ look))
-message_lines refused bytes reason at name rule (Some h) is one =
-    let place = place_line refused at name in
+message_lines refused at name text (Some h) is one =
+    let bytes = refused.bytes.now in
+    let rule = rule_of refused.fault.reason in
+    let told = name ++ text_part text in
+    let place = place_line refused at told in
     let shown = window bytes at in
     let look = look_text refused in
     let line = escaped Line h in
-    four place (codes "  " ++ line) (bytes_line bytes at) (rule_line (rule ++ look)) _ (line_place refused bytes reason at name is)
+    four place (codes "  " ++ line) (bytes_line bytes at) (rule_line (rule ++ look)) _ (line_place refused at told (line_told bytes refused.fault.reason at name text is))
     (after_literal (codes "  ") line refl (line_escaped Line refl h)) (line_bytes bytes at)
     (after_literal (codes "  ") (rule ++ look) refl (line_append rule look (literal rule one) (line_look refused)))
     (ap (λ (s : List ℕ). place ++ s) (joined_rule (codes "\n  " ++ line) shown rule look) ∙ headed_text place line shown (rule ++ look))

@@ -1,5 +1,5 @@
 -- The lines that explain why a message is refused.
-use Rattle.std.specs.Prelude.{◌≡◌, ℕ, ◌<◌, ◌≤◌, List, ◌++◌, codes, ◌-◌, [], ◌∷◌, take, drop, length, replicate, decimal, min, chars, IsCharBoundary, Option}
+use Rattle.std.specs.Prelude.{◌≡◌, ℕ, ⊤, ◌+◌, ◌<◌, ◌≤◌, List, ◌++◌, codes, ◌-◌, [], ◌∷◌, take, drop, length, replicate, decimal, min, chars, IsCharBoundary, Option, None, Some}
 use Rattle.std.specs.List.{All, flat_map}
 use Rattle.dbus_show.specs.ShownMessages.{line_feeds}
 use Rattle.hex.specs.Hex.{encode_lower}
@@ -7,11 +7,15 @@ use Rattle.dbus_value_model.specs.declared.fault.Fault.{Fault}
 use Rattle.dbus_show.specs.Escapes.{escaped, visible}
 use Rattle.dbus_show.specs.ShownValues.{quoted}
 use Rattle.dbus_show.specs.declared.escapes.Escapes.TheVariants.{Shown}
-use Rattle.dbus_explain.specs.Heads.{IsHead, head_lines}
+use Rattle.dbus_explain.specs.Counting.{counted}
+use Rattle.dbus_explain.specs.Heads.{IsHead, head_lines, head_part, head_shown}
 use Rattle.dbus_explain.specs.Looks.{look_text}
-use Rattle.dbus_explain.specs.Names.{IsNameOf}
+use Rattle.dbus_explain.specs.Names.{IsNameOf, text_part}
 use Rattle.dbus_explain.specs.Rules.{rule_text}
+use Rattle.dbus_explain.specs.declared.explanation.Explanation.{Explanation}
+use Rattle.dbus_explain.specs.declared.explanation.LinesPart.{LinesPart}
 use Rattle.dbus_explain.specs.declared.message.Refused.{Refused}
+use Rattle.dbus_explain.specs.declared.search.StatedText.{StatedText}
 
 -- Texts of several lines.
 
@@ -38,7 +42,7 @@ window bytes at = flat_map byte_text (drop (at - 8) (take at bytes)) ++ marked (
 abbrev pub place_in : List ℕ → Fault → ℕ
 place_in bytes fault = min fault.at (length bytes)
 
--- the message's number, where it begins, and the place of the fault, with its name
+-- the message's number, where it begins, and the place of the fault, with what is told of it
 abbrev pub place_line : Refused → (at : ℕ) → (name : List ℕ) → List ℕ
 place_line refused at name =
     codes "  message " ++ (decimal refused.number ++ (codes " at " ++ (decimal refused.offset ++ (codes ", byte " ++ (decimal at ++ (codes ": " ++ name))))))
@@ -50,17 +54,55 @@ bytes_line bytes at = codes " " ++ window bytes at
 abbrev pub rule_line : List ℕ → List ℕ
 rule_line rule = codes "  " ++ rule
 
--- a line of the place, one of the head of the message if its type is whole, one of the bytes around
--- the place, and one of the rule that they break; and, if the input does not begin as a message
--- does, of what it is
+-- the lines of a place, which has this name and is in this text, and of this head: a line of the
+-- place, one of the head of the message if its type is whole, one of the bytes around the place, and
+-- one of the rule that they break; and, if the input does not begin as a message does, of what it is
+abbrev pub lines_of : (refused : Refused) → (at : ℕ) → (name : List ℕ) → Option StatedText → (head : Option (List ℕ)) → List (List ℕ)
+lines_of refused at name text head =
+    place_line refused at (name ++ text_part text) ∷ (head_lines head ++ (bytes_line refused.bytes.now at
+    ∷ rule_line (rule_text refused.fault.reason ++ look_text refused) ∷ []))
+
+-- it is these lines, of the fault's place and head
 pub record IsExplained (refused : Refused) (text : List ℕ) : Type 0 where
   pub name : List ℕ
+  pub stated : Option StatedText
   pub head : Option (List ℕ)
-  pub named : IsNameOf refused.bytes.now refused.fault.reason (place_in refused.bytes.now refused.fault) name
+  pub named : IsNameOf refused.bytes.now refused.fault.reason (place_in refused.bytes.now refused.fault) name stated
   pub headed : IsHead refused.bytes.now (place_in refused.bytes.now refused.fault) refused.number head
-  pub lines : AreLines
-      (place_line refused (place_in refused.bytes.now refused.fault) name ∷ (head_lines head ++ (bytes_line refused.bytes.now (place_in refused.bytes.now refused.fault)
-      ∷ rule_line (rule_text refused.fault.reason ++ look_text refused) ∷ []))) text
+  pub lines : AreLines (lines_of refused (place_in refused.bytes.now refused.fault) name stated head) text
+
+-- The parts of these lines.
+
+-- a part of a text comes behind another, and its place is told
+pub record IsPart (text before part : List ℕ) (place : LinesPart) : Type 0 where
+  pub after : List ℕ
+  pub text_is : text ≡ before ++ (part ++ after)
+  pub start_is : place.start ≡ counted (length before)
+  pub end_is : place.end ≡ counted (length before + length part)
+
+abbrev pub IsPartIf : (text before : List ℕ) → (part : Option (List ℕ)) → Option LinesPart → Type 0
+IsPartIf text before None None = ⊤
+IsPartIf text before (Some part) (Some place) = IsPart text before part place
+IsPartIf text before part place = ⊥
+
+-- what comes before the name, the head and the rule
+abbrev pub before_name : (refused : Refused) → (at : ℕ) → List ℕ
+before_name refused at = place_line refused at []
+
+abbrev pub before_head : (refused : Refused) → (at : ℕ) → (name : List ℕ) → Option StatedText → List ℕ
+before_head refused at name text = place_line refused at (name ++ text_part text) ++ codes "\n  "
+
+abbrev pub before_rule : (refused : Refused) → (at : ℕ) → (name : List ℕ) → Option StatedText → (head : Option (List ℕ)) → List ℕ
+before_rule refused at name text head =
+    place_line refused at (name ++ text_part text) ++ (head_part head ++ (codes "\n" ++ (bytes_line refused.bytes.now at ++ codes "\n  ")))
+
+-- the parts of an explanation have these places in its text, and it is of this length
+pub record ArePartsOf {refused : Refused} {text : List ℕ} (is : IsExplained refused text) (parts : Explanation) : Type 0 where
+  pub length_is : parts.length ≡ counted (length text)
+  pub name : IsPart text (before_name refused (place_in refused.bytes.now refused.fault)) is.name parts.name
+  pub head : IsPartIf text (before_head refused (place_in refused.bytes.now refused.fault) is.name is.stated) (head_shown is.head) parts.head
+  pub rule : IsPart text (before_rule refused (place_in refused.bytes.now refused.fault) is.name is.stated is.head) (rule_text refused.fault.reason) parts.rule
+  pub stated : parts.text ≡ is.stated
 
 -- The lines that explain why a match rule is refused. Which text says what may be there is not
 -- stated.

@@ -1,6 +1,6 @@
 -- The head of a message that is refused, as far as it is whole before the place of the fault.
 -- D-Bus Specification, "Message Format" and "Header Fields".
-use Rattle.std.specs.Prelude.{ℕ, ◌<◌, ◌≤◌, List, [], ◌∷◌, ◌++◌, codes, drop, take, map, min, slice_index, Option, None, Some}
+use Rattle.std.specs.Prelude.{◌≡◌, ℕ, ⊤, ◌+◌, length, ◌<◌, ◌≤◌, List, [], ◌∷◌, ◌++◌, codes, drop, take, map, min, slice_index, Option, None, Some}
 use Rattle.std.specs.List.{flat_map}
 use Rattle.dbus_value_model.specs.Bounds.{bounds_of}
 use Rattle.dbus_value_model.specs.Outcomes.{SpelledAll}
@@ -12,8 +12,10 @@ use Rattle.dbus_message_model.specs.Messages.{FieldTree, field_struct, field_typ
 use Rattle.dbus_show.specs.Escapes.{escaped}
 use Rattle.dbus_show.specs.ShownMessages.{field_text, front_text, start_text}
 use Rattle.dbus_show.specs.declared.escapes.Escapes.TheVariants.{Line}
+use Rattle.dbus_explain.specs.Counting.{counted}
 use Rattle.dbus_explain.specs.Places.{IsIn, fields_end, order_of}
 use Rattle.dbus_explain.specs.declared.head.FirstPart.{FirstPart}
+use Rattle.dbus_explain.specs.declared.explanation.LinesPart.{LinesPart}
 
 -- these header fields are spelled one after another behind the first sixteen bytes, and end at the
 -- place or before it; no other one behind them does
@@ -45,6 +47,11 @@ pub data IsHead (bytes : List ℕ) (at number : ℕ) : Option (List ℕ) → Typ
   fields : (fs : List FieldTree) → 16 ≤ at → AreWhole bytes (min at (fields_end bytes)) fs
       → IsHead bytes at number (Some (start_text (order_of bytes) (kind_of bytes) (serial_of bytes) (flags_of bytes) number ++ flat_map field_text fs))
 
+-- what its line has of it, if there is one
+abbrev pub head_shown : Option (List ℕ) → Option (List ℕ)
+head_shown None = None
+head_shown (Some head) = Some (escaped Line head)
+
 -- the line of the head, if there is one
 abbrev pub head_lines : Option (List ℕ) → List (List ℕ)
 head_lines None = []
@@ -54,3 +61,9 @@ head_lines (Some head) = (codes "  " ++ escaped Line head) ∷ []
 abbrev pub head_part : Option (List ℕ) → List ℕ
 head_part None = []
 head_part (Some head) = codes "\n  " ++ escaped Line head
+
+-- where the head is in lines of which so many bytes come before that
+abbrev pub IsHeadPart : ℕ → Option (List ℕ) → Option LinesPart → Type 0
+IsHeadPart before None None = ⊤
+IsHeadPart before (Some head) (Some place) = (place.start ≡ counted (before + 3)) × (place.end ≡ counted (before + 3 + length (escaped Line head)))
+IsHeadPart before head place = ⊥

@@ -5,6 +5,8 @@ pub mod Rules
 pub mod Looks
 pub mod Blanking
 pub mod BlankingLaws
+pub mod Counting
+pub mod CountingLaws
 pub mod Escaping
 pub mod EscapingLaws
 pub mod Heads

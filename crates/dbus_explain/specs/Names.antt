@@ -55,28 +55,28 @@ abbrev pub IsTextIf : (Is : (start stated : ℕ) → Type 0) → Option StatedTe
 IsTextIf Is None = (start stated : ℕ) → Is start stated → ⊥
 IsTextIf Is (Some text) = Is text.start text.stated
 
--- the name of a place in the header fields: of the field that it is in, with the text that it is in
+-- the name of a place in the header fields: of the field that it is in, and the text that it is in
 -- there; or that it is in none whose code is read
-pub data IsFieldName (bytes : List ℕ) (at : ℕ) : List ℕ → Type 0 where
+pub data IsFieldName (bytes : List ℕ) (at : ℕ) : List ℕ → Option StatedText → Type 0 where
   in_field : (p code : ℕ) (text : Option StatedText) → IsInField bytes at p code → IsTextIf (IsInFieldText bytes at p) text
-      → IsFieldName bytes at (codes "header field " ++ (code_name code ++ text_part text))
-  behind_fields : ((p code : ℕ) → IsInField bytes at p code → ⊥) → IsFieldName bytes at (codes "the header fields")
+      → IsFieldName bytes at (codes "header field " ++ code_name code) text
+  behind_fields : ((p code : ℕ) → IsInField bytes at p code → ⊥) → IsFieldName bytes at (codes "the header fields") None
 
 -- the name of a place in the body: the path to the value that it is in, by its number among the
 -- values of the body and the steps from there on, and the text that it is in; or behind the values
-pub data IsValueName (bytes : List ℕ) (at : ℕ) : List ℕ → Type 0 where
+pub data IsValueName (bytes : List ℕ) (at : ℕ) : List ℕ → Option StatedText → Type 0 where
   in_value : (ts : TypeTrees) (number : ℕ) (t : TypeTree) (p : ℕ) (steps : List PathStep) (u : TypeTree) (q : ℕ) (text : Option StatedText) → AreBodyTypes bytes at ts
       → IsAmong bytes at ts (body_begin bytes) number t p
-      → IsPath bytes at t p steps u q → IsTextIf (IsInText bytes at u q) text → IsValueName bytes at (codes "body" ++ (path_text (Number number ∷ steps) ++ text_part text))
-  behind_values : IsValueName bytes at (codes "the end of the body")
+      → IsPath bytes at t p steps u q → IsTextIf (IsInText bytes at u q) text → IsValueName bytes at (codes "body" ++ path_text (Number number ∷ steps)) text
+  behind_values : IsValueName bytes at (codes "the end of the body") None
 
--- the name of the place of a fault in a message
-pub data IsNameOf (bytes : List ℕ) (reason : Reason) (at : ℕ) : List ℕ → Type 0 where
-  first : at < 16 → IsNameOf bytes reason at (first_part at)
-  missing : 16 ≤ at → is_missing reason ≡ true → IsNameOf bytes reason at (codes "the end of the header fields")
-  field : (name : List ℕ) → 16 ≤ at → is_missing reason ≡ false → at < fields_end bytes → IsFieldName bytes at name
-      → IsNameOf bytes reason at name
+-- the name of the place of a fault in a message, and the text that it is in, if it is in one
+pub data IsNameOf (bytes : List ℕ) (reason : Reason) (at : ℕ) : List ℕ → Option StatedText → Type 0 where
+  first : at < 16 → IsNameOf bytes reason at (first_part at) None
+  missing : 16 ≤ at → is_missing reason ≡ true → IsNameOf bytes reason at (codes "the end of the header fields") None
+  field : (name : List ℕ) (text : Option StatedText) → 16 ≤ at → is_missing reason ≡ false → at < fields_end bytes → IsFieldName bytes at name text
+      → IsNameOf bytes reason at name text
   padding : 16 ≤ at → is_missing reason ≡ false → fields_end bytes ≤ at → at < body_begin bytes
-      → IsNameOf bytes reason at (codes "the padding after the header fields")
-  value : (name : List ℕ) → 16 ≤ at → is_missing reason ≡ false → body_begin bytes ≤ at → IsValueName bytes at name
-      → IsNameOf bytes reason at name
+      → IsNameOf bytes reason at (codes "the padding after the header fields") None
+  value : (name : List ℕ) (text : Option StatedText) → 16 ≤ at → is_missing reason ≡ false → body_begin bytes ≤ at → IsValueName bytes at name text
+      → IsNameOf bytes reason at name text

@@ -7,10 +7,14 @@ ghost use Rattle.dbus_message_model.specs.Messages.{FieldTree};
 ghost use Rattle.dbus_show.specs.Escapes.{escaped};
 ghost use Rattle.dbus_show.specs.declared.escapes.Escapes.TheVariants.{Line};
 ghost use Rattle.dbus_value_text.specs.Runs.{AreInRun, IsRun};
-ghost use Rattle.dbus_explain.specs.Heads.{AreWhole, IsHead, first_part_of, head_part};
+ghost use Rattle.dbus_explain.specs.Counting.{Counts};
+ghost use Rattle.dbus_explain.specs.Heads.{AreWhole, IsHead, IsHeadPart, first_part_of};
+ghost use Rattle.dbus_explain.specs.Heads.{head_part};
 ghost use Rattle.dbus_explain.specs.Places.{fields_end};
 
+use crate::counted::Counted;
 use crate::escaping::Escaping;
+use crate::explanation::LinesPart;
 use crate::places::{FIELD, FIELDS, end_of_fields, order_of};
 use crate::search::{Search, ValuePlace};
 use dbus_show::{Draft, Escapes, write_front, write_start};
@@ -36,17 +40,28 @@ pub(crate) struct FirstPart {
 }
 
 /// Appends the line of the head, behind the line before it, if the message type is whole before the
-/// place.
-pub(crate) fn write_head<D: Draft>(draft: &mut D, bytes: &[u8], number: u64, at: usize)
+/// place, and returns where the head is in all lines.
+pub(crate) fn write_head<D: Draft>(
+    lines: &mut Counted<'_, D>,
+    bytes: &[u8],
+    number: u64,
+    at: usize,
+) -> Option<LinesPart>
     requires { at ≤ length bytes.now }
     ensures { (head : Option (List ℕ)) × IsHead bytes.now at number head ×
-        D.gains draft.old (head_part head) draft.new }
+        Counts D.gains lines.old (head_part head) lines.new ×
+        IsHeadPart lines.old.len head result }
 {
     if at < TYPE_END {
-        return;
+        return None;
     }
-    draft.push_str("\n  ");
-    write_line(draft, bytes, number, at);
+    lines.push_str("\n  ");
+    let start = lines.len;
+    write_line(lines, bytes, number, at);
+    Some(LinesPart {
+        start,
+        end: lines.len,
+    })
 }
 
 // Appends what is whole of the head, in one line.

@@ -3,14 +3,17 @@
 //!
 //! For a fault of [`Refused`] bytes [`explain_message`] writes its place in the message, the head of
 //! the message as it is shown, the bytes at the place, and the rule that they break with its section
-//! of the D-Bus Specification. For a fault of
-//! a match rule [`explain_rule`] writes the rule, a mark below the place, and what may be there.
+//! of the D-Bus Specification; its [`Explanation`] says where in these lines each part is. For a
+//! fault of a match rule [`explain_rule`] writes the rule, a mark below the place, and what may be
+//! there.
 //! They write to a `Draft`, as does [`write_refusal_members`], which says the same of a message in
 //! JSON.
 #![tactic(auto)]
 
 mod blanks;
+mod counted;
 mod escaping;
+mod explanation;
 mod head;
 mod looks;
 mod members;
@@ -23,6 +26,8 @@ mod search;
 mod values;
 mod window;
 
+pub use explanation::{Explanation, LinesPart};
 pub use members::write_refusal_members;
 pub use message::{Refused, explain_message};
 pub use rule::explain_rule;
+pub use search::StatedText;

@@ -1,16 +1,17 @@
 //! What is said of a refused message as JSON. RFC 8259.
 #![tactic(auto)]
 
-ghost use Rattle.std.specs.Prelude.{◌≡◌, ◌≤◌, ℕ, List, length};
+ghost use Rattle.std.specs.Prelude.{◌≡◌, ◌≤◌, ◌++◌, ℕ, List, Option, length};
 ghost use Rattle.dbus_show.specs.Escapes.{escaped};
 ghost use Rattle.dbus_show.specs.declared.escapes.Escapes.TheVariants.{Json};
 ghost use Rattle.dbus_explain.specs.Members.{AreMembersOf, IsJsonHead};
-ghost use Rattle.dbus_explain.specs.Names.{IsNameOf};
+ghost use Rattle.dbus_explain.specs.Names.{IsNameOf, text_part};
+ghost use Rattle.dbus_explain.specs.declared.search.StatedText.{StatedText as StatedIn};
 
 use crate::escaping::Escaping;
 use crate::head::{TYPE_END, first_part, whole_fields};
 use crate::message::{Refused, place_in};
-use crate::places::{FIELDS, order_of, write_name};
+use crate::places::{FIELDS, order_of, write_name, write_text_part};
 use crate::reasons::rule_of;
 use dbus_json::{write_header, write_header_front, write_string};
 use dbus_show::{Draft, Escapes};
@@ -43,17 +44,27 @@ pub fn write_refusal_members<D: Draft>(draft: &mut D, refused: &Refused)
     write_whole_header(draft, refused.bytes, at);
 }
 
-// Appends the name of the place with the escapes of JSON.
+// Appends what is told of the place with the escapes of JSON.
 fn write_place<D: Draft>(draft: &mut D, bytes: &[u8], reason: Reason, at: usize)
     requires { at ≤ length bytes.now }
-    ensures { (name : List ℕ) × IsNameOf bytes.now reason at name ×
-        D.gains draft.old (escaped Json name) draft.new }
+    ensures { (name : List ℕ) × (text : Option StatedIn) × IsNameOf bytes.now reason at name text ×
+        D.gains draft.old (escaped Json (name ++ text_part text)) draft.new }
 {
-    let mut text = Escaping {
+    let mut line = Escaping {
         draft,
         escapes: Escapes::Json,
     };
-    write_name(&mut text, bytes, reason, at);
+    write_told(&mut line, bytes, reason, at);
+}
+
+// Appends what is told of the place.
+fn write_told<D: Draft>(draft: &mut D, bytes: &[u8], reason: Reason, at: usize)
+    requires { at ≤ length bytes.now }
+    ensures { (name : List ℕ) × (text : Option StatedIn) × IsNameOf bytes.now reason at name text ×
+        D.gains draft.old (name ++ text_part text) draft.new }
+{
+    let text = write_name(draft, bytes, reason, at);
+    write_text_part(draft, text);
 }
 
 // Appends what is whole of the header.

@@ -1,14 +1,19 @@
 //! Why a message is refused.
 #![tactic(auto)]
 
-ghost use Rattle.std.specs.Prelude.{◌≡◌, ◌≤◌, ℕ, List, length};
-ghost use Rattle.dbus_explain.specs.Explained.{IsExplained, place_in, place_line};
-ghost use Rattle.dbus_explain.specs.Names.{IsNameOf};
+ghost use Rattle.std.specs.Prelude.{◌≡◌, ◌≤◌, ◌+◌, ◌++◌, ℕ, List, length};
+ghost use Rattle.dbus_explain.specs.Counting.{Counts, counted};
+ghost use Rattle.dbus_explain.specs.Explained.{ArePartsOf, IsExplained, before_name, place_in};
+ghost use Rattle.dbus_explain.specs.Explained.{place_line};
+ghost use Rattle.dbus_explain.specs.Names.{IsNameOf, text_part};
 
+use crate::counted::Counted;
+use crate::explanation::{Explanation, LinesPart};
 use crate::head::write_head;
 use crate::looks::look_in;
-use crate::places::write_name;
+use crate::places::{write_name, write_text_part};
 use crate::reasons::rule_of;
+use crate::search::StatedText;
 use crate::window::write_window;
 use dbus_show::{Draft, write_integer};
 use dbus_value_model::Fault;
@@ -50,21 +55,43 @@ pub struct Refused<'a> {
 ///   a BOOLEAN is 0 or 1 (D-Bus Specification, "Marshaling (Wire Format)")
 /// ```
 ///
-/// Of a place past the bytes, their end is named and shown. Any bytes and any fault are safe, and
-/// only the draft allocates. Not proved: that a path goes as far as it can. D-Bus Specification,
+/// It returns where their parts are. Of a place past the bytes, their end is named and shown. Any
+/// bytes and any fault are safe, and only the draft allocates. Not proved: that a path goes as far as it can. D-Bus Specification,
 /// "Message Protocol".
-pub fn explain_message<D: Draft>(draft: &mut D, refused: &Refused)
-    ensures { (text : List ℕ) × IsExplained refused.now text × D.gains draft.old text draft.new }
+pub fn explain_message<D: Draft>(draft: &mut D, refused: &Refused) -> Explanation
+    ensures { (text : List ℕ) × (is : IsExplained refused.now text) ×
+        ArePartsOf is result × D.gains draft.old text draft.new }
+{
+    write_lines(&mut Counted { draft, len: 0 }, refused)
+}
+
+// Appends the lines, of which there is none yet.
+fn write_lines<D: Draft>(lines: &mut Counted<'_, D>, refused: &Refused) -> Explanation
+    requires { lines.old.len ≡ 0 }
+    ensures { (text : List ℕ) × (is : IsExplained refused.now text) ×
+        ArePartsOf is result × Counts D.gains lines.old text lines.new }
 {
     let at = place_in(refused.bytes, refused.fault);
-    write_place(draft, refused, at);
-    write_head(draft, refused.bytes, refused.number, at);
-    draft.push_str("\n ");
-    write_window(draft, refused.bytes, at);
-    draft.push_str("\n  ");
-    draft.push_str(rule_of(refused.fault.reason));
-    draft.push_str(look_in(refused));
-    draft.push_str("\n");
+    let (name, text) = write_place(lines, refused, at);
+    let head = write_head(lines, refused.bytes, refused.number, at);
+    lines.push_str("\n ");
+    write_window(lines, refused.bytes, at);
+    lines.push_str("\n  ");
+    let start = lines.len;
+    lines.push_str(rule_of(refused.fault.reason));
+    let rule = LinesPart {
+        start,
+        end: lines.len,
+    };
+    lines.push_str(look_in(refused));
+    lines.push_str("\n");
+    Explanation {
+        length: lines.len,
+        name,
+        head,
+        rule,
+        text,
+    }
 }
 
 /// The place of the fault, or the end of the bytes if it is past them.
@@ -74,18 +101,34 @@ pub(crate) fn place_in(bytes: &[u8], fault: Fault) -> usize
     fault.at.min(bytes.len() as u64) as usize
 }
 
-// Appends the line of the place.
-fn write_place<D: Draft>(draft: &mut D, refused: &Refused, at: usize)
+// Appends the line of the place, and returns where the name is in all lines, and the text that the
+// place is in.
+fn write_place<D: Draft>(
+    lines: &mut Counted<'_, D>,
+    refused: &Refused,
+    at: usize,
+) -> (LinesPart, Option<StatedText>)
     requires { at ≤ length refused.now.bytes.now }
-    ensures { (name : List ℕ) × IsNameOf refused.now.bytes.now refused.now.fault.reason at name ×
-        D.gains draft.old (place_line refused.now at name) draft.new }
+    ensures { (name : List ℕ) ×
+        IsNameOf refused.now.bytes.now refused.now.fault.reason at name result.1 ×
+        Counts D.gains lines.old (place_line refused.now at (name ++ text_part result.1)) lines.new ×
+        (result.0.start ≡ counted (lines.old.len + length (before_name refused.now at))) ×
+        (result.0.end ≡
+            counted (lines.old.len + length (before_name refused.now at) + length name)) }
 {
-    draft.push_str("  message ");
-    write_integer(draft, refused.number);
-    draft.push_str(" at ");
-    write_integer(draft, refused.offset);
-    draft.push_str(", byte ");
-    write_integer(draft, at);
-    draft.push_str(": ");
-    write_name(draft, refused.bytes, refused.fault.reason, at);
+    lines.push_str("  message ");
+    write_integer(lines, refused.number);
+    lines.push_str(" at ");
+    write_integer(lines, refused.offset);
+    lines.push_str(", byte ");
+    write_integer(lines, at);
+    lines.push_str(": ");
+    let start = lines.len;
+    let text = write_name(lines, refused.bytes, refused.fault.reason, at);
+    let name = LinesPart {
+        start,
+        end: lines.len,
+    };
+    write_text_part(lines, text);
+    (name, text)
 }

@@ -27,15 +27,21 @@ const SIGNATURE: u8 = 8;
 /// How many values are entered at most: 64 containers, and a dict entry in each.
 const MOST_ENTERED: usize = 128;
 
-/// Appends the name of the place at which the message is at fault.
-pub(crate) fn write_name<D: Draft>(draft: &mut D, bytes: &[u8], reason: Reason, at: usize)
+/// Appends the name of the place at which the message is at fault, and returns the text that it is
+/// in, if it is in one.
+pub(crate) fn write_name<D: Draft>(
+    draft: &mut D,
+    bytes: &[u8],
+    reason: Reason,
+    at: usize,
+) -> Option<StatedText>
     requires { at ≤ length bytes.now }
-    ensures { (name : List ℕ) × IsNameOf bytes.now reason at name ×
+    ensures { (name : List ℕ) × IsNameOf bytes.now reason at name result ×
         D.gains draft.old name draft.new }
 {
     if at < FIELDS {
         draft.push_str(first_part(at));
-        return;
+        return None;
     }
     let order = order_of(bytes);
     let fields_end = end_of_fields(bytes);
@@ -43,12 +49,14 @@ pub(crate) fn write_name<D: Draft>(draft: &mut D, bytes: &[u8], reason: Reason, 
     let search = Search { bytes, order, at };
     if let Reason::FieldMissing(_) = reason {
         draft.push_str("the end of the header fields");
+        None
     } else if at < fields_end {
-        write_field(draft, &search);
+        write_field(draft, &search)
     } else if at < body {
         draft.push_str("the padding after the header fields");
+        None
     } else {
-        write_value(draft, &search, body);
+        write_value(draft, &search, body)
     }
 }
 
@@ -86,19 +94,22 @@ fn first_part(at: usize) -> &'static str
     }
 }
 
-// Appends the name of the header field in which the fault is.
-fn write_field<D: Draft>(draft: &mut D, search: &Search)
+// Appends the name of the header field in which the fault is, and returns the text that it is in.
+fn write_field<D: Draft>(draft: &mut D, search: &Search) -> Option<StatedText>
     requires { 16 ≤ search.now.at }
-    ensures { (name : List ℕ) × IsFieldName search.now.bytes.now search.now.at name ×
+    ensures { (name : List ℕ) × IsFieldName search.now.bytes.now search.now.at name result ×
         D.gains draft.old name draft.new }
 {
     match field_at(search) {
         Some((field, code)) => {
             draft.push_str("header field ");
             write_code(draft, code);
-            write_text_part(draft, search.field_text(field));
+            search.field_text(field)
         }
-        None => draft.push_str("the header fields"),
+        None => {
+            draft.push_str("the header fields");
+            None
+        }
     }
 }
 
@@ -131,12 +142,13 @@ fn write_code<D: Draft>(draft: &mut D, code: u8)
     }
 }
 
-// Appends the path to the value of the body in which the fault is.
-fn write_value<D: Draft>(draft: &mut D, search: &Search, body: usize)
+// Appends the path to the value of the body in which the fault is, and returns the text that it is
+// in.
+fn write_value<D: Draft>(draft: &mut D, search: &Search, body: usize) -> Option<StatedText>
     requires begin { body ≡ body_begin search.now.bytes.now }
     requires within { body ≤ search.now.at }
     requires fields { 16 ≤ search.now.at }
-    ensures { (name : List ℕ) × IsValueName search.now.bytes.now search.now.at name ×
+    ensures { (name : List ℕ) × IsValueName search.now.bytes.now search.now.at name result ×
         D.gains draft.old name draft.new }
 {
     match body_value(search, body) {
@@ -144,9 +156,12 @@ fn write_value<D: Draft>(draft: &mut D, search: &Search, body: usize)
             draft.push_str("body");
             write_step(draft, PathStep::Number(number));
             let last = write_steps(draft, search, value);
-            write_text_part(draft, search.text(last));
+            search.text(last)
         }
-        None => draft.push_str("the end of the body"),
+        None => {
+            draft.push_str("the end of the body");
+            None
+        }
     }
 }
 
@@ -185,9 +200,9 @@ fn write_steps<'a, D: Draft>(
     spot
 }
 
-// Appends where the text begins in which the fault is, and the length that is stated of it, if
-// there is one.
-fn write_text_part<D: Draft>(draft: &mut D, text: Option<StatedText>)
+/// Appends where the text begins in which the fault is, and the length that is stated of it, if
+/// there is one.
+pub(crate) fn write_text_part<D: Draft>(draft: &mut D, text: Option<StatedText>)
     ensures { D.gains draft.old (text_part text) draft.new }
 {
     if let Some(text) = text {

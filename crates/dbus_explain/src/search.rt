@@ -42,11 +42,13 @@ pub(crate) struct ValuePlace<'a> {
 /// The most bytes of a key that is shown.
 const MOST_OF_A_KEY: u32 = 64;
 
-/// Where a text begins, and the length that is stated before it.
+/// A text of a message, which may not be whole. D-Bus Specification, "Marshaling (Wire Format)".
 #[derive(Clone, Copy)]
-pub(crate) struct StatedText {
-    pub(crate) start: usize,
-    pub(crate) stated: u32,
+pub struct StatedText {
+    /// Where it begins in the message, in bytes, behind its length.
+    pub start: usize,
+    /// The length in bytes that is stated before it, without the 0 that ends it.
+    pub stated: u32,
 }
 
 impl<'a> Search<'a> {

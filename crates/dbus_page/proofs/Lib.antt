@@ -1,4 +1,3 @@
-mod RoomSteps
 mod Ending
 mod PartSteps
 mod FileSteps

@@ -1,6 +1,4 @@
 pub mod Written
-pub mod Rooms
-pub mod RoomLaws
 pub mod Places
 pub mod Beside
 pub mod Events

@@ -18,7 +18,8 @@ ghost use Rattle.dbus_page.specs.Places.{IsMessage};
 ghost use Rattle.dbus_page.specs.Written.{IsNoText, IsWritten};
 
 use crate::answers::NO_TEXT;
-use crate::room::Room;
+use crate::ending::end;
+use dbus_room::Room;
 use dbus_calls::{Event, OwnerChange, event_of, owner_change};
 use dbus_names::{Holder, NameFilter, WellKnownNames, asked_by, holder_told};
 use dbus_show::Draft;
@@ -336,5 +337,5 @@ pub extern "C" fn dbus_page_event(
     *event = page_event(&told);
     let mut draft = Room::new(room);
     write_texts(&mut draft, &told);
-    draft.end(count)
+    end(&draft, count)
 }

@@ -13,7 +13,8 @@ ghost use Rattle.dbus_page.specs.Places.{IsRefusedAt};
 ghost use Rattle.dbus_page.specs.Written.{IsWritten, IsNoText};
 
 use crate::answers::NO_TEXT;
-use crate::room::Room;
+use crate::ending::end;
+use dbus_room::Room;
 use dbus_check::fault_at_end;
 use dbus_explain::{Refused, explain_message};
 use dbus_validate::validate;
@@ -56,5 +57,5 @@ pub extern "C" fn dbus_page_explain(
     };
     let mut draft = Room::new(room);
     explain_message(&mut draft, &refused);
-    draft.end(count)
+    end(&draft, count)
 }

@@ -12,7 +12,8 @@ ghost use Rattle.dbus_page.specs.Places.{line_place};
 ghost use Rattle.dbus_page.specs.Written.{IsWritten, IsNoText};
 
 use crate::answers::NO_TEXT;
-use crate::room::Room;
+use crate::ending::end;
+use dbus_room::Room;
 use crate::time::time_if;
 use dbus_json::{LinePlace, write_json};
 use dbus_validate::validate;
@@ -69,7 +70,7 @@ pub extern "C" fn dbus_page_json(
         Some(validated) => {
             let mut draft = Room::new(room);
             write_json(&mut draft, bytes, limits, &validated, line_place(place));
-            draft.end(count)
+            end(&draft, count)
         }
         None => {
             *count = 0;

@@ -16,7 +16,8 @@ ghost use Rattle.dbus_page.specs.Written.{IsNoText, IsWritten};
 
 use crate::answers::NO_TEXT;
 use crate::json_line::{PagePlace, line_place};
-use crate::room::Room;
+use crate::ending::end;
+use dbus_room::Room;
 use crate::time::time_if;
 use dbus_call_lines::time_between;
 use dbus_list::{AnsweredCall, Beside, write_line};
@@ -154,5 +155,5 @@ pub extern "C" fn dbus_page_line(
     };
     let mut draft = Room::new(room);
     write_line(&mut draft, beside.width, &whole, line_place(place), told);
-    draft.end(count)
+    end(&draft, count)
 }

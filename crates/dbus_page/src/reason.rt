@@ -12,7 +12,8 @@ ghost use Rattle.dbus_value_model.specs.declared.order.Order.{Order};
 ghost use Rattle.dbus_page.specs.Written.{IsNoText, IsWritten};
 
 use crate::answers::NO_TEXT;
-use crate::room::Room;
+use crate::ending::end;
+use dbus_room::Room;
 use dbus_check::fault_at_end;
 use dbus_show::{Draft, write_integer};
 use dbus_validate::validate;
@@ -42,7 +43,7 @@ pub extern "C" fn dbus_page_reason(bytes: &[u8], room: &mut [u8], count: &mut u6
     let fault = fault_at_end(bytes, limits);
     let mut draft = Room::new(room);
     write_reason(&mut draft, fault.reason);
-    draft.end(count)
+    end(&draft, count)
 }
 
 // Appends the name of a reason, as its `Display` does.

@@ -1,8 +1,8 @@
-use Rattle.std.proofs.Common.{refl, subst}
+use Rattle.std.proofs.Common.{ℕ, arith, refl, subst, sym}
 use Rattle.dbus_value_model.specs.declared.limits.Limits.{Limits}
 use Rattle.dbus_header.specs.MessageOutcomes.{IsWhole}
 use Rattle.dbus_validate.specs.Validating.{IsValidated}
-use Rattle.dbus_c.specs.Checking.{IsChecked}
+use Rattle.dbus_c.specs.Checking.{IsChecked, answer_of as check_answer}
 use Rattle.dbus_c.specs.GivenLimits.{limits_of}
 use Rattle.dbus_c.proofs.Outcomes.{none_told}
 use Rattle.dbus_c.proofs.Telling.{some_there, done_checked}
@@ -27,12 +27,16 @@ returns-in-Some-clause-checked c =
     done_checked limits b validated.length c.whole_told.result (validated.order, is.message, whole) c.whole_told.ensures
 
 pub returns-in-None-clause-checked : goal.returns-in-None-clause-checked
-returns-in-None-clause-checked c = subst (λ (l : Limits). IsChecked l c.args.bytes.now c.check_all.result c.check_all.new.out) c.given_limits-within.ensures c.check_all.ensures
+returns-in-None-clause-checked c = 
+    subst (λ (n : ℕ). IsChecked (limits_of c.args.limits.now) c.args.bytes.now n c.check_all.new.out) (sym c.answer_of.ensures)
+    (subst (λ (l : Limits). IsChecked l c.args.bytes.now (check_answer c.check_all.result) c.check_all.new.out) c.given_limits-within.ensures c.check_all.ensures.checked)
 
 pub returns-in-None-clause-none : goal.returns-in-None-clause-none
 returns-in-None-clause-none c =
-    (none_told c.given_limits-within.result c.args.bytes.now (c.in-None.ensures.none refl) c.check_all.result c.check_all.new.out c.check_all.ensures.tells).0
+    let told = none_told c.given_limits-within.result c.args.bytes.now (c.in-None.ensures.none refl) _ c.check_all.new.out c.check_all.ensures.checked.tells in
+    omega (arith, told.0, c.answer_of.ensures)
 
 pub returns-in-None-clause-most : goal.returns-in-None-clause-most
 returns-in-None-clause-most c =
-    (none_told c.given_limits-within.result c.args.bytes.now (c.in-None.ensures.none refl) c.check_all.result c.check_all.new.out c.check_all.ensures.tells).1
+    let told = none_told c.given_limits-within.result c.args.bytes.now (c.in-None.ensures.none refl) _ c.check_all.new.out c.check_all.ensures.checked.tells in
+    omega (arith, told.1, c.answer_of.ensures)

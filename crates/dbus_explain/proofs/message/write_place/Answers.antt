@@ -1,11 +1,18 @@
+use Rattle.std.proofs.Common.{arith}
 use Rattle.dbus_show.proofs.FieldTexts.{then}
+use Rattle.dbus_explain.specs.Counting.{Counts}
+use Rattle.dbus_explain.specs.CountingLaws as laws
 use Rattle.dbus_explain.proofs.message.write_place.Goals as goal
 
 pub returns : goal.returns
 returns g c =
-    let gains = g.D.Draft.gains in
-    let joins = g.met.D.Draft.joins in (
-      c.write_name.ensures.0,
-      c.write_name.ensures.1,
-      then gains joins c.push_str.ensures (then gains joins c.write_integer.ensures (then gains joins c.push_str-2.ensures (then gains joins c.write_integer-2.ensures (then gains joins c.push_str-3.ensures (then gains joins c.write_integer-3.ensures (then gains joins c.push_str-4.ensures c.write_name.ensures.2)))))),
+    let gains = Counts g.D.Draft.gains in
+    let joins = laws.joins g.D.Draft.gains g.met.D.Draft.joins in
+    let front = then gains joins c.push_str.ensures (then gains joins c.write_integer.ensures (then gains joins c.push_str-2.ensures (then gains joins c.write_integer-2.ensures (then gains joins c.push_str-3.ensures (then gains joins c.write_integer-3.ensures c.push_str-4.ensures))))) in
+    let named = then gains joins front c.write_name-text.ensures.2 in (
+      c.write_name-text.ensures.0,
+      c.write_name-text.ensures.1,
+      then gains joins c.push_str.ensures (then gains joins c.write_integer.ensures (then gains joins c.push_str-2.ensures (then gains joins c.write_integer-2.ensures (then gains joins c.push_str-3.ensures (then gains joins c.write_integer-3.ensures (then gains joins c.push_str-4.ensures (then gains joins c.write_name-text.ensures.2 c.write_text_part.ensures))))))),
+      front.long,
+      named.long,
     )

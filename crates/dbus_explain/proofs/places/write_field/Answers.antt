@@ -1,6 +1,6 @@
 use Rattle.std.proofs.Common.{◌++◌, codes}
 use Rattle.dbus_show.proofs.FieldTexts.{then}
-use Rattle.dbus_explain.specs.Names.{behind_fields, code_name, in_field, text_part}
+use Rattle.dbus_explain.specs.Names.{behind_fields, code_name, in_field}
 use Rattle.dbus_explain.proofs.Searching.{text_if}
 use Rattle.dbus_explain.proofs.places.write_field.Goals as goal
 
@@ -9,9 +9,9 @@ returns-in-Some g c =
     let text = c.field_text.result in
     let gains = g.D.Draft.gains in
     let joins = g.met.D.Draft.joins in (
-      codes "header field " ++ (code_name c.in-Some.code ++ text_part text),
+      codes "header field " ++ code_name c.in-Some.code,
       in_field c.in-Some.field c.in-Some.code text c.in-Some.ensures.some (text_if _ text c.field_text.ensures.some c.field_text.ensures.none),
-      then gains joins c.push_str.ensures (then gains joins c.write_code.ensures c.write_text_part.ensures),
+      then gains joins c.push_str.ensures c.write_code.ensures,
     )
 
 pub returns-in-None : goal.returns-in-None

@@ -17,7 +17,7 @@ returns-then-at-fields_end g c =
     let fields = c.end_of_fields-fields_end.ensures.fields in
     let before = subst (λ (n : ℕ). c.args.at < n) fields c.if-at-fields_end.true in (
       c.write_field.ensures.0,
-      field c.write_field.ensures.0 c.if-at-lt-FIELDS.false (other_reason c.args.reason c.in_default.not-FieldMissing) before c.write_field.ensures.1,
+      field c.write_field.ensures.0 c.write_field.result c.if-at-lt-FIELDS.false (other_reason c.args.reason c.in_default.not-FieldMissing) before c.write_field.ensures.1,
       c.write_field.ensures.2,
     )
 
@@ -39,6 +39,6 @@ returns-else-at-body g c =
     let body : c.end_of_fields-fields_end.result + c.from.result ≡ body_begin bytes = ap (λ (n : ℕ). c.end_of_fields-fields_end.result + n) gap ∙ ap (λ (n : ℕ). n + gap_to 8 n) fields in
     let behind = subst (λ (n : ℕ). n ≤ c.args.at) body c.if-at-body.false in (
       c.write_value.ensures.0,
-      value c.write_value.ensures.0 c.if-at-lt-FIELDS.false (other_reason c.args.reason c.in_default.not-FieldMissing) behind c.write_value.ensures.1,
+      value c.write_value.ensures.0 c.write_value.result c.if-at-lt-FIELDS.false (other_reason c.args.reason c.in_default.not-FieldMissing) behind c.write_value.ensures.1,
       c.write_value.ensures.2,
     )

@@ -7,7 +7,7 @@ use Rattle.dbus_page.proofs.explaining.dbus_page_explain.Goals as goal
 pub returns-clause-written : goal.returns-clause-written
 returns-clause-written c = λ none.
     let gains = c.explain_message.ensures in
-    let same = gains.2.same in
+    let same = gains.3.same in
     let back : c.explain_message.new.draft.bytes.now ≡ c.room-1.given.0 = search rules in (
       _,
       record {
@@ -16,5 +16,5 @@ returns-clause-written c = λ none.
         number_is = refl;
         offset_is = refl;
       },
-      (gains.0, gains.1, ended c.args.room.now gains.0 c.new-draft.result c.explain_message.new.draft c.new-draft.ensures.begins gains.2 _ c.end.new.count c.end.result back c.end.ensures.counted c.end.ensures.answers),
+      (gains.0, gains.1, ended c.args.room.now gains.0 c.new-draft.result c.explain_message.new.draft c.new-draft.ensures.begins gains.3 _ c.end.new.count c.end.result back c.end.ensures.counted c.end.ensures.answers),
     )

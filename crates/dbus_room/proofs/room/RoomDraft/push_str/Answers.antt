@@ -1,6 +1,6 @@
 use Rattle.std.proofs.Common.{rules, length, ◌≡◌, ◌-◌, refl, arith, take, min}
-use Rattle.dbus_page.proofs.RoomSteps.{size, written, behind}
-use Rattle.dbus_page.proofs.room.RoomDraft.push_str.Goals as goal
+use Rattle.dbus_room.proofs.RoomSteps.{size, written, behind}
+use Rattle.dbus_room.proofs.room.RoomDraft.push_str.Goals as goal
 
 pub returns-then-count-bytes : goal.returns-then-count-bytes
 returns-then-count-bytes c =

@@ -1,6 +1,6 @@
 -- What the caller's bytes have of a text that is written to their start.
 use Rattle.std.specs.Prelude.{◌≡◌, ◌↔◌, ℕ, ◌+◌, ◌≤◌, List, ◌++◌, length, take, drop, min, false}
-use Rattle.dbus_page.specs.declared.room.Room.{Room}
+use Rattle.dbus_room.specs.declared.room.Room.{Room}
 
 -- what they have so far
 abbrev pub text_so_far : Room → List ℕ

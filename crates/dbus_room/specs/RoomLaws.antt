@@ -1,8 +1,8 @@
 -- The proofs of the laws that a `Draft` owes, of a room.
 use Rattle.std.proofs.Common.{◌≡◌, ℕ, zero, suc, ◌+◌, ◌-◌, ◌≤◌, List, [], ◌∷◌, ◌++◌, length, take, drop, refl, sym, ap, ◌∙◌, arith, append_assoc, append-nil, length-append}
 use Rattle.std.proofs.lemmas.List.{drop-drop, take_all, length-take}
-use Rattle.dbus_page.specs.declared.room.Room.{Room}
-use Rattle.dbus_page.specs.Rooms.{Gains, text_so_far}
+use Rattle.dbus_room.specs.declared.room.Room.{Room}
+use Rattle.dbus_room.specs.Rooms.{Gains, text_so_far}
 
 -- the front of a list that begins with a front of another
 take_front : (n : ℕ) (xs ys : List ℕ) → take n (take n xs ++ ys) ≡ take n (xs ++ ys)

@@ -1,30 +1,41 @@
-//! Texts that are written into the caller's room.
+//! A text that is written into the caller's room.
 #![tactic(auto)]
 
 ghost use Rattle.std.specs.Prelude.{◌≤◌, length};
 
-use crate::answers::{NO_ROOM, WHOLE};
 use dbus_show::{Draft, copy_bytes};
 
 /// A text that is written to the start of the caller's bytes, as much of it as they have room for.
+/// The bytes behind it stay as they are.
+///
+/// ```
+/// use dbus_room::Room;
+/// use dbus_show::Draft;
+///
+/// let mut bytes = *b"........";
+/// let mut room = Room::new(&mut bytes);
+/// room.push_str("so");
+/// room.push_str("-called");
+/// assert_eq!((room.len, room.is_cut), (8, true));
+/// assert_eq!(&bytes, b"so-calle");
+/// ```
 #[derive(Drop)]
-pub(crate) struct Room<'a> {
+pub struct Room<'a> {
     /// The caller's bytes.
-    pub(crate) bytes: &'a mut [u8],
+    pub bytes: &'a mut [u8],
     /// The number of them that the text has so far.
-    pub(crate) len: usize,
+    pub len: usize,
     /// Whether the text did not fit.
-    pub(crate) is_cut: bool,
+    pub is_cut: bool,
     ghost fits: { len ≤ length bytes.now },
 }
 
 impl<'a> Room<'a> {
-    ghost use Rattle.std.specs.Prelude.{◌≡◌, if◌then◌else◌};
-    ghost use Rattle.dbus_page.specs.Rooms.{Begins};
-    ghost use Rattle.dbus_page.specs.declared.answers.TheConstants.{NO_ROOM, WHOLE};
+    ghost use Rattle.std.specs.Prelude.{◌≡◌};
+    ghost use Rattle.dbus_room.specs.Rooms.{Begins};
 
     /// Begins a text in these bytes.
-    pub(crate) fn new(bytes: &'a mut [u8]) -> Self
+    pub fn new(bytes: &'a mut [u8]) -> Self
         ensures same { result.bytes.ghost_name ≡ bytes.entry.ghost_name }
         ensures begins { Begins bytes.old result }
     {
@@ -34,21 +45,11 @@ impl<'a> Room<'a> {
             is_cut: false,
         }
     }
-
-    /// Ends the text: writes the number of its bytes that are there, and returns whether these are
-    /// all.
-    pub(crate) fn end(&self, count: &mut u64) -> u32
-        ensures counted { count.new ≡ self.now.len }
-        ensures answers { result ≡ (if self.now.is_cut then NO_ROOM else WHOLE) }
-    {
-        *count = self.len as u64;
-        if self.is_cut { NO_ROOM } else { WHOLE }
-    }
 }
 
 impl Draft for Room<'_> {
-    ghost use Rattle.dbus_page.specs.Rooms.{Gains};
-    ghost use Rattle.dbus_page.specs.RoomLaws as laws;
+    ghost use Rattle.dbus_room.specs.Rooms.{Gains};
+    ghost use Rattle.dbus_room.specs.RoomLaws as laws;
 
     ghost gains = { Gains };
 

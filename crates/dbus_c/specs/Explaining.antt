@@ -1,0 +1,59 @@
+-- Why bytes are refused, as it is explained for a reader.
+-- D-Bus Specification, "Message Protocol".
+use Rattle.std.specs.Prelude.{◌≡◌, ℕ, ◌+◌, ◌-◌, ◌<◌, ◌≤◌, List, [], ◌∷◌, ◌++◌, length, take, drop, nat_eq, if◌then◌else◌, Option, None, Some}
+use Rattle.dbus_value_model.specs.declared.limits.Limits.{Limits}
+use Rattle.dbus_header.specs.MessageOutcomes.{IsRefused}
+use Rattle.dbus_explain.specs.Explained.{ArePartsOf, IsExplained}
+use Rattle.dbus_explain.specs.declared.explanation.Explanation.{Explanation}
+use Rattle.dbus_explain.specs.declared.explanation.LinesPart.{LinesPart}
+use Rattle.dbus_explain.specs.declared.message.Refused.{Refused}
+use Rattle.dbus_explain.specs.declared.search.StatedText.{StatedText}
+use Rattle.dbus_c.specs.Outcomes.{with_room}
+use Rattle.dbus_c.specs.Parting.{no_place}
+use Rattle.dbus_c.specs.declared.answers.TheConstants.{WHOLE, REFUSED, NO_ROOM, NO_VALUE}
+use Rattle.dbus_c.specs.declared.explaining.Explained.{Explained}
+use Rattle.dbus_c.specs.declared.explaining.InputPlace.{InputPlace}
+use Rattle.dbus_c.specs.declared.parts.TextPlace.{TextPlace}
+
+-- What a check of the bytes answers, by the answer of a call that explains their fault: they have
+-- one if it is explained, and are a message if there is nothing to explain.
+abbrev pub checked_answer : ℕ → ℕ
+checked_answer answer = if nat_eq (with_room answer) WHOLE then REFUSED else if nat_eq answer NO_VALUE then WHOLE else answer
+
+-- the bytes are refused under the limits, with this fault, and stand at this place of their input
+pub record IsRefusedAt (limits : Limits) (bytes : List ℕ) (place : InputPlace) (refused : Refused) : Type 0 where
+  pub bytes_are : refused.bytes.now ≡ bytes
+  pub fault : IsRefused limits bytes refused.fault
+  pub number_is : refused.number ≡ place.number
+  pub offset_is : refused.offset ≡ place.offset
+
+-- where a part is in the text, if it is there
+abbrev pub part_told : Option LinesPart → TextPlace
+part_told None = no_place
+part_told (Some part) = record { offset = part.start; length = part.end - part.start; is_there = 1 }
+
+-- where a text of the message is, if it is there
+abbrev pub text_told : Option StatedText → TextPlace
+text_told None = no_place
+text_told (Some text) = record { offset = text.start; length = text.stated; is_there = 1 }
+
+abbrev pub explained_told : Explanation → Explained
+explained_told parts = record {
+  length = parts.length;
+  name = part_told (Some parts.name);
+  head = part_told parts.head;
+  rule = part_told (Some parts.rule);
+  text = text_told parts.text;
+}
+
+-- The first bytes are a text that explains the fault, and a 0, or as much of this as there is room
+-- for, and the others stay. It is told where its parts are, and whether there is room for all.
+pub record IsExplainedIn (refused : Refused) (old new : List ℕ) (explained : Explained) (answer : ℕ) : Type 0 where
+  pub text : List ℕ
+  pub is : IsExplained refused text
+  pub parts : Explanation
+  pub are_parts : ArePartsOf is parts
+  pub told : explained ≡ explained_told parts
+  pub written : new ≡ take (length old) (text ++ 0 ∷ []) ++ drop (length text + 1) old
+  pub whole : length text < length old → answer ≡ WHOLE
+  pub cut : length old ≤ length text → answer ≡ NO_ROOM

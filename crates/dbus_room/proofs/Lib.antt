@@ -1,0 +1,2 @@
+mod RoomSteps
+pub mod Ending

@@ -1,0 +1,9 @@
+//! A text that is written into the caller's bytes, as much of it as they have room for.
+//!
+//! [`Room`] is a `Draft` that allocates nothing. Once the text is written, it says how many of the
+//! bytes the text has, and whether it is all there.
+#![tactic(auto)]
+
+mod room;
+
+pub use room::Room;

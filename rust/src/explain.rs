@@ -1,0 +1,121 @@
+//! Why bytes are no message, for a reader.
+
+use std::fmt;
+use std::ops::Range;
+
+use crate::{sys, Fault, Limits};
+
+/// The room of the first call, which most explanations fit in.
+const ROOM: usize = 1024;
+
+/// Which message of its input some bytes begin with, as an explanation names it. By default it is
+/// the first one.
+#[derive(Clone, Copy, Debug, PartialEq, Eq, Hash)]
+pub struct InputPlace {
+    /// Its number, from 1.
+    pub number: u64,
+    /// Where it begins, in bytes from the first.
+    pub offset: u64,
+}
+
+impl Default for InputPlace {
+    fn default() -> Self {
+        Self { number: 1, offset: 0 }
+    }
+}
+
+/// A text of a message that is refused, which may not be whole.
+#[derive(Clone, Copy, Debug, PartialEq, Eq, Hash)]
+pub struct StatedText {
+    /// Where it begins in the message, in bytes, behind its length.
+    pub at: usize,
+    /// The length in bytes that is stated before it, which may reach past the bytes.
+    pub length: usize,
+}
+
+/// Why bytes are no message, for a reader: the lines that `dbus-wire check --explain` writes, which
+/// are also its text, and their parts. [`explain`] makes it.
+#[derive(Clone, Debug, PartialEq, Eq)]
+pub struct Explanation {
+    lines: String,
+    name: Range<usize>,
+    head: Option<Range<usize>>,
+    rule: Range<usize>,
+    /// Where and why the bytes are refused.
+    pub fault: Fault,
+    /// The text of the message that the fault is in, behind its length, if it is in one.
+    pub text: Option<StatedText>,
+}
+
+impl Explanation {
+    // What the library wrote.
+    fn new(lines: String, explained: &sys::dbus_wire_explained, told: &sys::dbus_wire_checked) -> Self {
+        let part = |place: &sys::dbus_wire_text| (place.is_there != 0).then_some((place.offset as usize, place.length as usize));
+        let range = |place| part(place).map(|(at, length)| at..at + length);
+        Self {
+            lines,
+            name: range(&explained.name).unwrap_or_default(),
+            head: range(&explained.head),
+            rule: range(&explained.rule).unwrap_or_default(),
+            fault: Fault::new(told.offset, told.reason, told.field),
+            text: part(&explained.text).map(|(at, length)| StatedText { at, length }),
+        }
+    }
+
+    /// All lines, each ended by a line feed.
+    pub fn lines(&self) -> &str {
+        &self.lines
+    }
+
+    /// The name of the place of the fault: a part of the header, or the path to a value, such as
+    /// `body[1]["Title"].value`.
+    pub fn name(&self) -> &str {
+        &self.lines[self.name.clone()]
+    }
+
+    /// The head of the message as far as it is whole before the fault, if its type is.
+    pub fn head(&self) -> Option<&str> {
+        self.head.clone().map(|part| &self.lines[part])
+    }
+
+    /// What has to be at the place, with its section of the D-Bus Specification.
+    pub fn rule(&self) -> &str {
+        &self.lines[self.rule.clone()]
+    }
+}
+
+impl fmt::Display for Explanation {
+    fn fmt(&self, f: &mut fmt::Formatter<'_>) -> fmt::Result {
+        f.write_str(&self.lines)
+    }
+}
+
+/// Why the bytes begin with no message within the limits, for a reader. `None` if they begin with
+/// one, or show no fault yet.
+///
+/// ```
+/// use dbus_wire::{explain, InputPlace, Limits};
+///
+/// let explanation = explain(b"l\x01\0\x02", &Limits::default(), InputPlace::default()).unwrap();
+/// assert_eq!(explanation.name(), "the protocol version");
+/// assert_eq!(explanation.head(), Some("#1 l method_call"));
+/// assert_eq!(explanation.rule(), "the protocol version is 1 (D-Bus Specification, \"Message Format\")");
+/// print!("{explanation}");
+/// ```
+pub fn explain(bytes: &[u8], limits: &Limits, place: InputPlace) -> Option<Explanation> {
+    let (mut explained, mut told, limits) = (Default::default(), Default::default(), limits.raw());
+    let place = sys::dbus_wire_input_place { number: place.number, offset: place.offset };
+    let mut lines = vec![0; ROOM];
+    loop {
+        let (out, room) = (lines.as_mut_ptr(), lines.len());
+        // SAFETY: slices and references, as `sys` says.
+        match unsafe { sys::dbus_wire_explain(bytes.as_ptr(), bytes.len(), &limits, &place, out, room, &mut explained, &mut told) } {
+            sys::DBUS_WIRE_OK => break,
+            sys::DBUS_WIRE_NO_ROOM => lines.resize(explained.length as usize + 1, 0),
+            _ => return None,
+        }
+    }
+    lines.truncate(explained.length as usize);
+    // The library says that the lines are UTF-8.
+    Some(Explanation::new(String::from_utf8_lossy(&lines).into_owned(), &explained, &told))
+}
