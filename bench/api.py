@@ -17,7 +17,7 @@ PAGE = ROOT / "docs" / "API.md"
 
 # What a program names in its line of crates.txt. A call is listed under the first of them that has it.
 CALLERS = """dbus_c dbus_page dbus_value dbus_message dbus_compose dbus_body dbus_validate dbus_resync dbus_swap dbus_stream dbus_device dbus_lines dbus_capture dbus_pcap dbus_match dbus_rule_set dbus_calls dbus_names dbus_auth dbus_handshake_input
-    dbus_auth_lines dbus_count dbus_call_lines dbus_list dbus_show dbus_show_handshake dbus_show_view dbus_json dbus_explain dbus_types dbus_texts dbus_json_lines dbus_tool cli_run cli_encode
+    dbus_auth_lines dbus_count dbus_call_lines dbus_list dbus_show dbus_room dbus_show_handshake dbus_show_view dbus_json dbus_explain dbus_types dbus_texts dbus_json_lines dbus_tool cli_run cli_encode
     cli_options cli_report""".split()
 
 # What tests are made of.
@@ -35,7 +35,7 @@ HEADINGS = {
     "Match rules": "dbus_rule/parse.rt dbus_rule/to_text.rt dbus_match dbus_rule dbus_rule_set",
     "Calls and replies": "dbus_calls dbus_names dbus_call_lines",
     "The handshake": "dbus_auth/server_end.rt dbus_auth/client_end.rt dbus_auth dbus_handshake_input dbus_auth_lines",
-    "Print": "dbus_show_view dbus_json dbus_json_lines dbus_list dbus_show_handshake dbus_explain dbus_show",
+    "Print": "dbus_show_view dbus_json dbus_json_lines dbus_list dbus_show_handshake dbus_explain dbus_show dbus_room",
     "Texts and types": "dbus_types dbus_texts",
     "Limits": "dbus_value_model/limits.rt dbus_value_model/fd_rule.rt",
     "From C": "dbus_c",

@@ -7,3 +7,4 @@ pub mod EndsMade
 mod Built
 mod Rebuilt
 pub mod WatchTelling
+mod FaultsTold

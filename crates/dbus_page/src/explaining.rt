@@ -13,7 +13,7 @@ ghost use Rattle.dbus_page.specs.Places.{IsRefusedAt};
 ghost use Rattle.dbus_page.specs.Written.{IsWritten, IsNoText};
 
 use crate::answers::NO_TEXT;
-use crate::ending::end;
+use crate::room::end;
 use dbus_room::Room;
 use dbus_check::fault_at_end;
 use dbus_explain::{Refused, explain_message};

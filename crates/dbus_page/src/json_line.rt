@@ -12,7 +12,7 @@ ghost use Rattle.dbus_page.specs.Places.{line_place};
 ghost use Rattle.dbus_page.specs.Written.{IsWritten, IsNoText};
 
 use crate::answers::NO_TEXT;
-use crate::ending::end;
+use crate::room::end;
 use dbus_room::Room;
 use crate::time::time_if;
 use dbus_json::{LinePlace, write_json};

@@ -10,14 +10,13 @@
 
 mod answers;
 mod event;
-mod ending;
 mod explaining;
 mod json_line;
 mod line;
 mod memory;
 mod next;
 mod reason;
-
+mod room;
 mod time;
 mod unpacking;
 

@@ -16,7 +16,7 @@ ghost use Rattle.dbus_page.specs.Written.{IsNoText, IsWritten};
 
 use crate::answers::NO_TEXT;
 use crate::json_line::{PagePlace, line_place};
-use crate::ending::end;
+use crate::room::end;
 use dbus_room::Room;
 use crate::time::time_if;
 use dbus_call_lines::time_between;

@@ -12,7 +12,7 @@ ghost use Rattle.dbus_value_model.specs.declared.order.Order.{Order};
 ghost use Rattle.dbus_page.specs.Written.{IsNoText, IsWritten};
 
 use crate::answers::NO_TEXT;
-use crate::ending::end;
+use crate::room::end;
 use dbus_room::Room;
 use dbus_check::fault_at_end;
 use dbus_show::{Draft, write_integer};

@@ -5,6 +5,7 @@ use Rattle.dbus_explain.specs.CountingLaws as laws
 use Rattle.dbus_explain.specs.Explained.{place_in, window}
 use Rattle.dbus_explain.specs.Looks.{look_text}
 use Rattle.dbus_explain.specs.Rules.{rule_text}
+use Rattle.dbus_explain.specs.declared.explanation.Explanation.{Explanation}
 use Rattle.dbus_show.specs.ShownMessages.{line_feeds}
 use Rattle.dbus_explain.proofs.PartPlaces.{Written, told, text_at}
 use Rattle.dbus_explain.proofs.message.write_lines.Goals as goal
@@ -25,7 +26,14 @@ returns g c =
     let through = then gains joins front ruled in
     let all = then gains joins c.write_place-text.ensures.2 (then gains joins c.write_head-head.ensures.2 (then gains joins c.push_str.ensures (then gains joins c.write_window.ensures (then gains joins c.push_str-2.ensures (then gains joins ruled (then gains joins looked c.push_str-5.ensures)))))) in
     let none = c.requires in
-    let facts : Written refused name stated head c.result at = record {
+    let parts : Explanation = record {
+      length = c.push_str-5.new.self.len;
+      name = c.write_place-text.result.0;
+      head = c.write_head-head.result;
+      rule = record { start = c.push_str-2.new.self.len; end = c.push_str-3.new.self.len };
+      text = stated;
+    } in
+    let facts : Written refused name stated head parts at = record {
       named = c.write_place-text.ensures.1;
       headed = c.write_head-head.ensures.1;
       one_line = subst (λ (s : List ℕ). line_feeds s ≡ 0) c.rule_of.ensures.text c.rule_of.ensures.one_line;
@@ -39,5 +47,5 @@ returns g c =
       rule_end = omega (arith, front.long, ruled.long, none);
       stated_is = refl;
     } in
-    let told = told refused name stated head c.result at c.place_in-at.ensures facts in
-    (text_at refused name stated head c.result at, told.0, told.1, all)
+    let told = told refused name stated head parts at c.place_in-at.ensures facts in
+    (text_at refused name stated head parts at, told.0, told.1, all)
