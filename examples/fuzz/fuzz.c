@@ -158,6 +158,24 @@ static void try_told(const uint8_t *bytes, size_t length, uint32_t answer, const
     expect(memcmp(&parts, &all_parts, sizeof parts) == 0 && memcmp(items, same, sizeof items) == 0, "as they write the same");
 }
 
+/* The lines of a fault end where they say, and their parts are among them. */
+static void try_explained(const uint8_t *bytes, size_t length, uint32_t answer, const struct dbus_wire_checked *told) {
+    static uint8_t lines[ROOM];
+    struct dbus_wire_explained explained = {0};
+    struct dbus_wire_checked by_lines;
+    uint32_t given = dbus_wire_explain(bytes, length, NULL, NULL, lines, ROOM, &explained, &by_lines);
+    expect(memcmp(&by_lines, told, sizeof *told) == 0, "an explanation tells the same");
+    if (answer == DBUS_WIRE_REFUSED) {
+        const struct dbus_wire_text *rule = &explained.rule, *name = &explained.name;
+        expect(given == (explained.length < ROOM ? DBUS_WIRE_OK : DBUS_WIRE_NO_ROOM), "a fault is explained");
+        expect(given == DBUS_WIRE_NO_ROOM || strlen((const char *)lines) == explained.length, "by lines that end in a 0");
+        expect(name->length > 0 && name->offset + name->length < rule->offset && rule->offset + rule->length < explained.length,
+               "which have a name and a rule");
+    } else {
+        expect(given == (answer == DBUS_WIRE_WHOLE ? DBUS_WIRE_NO_VALUE : DBUS_WIRE_PARTIAL), "nothing else is explained");
+    }
+}
+
 int LLVMFuzzerTestOneInput(const uint8_t *given, size_t length) {
     struct dbus_wire_checked told;
     uint8_t *bytes;
@@ -170,6 +188,7 @@ int LLVMFuzzerTestOneInput(const uint8_t *given, size_t length) {
     count(128 + told.reason, (uint32_t)told.offset);
     if (their_check != NULL) compare(bytes, length, answer, &told);
     try_told(bytes, length, answer, &told);
+    try_explained(bytes, length, answer, &told);
     try_pieces(bytes, length, answer, &told);
     if (answer == DBUS_WIRE_WHOLE) try_message(bytes, length, &told);
     return 0;

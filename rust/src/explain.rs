@@ -109,7 +109,9 @@ pub fn explain(bytes: &[u8], limits: &Limits, place: InputPlace) -> Option<Expla
     loop {
         let (out, room) = (lines.as_mut_ptr(), lines.len());
         // SAFETY: slices and references, as `sys` says.
-        match unsafe { sys::dbus_wire_explain(bytes.as_ptr(), bytes.len(), &limits, &place, out, room, &mut explained, &mut told) } {
+        match unsafe {
+            sys::dbus_wire_explain(bytes.as_ptr(), bytes.len(), &limits, &place, out, room, &mut explained, &mut told)
+        } {
             sys::DBUS_WIRE_OK => break,
             sys::DBUS_WIRE_NO_ROOM => lines.resize(explained.length as usize + 1, 0),
             _ => return None,

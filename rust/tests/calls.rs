@@ -4,10 +4,10 @@ use std::num::NonZeroU32;
 use std::thread;
 
 use dbus_wire::{
-    build, byteswap, check, check_text, client_line, reply_to, server_line, wanted, Answer, BuildError, Checker, Client, Command,
-    Descriptors, External, Fault, HandshakeError, Kind, Limits, Line, LineFault, Message, NotPassed, Order, OwnerError,
-    ParseError, Parts, Passage, Reason, Rule, RuleError, RuleReason, RuleSet, Server, SharedRules, Status, SwapError, Taken,
-    TextFault, TextKind, Value, Values, Watch,
+    build, byteswap, check, check_text, client_line, explain, reply_to, server_line, wanted, Answer, BuildError, Checker, Client,
+    Command, Descriptors, External, Fault, HandshakeError, InputPlace, Kind, Limits, Line, LineFault, Message, NotPassed, Order,
+    OwnerError, ParseError, Parts, Passage, Reason, Rule, RuleError, RuleReason, RuleSet, Server, SharedRules, StatedText,
+    Status, SwapError, Taken, TextFault, TextKind, Value, Values, Watch,
 };
 
 const CAPTURES: [&[u8]; 2] = [include_bytes!("data/session.dbus"), include_bytes!("data/big-endian.dbus")];
@@ -264,6 +264,27 @@ fn changed_messages_are_walked_or_refused() {
         }
     }
     assert!(counted > 0);
+}
+
+#[test]
+fn why_bytes_are_refused_is_explained() {
+    let path = "/".to_owned() + &"a".repeat(2000);
+    let names = Parts { path: Some(&path), interface: Some("b.c"), member: Some("D"), ..Parts::new(Kind::Signal, 1) };
+    let parts = Parts { signature: Some("s"), body: b"\x02\0\0\0hi\0", ..names };
+    let mut bytes = build(&parts, &Limits::default()).unwrap();
+    let length = bytes.len();
+    assert_eq!(explain(&bytes, &Limits::default(), InputPlace::default()), None);
+    assert_eq!(explain(&bytes[..length - 1], &Limits::default(), InputPlace::default()), None);
+    bytes[length - 1] = 1;
+    let explanation = explain(&bytes, &Limits::default(), InputPlace { number: 2, offset: 96 }).unwrap();
+    assert_eq!(explanation.fault, Fault { at: length - 1, reason: Reason::Nul });
+    assert_eq!((explanation.name(), explanation.text), ("body[0]", Some(StatedText { at: length - 3, length: 2 })));
+    assert_eq!(explanation.rule(), "a 0 follows a text (D-Bus Specification, \"Marshaling (Wire Format)\")");
+    let head = format!("#2 l signal serial=1 flags=00 path={path} interface=b.c member=D signature=s");
+    assert_eq!(explanation.head(), Some(&head[..]));
+    let lines: Vec<_> = explanation.lines().lines().collect();
+    assert_eq!((lines.len(), lines[1].trim_start(), lines[3].trim_start()), (4, &head[..], explanation.rule()));
+    assert_eq!(explain(b"l\0", &Limits::default(), InputPlace::default()).unwrap().head(), None);
 }
 
 #[test]
