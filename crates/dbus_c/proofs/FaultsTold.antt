@@ -1,5 +1,5 @@
 -- What a call that explains a fault answers, and leaves in the caller's bytes.
-use Rattle.std.proofs.Common.{◌≡◌, ◌⊎◌, ⊎_elim, inl, inr, ◌<◌, ℕ, ◌+◌, List, [], ◌∷◌, ◌++◌, length, take, drop, Bool, false, refl, ap, sym, subst, ◌∙◌, arith, length-append}
+use Rattle.std.proofs.Common.{◌≡◌, ◌⊎◌, ⊎_elim, inl, inr, ◌<◌, ℕ, ◌+◌, List, [], ◌∷◌, ◌++◌, length, take, drop, Bool, true, false, if◌then◌else◌, ◌≤◌, refl, ap, sym, subst, ◌∙◌, arith, length-append}
 use Rattle.std.proofs.lemmas.Bool.{cases_lt}
 use Rattle.dbus_room.proofs.Ending.{all, filled}
 use Rattle.dbus_room.specs.RoomLaws.{joins}
@@ -21,6 +21,10 @@ module _ (refused : Refused) (old new : List ℕ) (told : Explained) (answer : �
   pub explained_told : IsTold answer
   explained_told = ⊎_elim (λ (e : answer ≡ 0). subst IsTold (sym e) refl) (λ (e : answer ≡ 4). subst IsTold (sym e) refl) one_of
 
+not_false : (b : Bool) → (b ≡ false → ⊥) → b ≡ true
+not_false true h = refl
+not_false false h = absurd (h refl)
+
 -- a text and a 0 behind it are written
 module _ (old text : List ℕ) (a b c : Room) (begins : Begins old a) (gains : Gains a text b) (zero_behind : Gains b (0 ∷ []) c) where
   with_zero : Gains a (text ++ 0 ∷ []) c
@@ -32,8 +36,13 @@ module _ (old text : List ℕ) (a b c : Room) (begins : Begins old a) (gains : G
   pub written : c.bytes.now ≡ take (length old) (text ++ 0 ∷ []) ++ drop (length text + 1) old
   written = filled old (text ++ 0 ∷ []) a c begins with_zero ∙ ap (λ (n : ℕ). take (length old) (text ++ 0 ∷ []) ++ drop n old) long
 
-  pub fits : c.is_cut ≡ false → length text < length old
+  fits : c.is_cut ≡ false → length text < length old
   fits e = omega (arith, (all old (text ++ 0 ∷ []) a c begins with_zero).0 e, long)
 
-  pub is_whole : length text < length old → c.is_cut ≡ false
-  is_whole h = (all old (text ++ 0 ∷ []) a c begins with_zero).1 (omega (arith, h, long))
+  -- what is answered says whether there is room for both
+  module _ (answer : ℕ) (is : answer ≡ (if c.is_cut then 4 else 0)) where
+    pub is_whole : length text < length old → answer ≡ 0
+    is_whole h = is ∙ ap (λ (b : Bool). if b then 4 else 0) ((all old (text ++ 0 ∷ []) a c begins with_zero).1 (omega (arith, h, long)))
+
+    pub is_short : length old ≤ length text → answer ≡ 4
+    is_short h = is ∙ ap (λ (b : Bool). if b then 4 else 0) (not_false c.is_cut (λ e. absurd (omega (arith, fits e, h))))

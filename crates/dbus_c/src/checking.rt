@@ -12,6 +12,7 @@ ghost use Rattle.dbus_check.specs.declared.check.Check.TheVariants.{Refused};
 ghost use Rattle.dbus_value_model.specs.declared.fault.Fault.{Fault as FaultOf};
 ghost use Rattle.dbus_c.specs.GivenLimits.{limits_of};
 ghost use Rattle.dbus_c.specs.Outcomes.{IsFirstView, answer_of};
+ghost use Rattle.dbus_c.specs.declared.answers.TheConstants.{REFUSED};
 ghost use Rattle.dbus_validate.specs.Validating.{IsValidated};
 
 use crate::answers::WHOLE;

@@ -114,7 +114,7 @@ fn write_place<D: Draft>(
         Counts D.gains lines.old (place_line refused.now at (name ++ text_part result.1)) lines.new ×
         (result.0.start ≡ counted (lines.old.len + length (before_name refused.now at))) ×
         (result.0.end ≡
-            counted (lines.old.len + length (before_name refused.now at) + length name)) }
+        counted (lines.old.len + length (before_name refused.now at) + length name)) }
 {
     lines.push_str("  message ");
     write_integer(lines, refused.number);

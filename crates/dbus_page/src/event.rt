@@ -19,9 +19,9 @@ ghost use Rattle.dbus_page.specs.Written.{IsNoText, IsWritten};
 
 use crate::answers::NO_TEXT;
 use crate::room::end;
-use dbus_room::Room;
 use dbus_calls::{Event, OwnerChange, event_of, owner_change};
 use dbus_names::{Holder, NameFilter, WellKnownNames, asked_by, holder_told};
+use dbus_room::Room;
 use dbus_show::Draft;
 use dbus_view::MessageView;
 

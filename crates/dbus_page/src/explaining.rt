@@ -14,9 +14,9 @@ ghost use Rattle.dbus_page.specs.Written.{IsWritten, IsNoText};
 
 use crate::answers::NO_TEXT;
 use crate::room::end;
-use dbus_room::Room;
 use dbus_check::fault_at_end;
 use dbus_explain::{Refused, explain_message};
+use dbus_room::Room;
 use dbus_validate::validate;
 use dbus_value_model::Limits;
 

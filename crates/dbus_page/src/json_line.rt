@@ -13,9 +13,9 @@ ghost use Rattle.dbus_page.specs.Written.{IsWritten, IsNoText};
 
 use crate::answers::NO_TEXT;
 use crate::room::end;
-use dbus_room::Room;
 use crate::time::time_if;
 use dbus_json::{LinePlace, write_json};
+use dbus_room::Room;
 use dbus_validate::validate;
 use dbus_value_model::Limits;
 

@@ -17,10 +17,10 @@ ghost use Rattle.dbus_page.specs.Written.{IsNoText, IsWritten};
 use crate::answers::NO_TEXT;
 use crate::json_line::{PagePlace, line_place};
 use crate::room::end;
-use dbus_room::Room;
 use crate::time::time_if;
 use dbus_call_lines::time_between;
 use dbus_list::{AnsweredCall, Beside, write_line};
+use dbus_room::Room;
 use dbus_validate::{Validated, Whole, validate};
 use dbus_value_model::Limits;
 

@@ -13,8 +13,8 @@ ghost use Rattle.dbus_page.specs.Written.{IsNoText, IsWritten};
 
 use crate::answers::NO_TEXT;
 use crate::room::end;
-use dbus_room::Room;
 use dbus_check::fault_at_end;
+use dbus_room::Room;
 use dbus_show::{Draft, write_integer};
 use dbus_validate::validate;
 use dbus_value_model::{Limits, Reason};

@@ -27,7 +27,7 @@ returns-in-Some-clause-checked c =
     done_checked limits b validated.length c.whole_told.result (validated.order, is.message, whole) c.whole_told.ensures
 
 pub returns-in-None-clause-checked : goal.returns-in-None-clause-checked
-returns-in-None-clause-checked c = 
+returns-in-None-clause-checked c =
     subst (λ (n : ℕ). IsChecked (limits_of c.args.limits.now) c.args.bytes.now n c.check_all.new.out) (sym c.answer_of.ensures)
     (subst (λ (l : Limits). IsChecked l c.args.bytes.now (check_answer c.check_all.result) c.check_all.new.out) c.given_limits-within.ensures c.check_all.ensures.checked)
 

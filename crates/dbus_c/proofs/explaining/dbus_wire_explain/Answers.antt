@@ -21,8 +21,8 @@ pub returns-in-Refused-clause-checked : goal.returns-in-Refused-clause-checked
 returns-in-Refused-clause-checked c =
     let is = c.write_explained.ensures in
     let refused =
-        subst (λ (l : Limits). IsChecked l c.args.bytes.now 2 c.check_all.new.out) c.given_limits.ensures
-        (subst (λ (x : Check). IsChecked c.given_limits.result c.args.bytes.now (answer_of x) c.check_all.new.out) c.in-Refused.is c.check_all.ensures.checked) in
+    subst (λ (l : Limits). IsChecked l c.args.bytes.now 2 c.check_all.new.out) c.given_limits.ensures
+    (subst (λ (x : Check). IsChecked c.given_limits.result c.args.bytes.now (answer_of x) c.check_all.new.out) c.in-Refused.is c.check_all.ensures.checked) in
     subst (λ (n : ℕ). IsChecked (limits_of c.args.limits.now) c.args.bytes.now n c.check_all.new.out) (sym (explained_checked _ _ _ _ _ is)) refused
 
 pub returns-in-Refused-clause-explained : goal.returns-in-Refused-clause-explained
