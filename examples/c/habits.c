@@ -107,6 +107,34 @@ static void answers(void) {
            "no type is 0, and no bytes are partial, by builders");
 }
 
+/* The header fields of a refused signal that are whole before its fault: those of the whole one, but
+ * for their array. */
+static void fields_before(const uint8_t *bad) {
+    struct dbus_wire_flat_item all[32], some[32];
+    struct dbus_wire_checked told;
+    uint8_t cut[SIGNAL_LENGTH];
+    uint64_t all_count, count = 7;
+
+    expect(dbus_wire_flatten_fields(SIGNAL, SIGNAL_LENGTH, NULL, 0, all, 32, &all_count, NULL) == DBUS_WIRE_OK && all_count == 17,
+           "a signal has four fields");
+    expect(dbus_wire_flatten_whole_fields(SIGNAL, SIGNAL_LENGTH, NULL, 0, some, 32, &count, &told) == DBUS_WIRE_NO_VALUE &&
+               dbus_wire_flatten_whole_fields(NULL, 0, NULL, 0, NULL, 0, &count, NULL) == DBUS_WIRE_PARTIAL && count == 7,
+           "which are not refused");
+    expect(dbus_wire_flatten_whole_fields(bad, SIGNAL_LENGTH, NULL, 0, some, 32, &count, NULL) == DBUS_WIRE_OK && count == 16 &&
+               memcmp(some, all + 1, 16 * sizeof *some) == 0,
+           "a fault in the body leaves all of them");
+    expect(dbus_wire_flatten_whole_fields(bad, SIGNAL_LENGTH, NULL, 15, NULL, 0, &count, NULL) == DBUS_WIRE_NO_ROOM && count == 16,
+           "of which the last has no room here");
+    memcpy(cut, SIGNAL, SIGNAL_LENGTH);
+    cut[43] = 1;
+    expect(dbus_wire_flatten_whole_fields(cut, SIGNAL_LENGTH, NULL, 0, some, 32, &count, &told) == DBUS_WIRE_OK && count == 4 &&
+               told.offset == 43 && memcmp(some, all + 1, 4 * sizeof *some) == 0,
+           "one in the second field leaves the first");
+    cut[1] = 0;
+    expect(dbus_wire_flatten_whole_fields(cut, SIGNAL_LENGTH, NULL, 0, some, 32, &count, NULL) == DBUS_WIRE_OK && count == 0,
+           "and one in the first bytes leaves none");
+}
+
 /* Why a signal is refused of which the last 0 is another byte: what is written in each room. */
 static void explanations(void) {
     static uint8_t lines[512], cut[512];
@@ -133,6 +161,7 @@ static void explanations(void) {
     expect(memcmp(lines + explained.rule.offset, "a 0 follows a text (", 20) == 0, "its rule too");
     expect(explained.text.is_there && explained.text.length == 2 && memcmp(bad + explained.text.offset, "hi", 2) == 0,
            "it is in a text");
+    fields_before(bad);
     for (room = 0; room < sizeof cut; room++) {
         size_t written = room <= explained.length ? room : explained.length + 1;
         FRESH(cut);

@@ -13,7 +13,8 @@ linker finds it.
             print(message.serial, message.member, message.body)
 
 Bytes that are no message raise Refused or Truncated, which say where and why, as `dbus-wire check`
-does; `explain` says why for a reader, as `dbus-wire check --explain` does. No value that is given is changed: one that is not of its type raises BadValue, which says
+does; `explain` says why for a reader, as `dbus-wire check --explain` does, and
+`whole_fields` gives the header fields before the fault. No value that is given is changed: one that is not of its type raises BadValue, which says
 where it is. examples/python has programs. All of it may be called from any thread; a thread needs 128 KiB of stack for a call. A message
 of any depth is read within Python's default limit on recursion.
 """
@@ -21,7 +22,7 @@ of any depth is read within Python's default limit on recursion.
 from ._building import build, error_to, rebuild, reply_to
 from ._checker import Checker
 from ._errors import BadValue, HeaderField, NotAMessage, Refused, Truncated
-from ._explaining import Explanation, StatedText, explain
+from ._explaining import Explanation, StatedText, explain, whole_fields
 from ._handshake import Client, Server, Status, Step
 from ._library import LIBRARY_VERSION
 from ._limits import Limits
@@ -77,4 +78,5 @@ __all__ = [
     "server_line",
     "spell_body",
     "stated_length",
+    "whole_fields",
 ]

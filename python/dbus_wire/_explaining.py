@@ -5,11 +5,13 @@ from __future__ import annotations
 import ctypes
 from ctypes import byref
 from dataclasses import dataclass
+from typing import Any
 
 from . import _library
 from ._errors import Refused, refused
 from ._library import NO_ROOM, OK, Bytes, as_bytes, library
 from ._limits import Limits, limits_struct
+from ._values import Order, values_of
 
 # The room of the first call, which most explanations fit in.
 _ROOM = 1024
@@ -63,6 +65,23 @@ def explain(data: Bytes, limits: Limits | None = None, *, number: int = 1, offse
     if answer != OK:
         return None
     return _explanation(out.raw[: explained.length], explained, refused(told.offset, told.reason, told.field))
+
+
+def whole_fields(data: Bytes, limits: Limits | None = None) -> list[tuple[int, Any]] | None:
+    """The header fields that are whole before the fault of bytes that begin with no message within
+    the limits, each as its code and its value, as `Message.header_fields` has them; None if they
+    begin with one, or show no fault yet."""
+    message, given, count, told = as_bytes(data), limits_struct(limits), ctypes.c_uint64(), _library.Checked()
+    items, answer = (_library.FlatItem * 64)(), NO_ROOM
+    while answer == NO_ROOM:
+        answer = library.dbus_wire_flatten_whole_fields(message, len(message), byref(given), 0, items, len(items), byref(count), byref(told))
+        if answer == NO_ROOM:
+            items = (_library.FlatItem * count.value)()
+    if answer != OK:
+        return None
+    order = Order.BIG if message[:1] == b"B" else Order.LITTLE
+    fields = values_of(message, order, memoryview(items).cast("B")[: count.value * ctypes.sizeof(_library.FlatItem)])
+    return [(code, variant.value) for code, variant in fields]
 
 
 def _explanation(lines: bytes, explained: _library.Explained, fault: Refused) -> Explanation:

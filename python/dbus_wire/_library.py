@@ -137,6 +137,7 @@ _CALLS = {
     "parts_of": (c_uint32, *_MESSAGE, POINTER(Parts), POINTER(Checked)),
     "flatten": (c_uint32, *_MESSAGE, c_size_t, *_ITEMS),
     "flatten_fields": (c_uint32, *_MESSAGE, c_size_t, *_ITEMS),
+    "flatten_whole_fields": (c_uint32, *_MESSAGE, c_size_t, *_ITEMS),
     "explain": (c_uint32, *_MESSAGE, POINTER(InputPlace), c_char_p, c_size_t, POINTER(Explained), POINTER(Checked)),
     "wanted": (c_uint64, *_MESSAGE),
     "swap": (c_uint32, *_MESSAGE, c_uint32, c_char_p, c_size_t, POINTER(Checked)),

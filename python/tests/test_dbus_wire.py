@@ -53,6 +53,7 @@ from dbus_wire import (
     server_line,
     spell_body,
     stated_length,
+    whole_fields,
 )
 from dbus_wire import _library
 
@@ -310,6 +311,19 @@ class Messages(unittest.TestCase):
         self.assertEqual(explain(signal, Limits(message=16)).name, "the length of the header fields")
         for data in (signal, signal + b"x", signal[:-1], b""):
             self.assertIsNone(explain(data), data)
+            self.assertIsNone(whole_fields(data), data)
+
+    def test_header_fields_before_a_fault(self):
+        for order in "lB":
+            signal = build(MessageType.SIGNAL, 7, "s", "hi", order=order, path="/a", interface="b.c", member="D")
+            fields, data = signal.header_fields, signal.data
+            self.assertEqual(whole_fields(data[:-1] + b"\1"), fields)
+            # The 0 after each field's text, and what is whole before it.
+            ends = [at for at in range(16, len(data)) if whole_fields(data[:at] + b"\xff" + data[at + 1 :]) is not None]
+            found = [whole_fields(data[:at] + b"\xff" + data[at + 1 :]) for at in ends]
+            self.assertEqual([it for it in found if it != fields[: len(it)]], [])
+            self.assertEqual({len(it) for it in found}, set(range(len(fields) + 1)))
+        self.assertEqual(whole_fields(b"l\0"), [])
 
     def test_the_missing_field_is_reported(self):
         with self.assertRaises(Refused) as caught:

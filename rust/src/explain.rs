@@ -3,7 +3,7 @@
 use std::fmt;
 use std::ops::Range;
 
-use crate::{sys, Fault, Limits};
+use crate::{sys, Fault, Fields, Limits};
 
 /// The room of the first call, which most explanations fit in.
 const ROOM: usize = 1024;
@@ -120,4 +120,18 @@ pub fn explain(bytes: &[u8], limits: &Limits, place: InputPlace) -> Option<Expla
     lines.truncate(explained.length as usize);
     // The library says that the lines are UTF-8.
     Some(Explanation::new(String::from_utf8_lossy(&lines).into_owned(), &explained, &told))
+}
+
+/// The header fields that are whole before the fault of bytes that begin with no message within the
+/// limits. `None` if they begin with one, or show no fault yet.
+///
+/// ```
+/// use dbus_wire::{whole_fields, Limits, Value};
+///
+/// let bytes = b"l\x01\0\x01\0\0\0\0\x07\0\0\0\x20\0\0\0\x01\x01o\0\x02\0\0\0/a\0\0\0\0\0\0\0\x01s\0\x01\0\0\0D\0\0\0\0\0\0\0";
+/// let fields: Vec<_> = whole_fields(bytes, &Limits::default()).unwrap().collect();
+/// assert_eq!(fields, [(1, Value::ObjectPath("/a"))]);
+/// ```
+pub fn whole_fields<'a>(bytes: &'a [u8], limits: &Limits) -> Option<Fields<'a>> {
+    Fields::before_fault(bytes, limits)
 }

@@ -32,7 +32,8 @@
 //! * [`Server`] and [`Client`] are the ends of the authentication handshake, and [`client_line`]
 //!   and [`server_line`] give the lines of one between others, which a [`Watch`] passes on.
 //! * [`Limits`] are those that a message has to keep, and a [`Fault`] says where and why bytes are
-//!   no message; [`explain`] says it for a reader, with the name of the place and the rule.
+//!   no message; [`explain`] says it for a reader, with the name of the place and the rule,
+//!   and [`whole_fields`] gives the header fields before the fault.
 //! * [`sys`] has the C calls themselves.
 //!
 //! # Linking
@@ -69,7 +70,7 @@ pub use body::{Body, TooLong};
 pub use build::{build, rebuild, reply_to, BuildError, Parts};
 pub use check::{check, wanted, Answer, Order};
 pub use checker::{Checker, OutOfMemory, Taken};
-pub use explain::{explain, Explanation, InputPlace, StatedText};
+pub use explain::{explain, whole_fields, Explanation, InputPlace, StatedText};
 pub use fault::{Fault, ParseError, Reason, RuleReason};
 pub use handshake::{Client, External, HandshakeError, Server, Status, Step};
 pub use limits::{Descriptors, Limits};

@@ -348,6 +348,16 @@ extern "C" {
         count: *mut u64,
         told: *mut dbus_wire_checked,
     ) -> u32;
+    pub fn dbus_wire_flatten_whole_fields(
+        bytes: *const u8,
+        length: usize,
+        limits: *const dbus_wire_limits,
+        first: usize,
+        items: *mut dbus_wire_flat_item,
+        room: usize,
+        count: *mut u64,
+        told: *mut dbus_wire_checked,
+    ) -> u32;
     pub fn dbus_wire_read(
         bytes: *const u8,
         length: usize,

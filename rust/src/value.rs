@@ -308,8 +308,12 @@ fn number_of(order: Order, bytes: &[u8]) -> u64 {
 
 impl FusedIterator for Values<'_> {}
 
+// The type of a header field.
+const FIELD: &str = "(yv)";
+
 /// A message's header fields, each as its code and its value, in their order in the message.
-/// [`Message::fields`](crate::Message::fields) returns it.
+/// [`Message::fields`](crate::Message::fields) returns it, and [`whole_fields`](crate::whole_fields)
+/// those of a message that is refused.
 #[derive(Clone)]
 pub struct Fields<'a> {
     // Structs of a code and a variant.
@@ -321,7 +325,22 @@ impl<'a> Fields<'a> {
     pub(crate) fn of_message(bytes: &'a [u8]) -> Self {
         let row = Row { bytes, items: flat_items(sys::dbus_wire_flatten_fields, bytes).into() };
         // The first item is that of their array.
-        Self { fields: row.array(0, "(yv)").elements }
+        Self { fields: row.array(0, FIELD).elements }
+    }
+
+    /// Those that are whole before the fault of these bytes, if they have one.
+    pub(crate) fn before_fault(bytes: &'a [u8], limits: &Limits) -> Option<Self> {
+        let (limits, mut told) = (limits.raw(), Default::default());
+        let (answer, items) = items_written(|to, count| {
+            let (items, room) = (to.as_mut_ptr(), to.len());
+            // SAFETY: slices and references, as `sys` says.
+            unsafe {
+                sys::dbus_wire_flatten_whole_fields(bytes.as_ptr(), bytes.len(), &limits, 0, items, room, count, &mut told)
+            }
+        });
+        let left = Left::Elements(0..items.len());
+        let row = Row { bytes, items: items.into() };
+        (answer == sys::DBUS_WIRE_OK).then_some(Self { fields: Values { row, left, types: FIELD } })
     }
 }
 

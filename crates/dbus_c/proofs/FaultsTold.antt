@@ -1,6 +1,12 @@
 -- What a call that explains a fault answers, and leaves in the caller's bytes.
-use Rattle.std.proofs.Common.{◌≡◌, ◌⊎◌, ⊎_elim, inl, inr, ◌<◌, ℕ, ◌+◌, List, [], ◌∷◌, ◌++◌, length, take, drop, Bool, true, false, if◌then◌else◌, ◌≤◌, refl, ap, sym, subst, ◌∙◌, arith, length-append}
+use Rattle.std.proofs.Common.{nat_eq, map, ◌≡◌, ◌⊎◌, ⊎_elim, inl, inr, ◌<◌, ℕ, ◌+◌, List, [], ◌∷◌, ◌++◌, length, take, drop, Bool, true, false, if◌then◌else◌, ◌≤◌, refl, ap, sym, subst, ◌∙◌, arith, length-append}
 use Rattle.std.proofs.lemmas.Bool.{cases_lt}
+use Rattle.std.proofs.Math.Seq.{drop-nil, take-nil}
+use Rattle.dbus_value_model.specs.Values.{value_trees}
+use Rattle.dbus_value_model.specs.declared.order.Order.{Order}
+use Rattle.dbus_message_model.specs.Messages.{field_struct}
+use Rattle.dbus_flatten.specs.Flattening.{AreFlat, flats, over}
+use Rattle.dbus_flatten.specs.declared.flat_item.FlatItem.{FlatItem}
 use Rattle.dbus_room.proofs.Ending.{all, filled}
 use Rattle.dbus_room.specs.RoomLaws.{joins}
 use Rattle.dbus_room.specs.Rooms.{Begins, Gains}
@@ -9,6 +15,10 @@ use Rattle.dbus_explain.specs.declared.message.Refused.{Refused}
 use Rattle.dbus_c.specs.Explaining.{IsExplainedIn, checked_answer}
 use Rattle.dbus_c.specs.Outcomes.{IsTold}
 use Rattle.dbus_c.specs.declared.explaining.Explained.{Explained}
+
+-- who is told whether there was room is told of a fault
+pub told_checked : (answer : ℕ) → IsTold answer → checked_answer answer ≡ 2
+told_checked answer e = ap (λ (k : ℕ). if nat_eq k 0 then 2 else if nat_eq answer 5 then 0 else answer) e
 
 -- a fault that is explained is one that a check tells
 module _ (refused : Refused) (old new : List ℕ) (told : Explained) (answer : ℕ) (is : IsExplainedIn refused old new told answer) where
@@ -46,3 +56,11 @@ module _ (old text : List ℕ) (a b c : Room) (begins : Begins old a) (gains : G
 
     pub is_short : length old ≤ length text → answer ≡ 4
     is_short h = is ∙ ap (λ (b : Bool). if b then 4 else 0) (not_false c.is_cut (λ e. absurd (omega (arith, fits e, h))))
+
+-- no header field has an item
+pub no_items : (order : Order) (first : ℕ) (items : List FlatItem) → AreFlat order 16 (value_trees (map field_struct [])) first items items 0
+unfolding flats
+no_items order first items = record {
+  counted = refl;
+  written = λ small. sym (ap (λ (l : List FlatItem). over l items) (drop-nil first) ∙ ap (λ (l : List FlatItem). l ++ items) (take-nil (length items)));
+}

@@ -1,9 +1,16 @@
 -- Why bytes are refused, as it is explained for a reader.
 -- D-Bus Specification, "Message Protocol".
-use Rattle.std.specs.Prelude.{◌≡◌, ℕ, ◌+◌, ◌-◌, ◌<◌, ◌≤◌, List, [], ◌∷◌, ◌++◌, length, take, drop, nat_eq, if◌then◌else◌, Option, None, Some}
+use Rattle.std.specs.Prelude.{◌≡◌, ℕ, ◌+◌, ◌-◌, ◌<◌, ◌≤◌, List, [], ◌∷◌, ◌++◌, length, take, drop, map, min, nat_eq, if◌then◌else◌, Option, None, Some}
 use Rattle.dbus_value_model.specs.declared.limits.Limits.{Limits}
+use Rattle.dbus_value_model.specs.Values.{value_trees}
+use Rattle.dbus_value_model.specs.declared.fault.Fault.{Fault}
+use Rattle.dbus_message_model.specs.Messages.{FieldTree, field_struct}
 use Rattle.dbus_header.specs.MessageOutcomes.{IsRefused}
-use Rattle.dbus_explain.specs.Explained.{ArePartsOf, IsExplained}
+use Rattle.dbus_flatten.specs.Flattening.{AreFlat}
+use Rattle.dbus_flatten.specs.declared.flat_item.FlatItem.{FlatItem}
+use Rattle.dbus_explain.specs.Explained.{ArePartsOf, IsExplained, place_in}
+use Rattle.dbus_explain.specs.Heads.{AreWhole}
+use Rattle.dbus_explain.specs.Places.{fields_end, order_of}
 use Rattle.dbus_explain.specs.declared.explanation.Explanation.{Explanation}
 use Rattle.dbus_explain.specs.declared.explanation.LinesPart.{LinesPart}
 use Rattle.dbus_explain.specs.declared.message.Refused.{Refused}
@@ -26,6 +33,22 @@ pub record IsRefusedAt (limits : Limits) (bytes : List ℕ) (place : InputPlace)
   pub fault : IsRefused limits bytes refused.fault
   pub number_is : refused.number ≡ place.number
   pub offset_is : refused.offset ≡ place.offset
+
+-- What is whole of a message that is refused.
+
+-- the header fields that are whole before the place of the fault, or before the end of the bytes if
+-- that comes first; none, if the first sixteen bytes are not
+pub data AreWholeBefore (bytes : List ℕ) (fault : Fault) : List FieldTree → Type 0 where
+  none : place_in bytes fault < 16 → AreWholeBefore bytes fault []
+  some : (fs : List FieldTree) → 16 ≤ place_in bytes fault → AreWhole bytes (min (place_in bytes fault) (fields_end bytes)) fs → AreWholeBefore bytes fault fs
+
+-- they make so many items, of which those from a place on are written over those before
+pub record AreWholeFlat (bytes : List ℕ) (fault : Fault) (first : ℕ) (before items : List FlatItem) (count : ℕ) : Type 0 where
+  pub fields : List FieldTree
+  pub whole : AreWholeBefore bytes fault fields
+  pub flat : AreFlat (order_of bytes) 16 (value_trees (map field_struct fields)) first before items count
+
+-- The parts of an explanation in numbers.
 
 -- where a part is in the text, if it is there
 abbrev pub part_told : Option LinesPart → TextPlace

@@ -111,9 +111,19 @@ pub(crate) fn flatten_part(
     ensures flat { IsPartFlat part whole.now.limits whole.now.bytes.now first items.old items.new count.new }
     ensures room { (result ≡ WHOLE) ↔ (count.new ≤ first + length items.old) }
 {
-    let told = flat_part(part, whole, first, items);
-    *count = told as u64;
-    if told.saturating_sub(first) > items.len() {
+    let room = items.len();
+    let total = flat_part(part, whole, first, items);
+    tell_count(total, first, room, count)
+}
+
+// Tells how many items a row has, and whether there is room for all from a place on.
+pub(crate) fn tell_count(total: usize, first: usize, room: usize, count: &mut u64) -> u32
+    ensures counted { count.new ≡ total }
+    ensures told { IsTold result }
+    ensures room { (result ≡ WHOLE) ↔ (total ≤ first + room) }
+{
+    *count = total as u64;
+    if total.saturating_sub(first) > room {
         NO_ROOM
     } else {
         WHOLE

@@ -6,7 +6,7 @@
 //! [`dbus_wire_flatten`] gives all values of its body as one row of items,
 //! [`dbus_wire_flatten_fields`] those of its header fields, and [`dbus_wire_read`] its parts and
 //! its body's values by one validation. [`dbus_wire_explain`] explains for a reader why bytes are
-//! refused. [`dbus_wire_checker_new`] makes a checker that takes one
+//! refused, and [`dbus_wire_flatten_whole_fields`] gives the header fields before the fault. [`dbus_wire_checker_new`] makes a checker that takes one
 //! piece after another, and [`dbus_wire_rules_add`] keeps match rules,
 //! [`dbus_wire_rules_owner`] the owners of names that their senders may be;
 //! [`dbus_wire_server_new`] and [`dbus_wire_client_new`] make an end of a handshake;
@@ -40,6 +40,7 @@ mod texts;
 mod version;
 mod wanted;
 mod watching;
+mod whole_fields;
 mod writers;
 
 pub use answers::{
@@ -76,6 +77,7 @@ pub use texts::{TextChecked, dbus_wire_text_check};
 pub use version::{VERSION, dbus_wire_version};
 pub use wanted::dbus_wire_wanted;
 pub use watching::{HandshakeWatch, dbus_wire_watch_client, dbus_wire_watch_server};
+pub use whole_fields::dbus_wire_flatten_whole_fields;
 pub use writers::{
     WireArray, WireWriter, dbus_wire_begin_struct, dbus_wire_close_array, dbus_wire_open_array,
     dbus_wire_put_number, dbus_wire_put_signature, dbus_wire_put_text,

@@ -3,7 +3,8 @@
 //!
 //! For a fault of [`Refused`] bytes [`explain_message`] writes its place in the message, the head of
 //! the message as it is shown, the bytes at the place, and the rule that they break with its section
-//! of the D-Bus Specification; its [`Explanation`] says where in these lines each part is. For a
+//! of the D-Bus Specification; its [`Explanation`] says where in these lines each part is, and
+//! [`fields_before`] which header fields are whole before the fault. For a
 //! fault of a match rule [`explain_rule`] writes the rule, a mark below the place, and what may be
 //! there.
 //! They write to a `Draft`, as does [`write_refusal_members`], which says the same of a message in
@@ -27,6 +28,7 @@ mod values;
 mod window;
 
 pub use explanation::{Explanation, LinesPart};
+pub use head::fields_before;
 pub use members::write_refusal_members;
 pub use message::{Refused, explain_message};
 pub use rule::explain_rule;

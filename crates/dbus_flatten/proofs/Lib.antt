@@ -1,1 +1,2 @@
 mod FlatThere
+mod FieldsThere
