@@ -147,6 +147,9 @@ if [ -z "$target" ] && command -v valgrind > /dev/null; then
 	done
 	under_valgrind "$built/handshake_plain" pieces 7
 	printf '\0AUTH EXTERNAL 31303030\r\nBEGIN\r\nl' | under_valgrind "$built/plain_lines" client > "$built/said"
+	status=0
+	printf 'l\1\0\2' | under_valgrind "$built/plain_explain" parts > "$built/said" || status=$?
+	test $status = 1
 else
 	echo "no valgrind here, or none for the system: the callers are not tried under it"
 fi

@@ -50,12 +50,12 @@ pub struct Explained {
 /// after it, as much of this as it has room for: the lines that `dbus-wire check --explain` writes
 /// of a message at this place of its input. Writes to `explained` where their parts are.
 ///
-/// [`WHOLE`] if there is room for the lines and the 0, and [`NO_ROOM`] if there is not. If the bytes
-/// begin with a message, [`NO_VALUE`], and [`PARTIAL`] if they show no fault yet; then `out` and
-/// `explained` stay as they are. `told` has what [`crate::dbus_wire_check`] reports.
+/// [`WHOLE`] if there is room for the lines and the 0, and [`NO_ROOM`] if there is not. If the
+/// bytes begin with a message, [`NO_VALUE`], and [`PARTIAL`] if they show no fault yet; then `out`
+/// and `explained` stay as they are. `told` has what [`crate::dbus_wire_check`] reports.
 ///
-/// It allocates nothing. The time is that of checking the bytes before the fault, for each container
-/// that the fault is in. D-Bus Specification, "Message Protocol".
+/// It allocates nothing. The time is that of checking the bytes before the fault, for each
+/// container that the fault is in. D-Bus Specification, "Message Protocol".
 #[unsafe(no_mangle)]
 pub extern "C" fn dbus_wire_explain(
     bytes: &[u8],

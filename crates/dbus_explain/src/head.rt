@@ -2,7 +2,8 @@
 //! Format", "Header Fields".
 #![tactic(auto)]
 
-ghost use Rattle.std.specs.Prelude.{◌≡◌, ◌<◌, ◌≤◌, ℕ, List, Option, None, Some, IfSome, length, min};
+ghost use Rattle.std.specs.Prelude.{◌≡◌, ◌<◌, ◌≤◌, ℕ, List, Option, None, Some, IfSome, length};
+ghost use Rattle.std.specs.Prelude.{min};
 ghost use Rattle.dbus_message_model.specs.Messages.{FieldTree};
 ghost use Rattle.dbus_show.specs.Escapes.{escaped};
 ghost use Rattle.dbus_show.specs.declared.escapes.Escapes.TheVariants.{Line};

@@ -1,14 +1,12 @@
 //! Why a message or a match rule is refused, explained for a reader: the place of the fault, what
 //! is there, and what has to be there.
 //!
-//! For a fault of [`Refused`] bytes [`explain_message`] writes its place in the message, the head of
-//! the message as it is shown, the bytes at the place, and the rule that they break with its section
-//! of the D-Bus Specification; its [`Explanation`] says where in these lines each part is, and
-//! [`fields_before`] which header fields are whole before the fault. For a
-//! fault of a match rule [`explain_rule`] writes the rule, a mark below the place, and what may be
-//! there.
-//! They write to a `Draft`, as does [`write_refusal_members`], which says the same of a message in
-//! JSON.
+//! For a fault of [`Refused`] bytes [`explain_message`] writes its place in the message, the head
+//! of the message as it is shown, the bytes at the place, and the rule that they break with its
+//! section of the D-Bus Specification; its [`Explanation`] says where in these lines each part is,
+//! and [`fields_before`] which header fields are whole before the fault. For a fault of a match
+//! rule [`explain_rule`] writes the rule, a mark below the place, and what may be there. They write
+//! to a `Draft`, as does [`write_refusal_members`], which says the same of a message in JSON.
 #![tactic(auto)]
 
 mod blanks;

@@ -44,9 +44,9 @@ pub struct Refused<'a> {
 /// are whole, the serial, the flags, and the header fields that are; control characters of ASCII
 /// there are `\x1b` and hidden characters `\u{202e}`. The third has the bytes around the place in
 /// hexadecimal, and the one there between brackets, which are empty at the end of what was read.
-/// The last says what has to be there, and names the section of the D-Bus Specification; if the very first byte
-/// of the input is refused, it also says what that looks like, as a handshake, an ELF program, a
-/// gzip, xz or zstd file, or text, and what to do.
+/// The last says what has to be there, and names the section of the D-Bus Specification; if the
+/// very first byte of the input is refused, it also says what that looks like, as a handshake, an
+/// ELF program, a gzip, xz or zstd file, or text, and what to do.
 ///
 /// ```text
 ///   message 2 at 96, byte 72: body[1][3].key
@@ -56,8 +56,8 @@ pub struct Refused<'a> {
 /// ```
 ///
 /// It returns where their parts are. Of a place past the bytes, their end is named and shown. Any
-/// bytes and any fault are safe, and only the draft allocates. Not proved: that a path goes as far as it can. D-Bus Specification,
-/// "Message Protocol".
+/// bytes and any fault are safe, and only the draft allocates. Not proved: that a path goes as far
+/// as it can. D-Bus Specification, "Message Protocol".
 pub fn explain_message<D: Draft>(draft: &mut D, refused: &Refused) -> Explanation
     ensures { (text : List ℕ) × (is : IsExplained refused.now text) ×
         ArePartsOf is result × D.gains draft.old text draft.new }
@@ -111,7 +111,8 @@ fn write_place<D: Draft>(
     requires { at ≤ length refused.now.bytes.now }
     ensures { (name : List ℕ) ×
         IsNameOf refused.now.bytes.now refused.now.fault.reason at name result.1 ×
-        Counts D.gains lines.old (place_line refused.now at (name ++ text_part result.1)) lines.new ×
+        Counts D.gains lines.old (place_line refused.now at (name ++ text_part result.1))
+        lines.new ×
         (result.0.start ≡ counted (lines.old.len + length (before_name refused.now at))) ×
         (result.0.end ≡
         counted (lines.old.len + length (before_name refused.now at) + length name)) }

@@ -34,7 +34,8 @@ pub fn flatten_fields(
         FieldsLeft source.now depth_left 16 end fs rest }
     ensures flat { (fs : List FieldTree) (rest : List ℕ) →
         FieldsLeft source.now depth_left 16 end fs rest →
-        AreFlat source.now.order 16 (value_trees (map field_struct fs)) first out.old out.new result }
+        AreFlat source.now.order 16 (value_trees (map field_struct fs)) first out.old out.new
+        result }
 {
     let mut table = [0; 255];
     let lengths = lengths_in(FIELD, &mut table);

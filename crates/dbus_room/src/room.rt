@@ -8,16 +8,14 @@ use dbus_show::{Draft, copy_bytes};
 /// A text that is written to the start of the caller's bytes, as much of it as they have room for.
 /// The bytes behind it stay as they are.
 ///
-/// ```
+/// ```rust
 /// use dbus_room::Room;
 /// use dbus_show::Draft;
 ///
-/// let mut bytes = *b"........";
+/// let mut bytes = [0; 8];
 /// let mut room = Room::new(&mut bytes);
-/// room.push_str("so");
-/// room.push_str("-called");
-/// assert_eq!((room.len, room.is_cut), (8, true));
-/// assert_eq!(&bytes, b"so-calle");
+/// room.push_str("so-called");
+/// println!(rt; "{} bytes, cut: {}", room.len, room.is_cut)?;
 /// ```
 #[derive(Drop)]
 pub struct Room<'a> {

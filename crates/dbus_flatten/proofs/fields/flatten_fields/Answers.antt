@@ -1,5 +1,5 @@
 use Rattle.std.proofs.Common.{◌≡◌, ℕ, ◌<◌, ◌^◌, List, map, arith, rules, sym, subst, refl}
-use Rattle.dbus_message_model.specs.Messages.{FieldTree, field_struct}
+use Rattle.dbus_message_model.specs.Messages.{field_struct}
 use Rattle.dbus_value_model.specs.Values.{value_trees}
 use Rattle.dbus_walk.proofs.FieldParts.{all_walked, field_walked, next_field, none_walked}
 use Rattle.dbus_flatten.specs.declared.flat_item.FlatItem.{FlatItem}
