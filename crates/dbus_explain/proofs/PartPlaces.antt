@@ -1,10 +1,10 @@
 -- Where the parts of an explanation are in its lines.
-use Rattle.std.proofs.Common.{◌≡◌, ℕ, ◌+◌, List, [], ◌++◌, Option, None, Some, codes, length, append_assoc, append-nil, length-append, sym, ap, subst, ◌∙◌, arith}
+use Rattle.std.proofs.Common.{◌≡◌, ℕ, ◌+◌, List, ◌++◌, Option, None, Some, codes, length, append_assoc, append-nil, length-append, sym, ap, subst, ◌∙◌, arith}
 use Rattle.dbus_show.specs.ShownMessages.{line_feeds}
 use Rattle.dbus_show.specs.Escapes.{escaped}
 use Rattle.dbus_show.specs.declared.escapes.Escapes.TheVariants.{Line}
 use Rattle.dbus_explain.specs.Counting.{counted}
-use Rattle.dbus_explain.specs.Explained.{ArePartsOf, IsExplained, IsPartIf, before_head, before_name, before_rule, place_in, place_line, window}
+use Rattle.dbus_explain.specs.Explained.{ArePartsOf, IsExplained, IsPartIf, before_name, before_rule, place_in, place_line, window}
 use Rattle.dbus_explain.specs.Heads.{IsHead, IsHeadPart, head_part, head_shown}
 use Rattle.dbus_explain.specs.Looks.{look_text}
 use Rattle.dbus_explain.specs.Names.{IsNameOf, text_part}

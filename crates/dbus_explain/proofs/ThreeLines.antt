@@ -18,7 +18,7 @@ use Rattle.dbus_show.specs.declared.escapes.Escapes.TheVariants.{Shown, Line}
 use Rattle.dbus_explain.proofs.VisibleLines.{line_visible}
 use Rattle.dbus_explain.specs.Explained.{IsMarkAt, lines_of, bytes_line, place_line, rule_line, mark_line, quoted_line, AreLines, byte_text, marked}
 use Rattle.dbus_explain.specs.Explained.{window}
-use Rattle.dbus_explain.specs.Heads.{head_lines, head_part}
+use Rattle.dbus_explain.specs.Heads.{head_part}
 use Rattle.dbus_explain.specs.Looks.{begins, is_letter, look_of, look_text}
 use Rattle.dbus_explain.specs.Names.{IsFieldName, in_field, behind_fields, text_part, IsValueName, in_value, behind_values, IsNameOf, first, missing}
 use Rattle.dbus_explain.specs.Names.{field, padding, value, code_name, first_part, path_text, step_text, is_missing}

@@ -1,5 +1,5 @@
 -- The proofs of the laws that a `Draft` owes, of one that counts.
-use Rattle.std.proofs.Common.{◌≡◌, ℕ, List, [], ◌++◌, length, refl, ◌∙◌, arith, length-append}
+use Rattle.std.proofs.Common.{ℕ, List, [], ◌++◌, refl, ◌∙◌, arith, length-append}
 use Rattle.dbus_explain.specs.Counting.{Counts}
 use Rattle.dbus_explain.specs.declared.counted.Counted.{Counted}
 

@@ -1,9 +1,7 @@
-use Rattle.std.proofs.Common.{◌≡◌, ◌++◌, ℕ, List, arith, codes, length, refl, subst}
+use Rattle.std.proofs.Common.{◌≡◌, ℕ, List, arith, refl, subst}
 use Rattle.dbus_show.proofs.FieldTexts.{then}
-use Rattle.dbus_explain.specs.Counting.{Counts, counted}
+use Rattle.dbus_explain.specs.Counting.{Counts}
 use Rattle.dbus_explain.specs.CountingLaws as laws
-use Rattle.dbus_explain.specs.Explained.{place_in, window}
-use Rattle.dbus_explain.specs.Looks.{look_text}
 use Rattle.dbus_explain.specs.Rules.{rule_text}
 use Rattle.dbus_explain.specs.declared.explanation.Explanation.{Explanation}
 use Rattle.dbus_show.specs.ShownMessages.{line_feeds}
