@@ -1,13 +1,14 @@
 -- What is made and told of parts that are the same but for what was kept: the messages among them,
 -- the tally, and what is told if nothing is explained; and of the messages the texts that commands
 -- make that are the same, and exact.
-use Rattle.std.proofs.Common.{◌≡◌, ◌↔◌, if◌then◌else◌, ℕ, zero, suc, ◌+◌, Bool, true, false, ◌||◌, ◌&&◌, List, [], ◌∷◌, ◌++◌, drop, map, None, Some, Option, refl, sym, ap, ◌∙◌, subst, arith, inl, inr}
+use Rattle.std.proofs.Common.{◌≡◌, ◌↔◌, ◌⊎◌, if◌then◌else◌, codes, decimal, length, take, ℕ, zero, suc, ◌+◌, Bool, true, false, ◌||◌, ◌&&◌, List, [], ◌∷◌, ◌++◌, drop, map, None, Some, Option, refl, sym, ap, ◌∙◌, subst, arith, inl, inr}
+use Rattle.std.proofs.lemmas.List.{take_at}
 use Rattle.std.specs.FinSet.{from_list}
 use Rattle.std.specs.declared.alloc.Global.{Global}
 use Rattle.dbus_count.specs.Counting.{names_of, with_names}
 use Rattle.dbus_count.specs.declared.count.Count.{Count}
 use Rattle.dbus_device.specs.Packets.{Packets}
-use Rattle.dbus_stream.specs.Cut.{CutMessage, CutOutcome}
+use Rattle.dbus_stream.specs.Cut.{CutMessage, CutOutcome, Refused}
 use Rattle.dbus_value_model.specs.declared.fault.Fault.{Fault}
 use Rattle.dbus_value_model.specs.declared.order.Order.{Order}
 use Rattle.dbus_message_model.specs.Messages.{MessageTree, message_bytes}
@@ -26,7 +27,15 @@ use Rattle.cli_options.specs.declared.command.Command.TheVariants.{Show, Json, C
 use Rattle.cli_options.specs.declared.file_form.FileForm.{FileForm}
 use Rattle.cli_options.specs.declared.selection.Selection.{Selection}
 use Rattle.cli_options.specs.declared.settings.Settings.{Settings}
-use Rattle.cli_report.specs.Telling.{line_of}
+use Rattle.cli_report.specs.Gathering.{IsPrefixTo}
+use Rattle.cli_report.specs.Telling.{Explains, line_of, packet_member}
+use Rattle.dbus_explain.specs.Explained.{IsExplained}
+use Rattle.dbus_explain.specs.Laws.{AreOfOne, HeaderHasNoDouble}
+use Rattle.dbus_explain.specs.Members.{AreMembersOf}
+use Rattle.dbus_explain.specs.declared.message.Refused.{Refused as RefusedBytes}
+use Rattle.dbus_explain.proofs.OneText.{one_explanation, one_refusal}
+use Rattle.dbus_value_model.specs.FaultTexts.{reason_text}
+use Rattle.dbus_value_model.specs.declared.limits.Limits.{Limits}
 use Rattle.cli_report.specs.declared.telling.RefusedMessage.{RefusedMessage}
 use Rattle.cli_report.specs.declared.ending.ExitStatus.TheVariants as status
 use Rattle.cli_run.specs.Learning.{name_sender, known_after}
@@ -34,6 +43,7 @@ use Rattle.cli_run.specs.ByName.{after_messages}
 use Rattle.cli_run.specs.Inputs.{ArePlaced, BeginWithParts, Part, PassedOver, Placed, Whole}
 use Rattle.cli_run.specs.Output.{AreAlike, IsExact, form_of, framed, is_framed, IsOutputOf, IsOutputOfAll, IsTextOf, Picks, is_check, owners_after, owners_known}
 use Rattle.cli_run.specs.Going.{AreTold, IsTold, IsToldIn, IsToldLast, ShowsNone, passed_count, status_at, tally_of}
+use Rattle.cli_run.specs.Shown.{AreOneEach, Shown, last_of, passed_of}
 use Rattle.cli_run.specs.declared.place.MessagePlace.{MessagePlace}
 use Rattle.cli_run.proofs.Outputs.{output_all_one}
 use Rattle.cli_run.proofs.SameParts.{ArePassed, AreSame, IsKeptOf, bare, one_packet, packet_by}
@@ -86,6 +96,33 @@ are_passed packets settings n offset [] told t = tt
 are_passed packets settings n offset (Whole item ∷ parts) told t = are_passed packets settings (n + 1) (offset + item.size) parts t.1 t.4
 are_passed packets settings n offset (PassedOver kept fault by size ∷ parts) told t = (t.3.0, t.3.1, are_passed packets settings (n + 1) (offset + size) parts t.1 t.4)
 
+-- of bytes of one input as many were kept
+prefix_one : (w kept also : List ℕ) → IsPrefixTo kept w → IsPrefixTo also w → length kept ≡ length also → kept ≡ also
+prefix_one w kept also x y same =
+    let n = length kept in
+    sym (take_at kept x.0 n refl) ∙ (ap (λ (l : List ℕ). take n l) (sym x.1 ∙ y.1) ∙ take_at also y.0 n same)
+
+kept_one : (limits : Limits) (w kept also : List ℕ) (outcome : CutOutcome) → IsKeptOf limits outcome kept w → IsKeptOf limits outcome also w → length kept ≡ length also → kept ≡ also
+kept_one limits w kept also (Refused fault) x y same = prefix_one w kept also x.0 y.0 same
+kept_one limits w kept also outcome x y same = x ∙ sym y
+
+-- what is told of one message, of which as much was kept, is one text
+of_one : (refusal : RefusedMessage) (kept x y : List ℕ) (Is : RefusedBytes → List ℕ → Type 0) (h : Explains Is refusal kept x) (k : Explains Is refusal kept y) → AreOfOne h.refused k.refused
+of_one refusal kept x y Is h k = record { bytes = h.bytes_are ∙ sym k.bytes_are; fault = h.fault_is ∙ sym k.fault_is; number = h.number_is ∙ sym k.number_is; offset = h.offset_is ∙ sym k.offset_is }
+
+told_one : (as_json goes_on explains : Bool) (refusal : RefusedMessage) (kept x y : List ℕ) → (as_json ≡ true → HeaderHasNoDouble kept refusal.fault) → IsToldIn as_json goes_on explains refusal kept x → IsToldIn as_json goes_on explains refusal kept y → x ≡ y
+told_one true goes_on explains refusal kept x y none h k =
+    let of = of_one refusal kept h.members k.members AreMembersOf h.explains k.explains in
+    let none_there = transport (λ i. HeaderHasNoDouble (sym h.explains.bytes_are i) (sym h.explains.fault_is i)) (none refl) in
+    let members = one_refusal h.explains.refused k.explains.refused h.members k.members of none_there h.explains.explained k.explains.explained in
+    h.is ∙ ((λ i. codes "{\"refused\":\"" ++ (reason_text refusal.fault.reason ++ (codes "\",\"offset\":" ++ (decimal (refusal.offset + refusal.fault.at)
+    ++ (codes ",\"message\":" ++ (decimal refusal.number ++ (codes ",\"begins\":" ++ (decimal refusal.offset ++ (packet_member refusal.packet
+    ++ (codes "," ++ (members i ++ codes "}\n"))))))))))) ∙ sym k.is)
+told_one false goes_on false refusal kept x y none h k = h ∙ sym k
+told_one false goes_on true refusal kept x y none h k =
+    let explained = one_explanation h.1.refused k.1.refused h.0 k.0 (of_one refusal kept h.0 k.0 IsExplained h.1 k.1) h.1.explained k.1.explained in
+    h.2 ∙ (ap (λ (l : List ℕ). line_of goes_on refusal ++ l) explained ∙ sym k.2)
+
 module _ (settings : Settings) where
   -- without JSON and explanations it is a line
   module _ (off : ShowsNone settings) where
@@ -99,39 +136,62 @@ module _ (settings : Settings) where
         line_is _ kept a p
         ∙ ((λ i. line_of settings.keeps_going (record { number = number i; offset = place i; fault = one i; packet = there i })) ∙ sym (line_is _ also b q))
 
-    module _ (all : Packets) where
+  -- nothing is shown of them; or of each, one after another, as many bytes were kept
+  abbrev pub ShowAlike : List Shown → List Shown → Type 0
+  ShowAlike xs ys = ShowsNone settings ⊎ AreOneEach settings.as_json xs ys
+
+  show_first : (x y : Shown) (xs ys : List Shown) → ShowAlike (x ∷ xs) (y ∷ ys) → ShowAlike (x ∷ []) (y ∷ [])
+  show_first x y xs ys s = elim s [ inl off ↦ inl off | inr each ↦ inr (each.0, each.1, tt) ]
+
+  show_others : (x y : Shown) (xs ys : List Shown) → ShowAlike (x ∷ xs) (y ∷ ys) → ShowAlike xs ys
+  show_others x y xs ys s = elim s [ inl off ↦ inl off | inr each ↦ inr each.2 ]
+
+  -- what is told of a message with one fault, whose packet is one
+  one_text : (n m offset at : ℕ) (fault other : Fault) (packet same : Option ℕ) (kept also a b : List ℕ) → n ≡ m → offset ≡ at → fault ≡ other → packet ≡ same → (length kept ≡ length also → kept ≡ also)
+      → ShowAlike (record { kept = kept; fault = fault } ∷ []) (record { kept = also; fault = other } ∷ [])
+      → IsTold settings (record { number = n; offset = offset; fault = fault; packet = packet }) kept a → IsTold settings (record { number = m; offset = at; fault = other; packet = same }) also b → a ≡ b
+  one_text n m offset at fault other packet same kept also a b number place one there keeps shows p q = elim shows [
+    | inl off ↦ one_line off n m offset at fault other packet same kept also a b number place one there p q
+    | inr each ↦ (
+        let k = keeps each.0 in
+        told_one settings.as_json settings.keeps_going settings.explains (record { number = n; offset = offset; fault = fault; packet = packet }) kept a b each.1 p
+        (transport (λ i. IsTold settings (record { number = sym number i; offset = sym place i; fault = sym one i; packet = sym there i }) (sym k i) b) q)
+        )
+  ]
+
+  module _ (all : Packets) where
       -- parts of the same bytes are told alike
-      pub same_told : (n offset : ℕ) (bytes : List ℕ) (parts others : List Part) (rest last a b : List ℕ) → AreSame parts others → BeginWithParts settings.limits bytes parts rest
+      pub same_told : (n offset : ℕ) (bytes : List ℕ) (parts others : List Part) (rest last a b : List ℕ) → AreSame parts others → ShowAlike (passed_of parts) (passed_of others) → BeginWithParts settings.limits bytes parts rest
           → BeginWithParts settings.limits bytes others last → AreTold (Some all) settings n offset parts a → AreTold (Some all) settings n offset others b → a ≡ b
-      same_told n offset bytes [] [] rest last a b same x y p q = p ∙ sym q
-      same_told n offset bytes [] (Whole item ∷ others) rest last a b same x y p q = absurd cc
-      same_told n offset bytes [] (PassedOver kept fault by size ∷ others) rest last a b same x y p q = absurd cc
-      same_told n offset bytes (Whole item ∷ parts) [] rest last a b same x y p q = absurd cc
-      same_told n offset bytes (PassedOver kept fault by size ∷ parts) [] rest last a b same x y p q = absurd cc
-      same_told n offset bytes (Whole item ∷ parts) (PassedOver kept fault by size ∷ others) rest last a b same x y p q = absurd cc
-      same_told n offset bytes (PassedOver kept fault by size ∷ parts) (Whole item ∷ others) rest last a b same x y p q = absurd cc
-      same_told n offset bytes (Whole item ∷ parts) (Whole other ∷ others) rest last a b same x y p q =
+      same_told n offset bytes [] [] rest last a b same shows x y p q = p ∙ sym q
+      same_told n offset bytes [] (Whole item ∷ others) rest last a b same shows x y p q = absurd cc
+      same_told n offset bytes [] (PassedOver kept fault by size ∷ others) rest last a b same shows x y p q = absurd cc
+      same_told n offset bytes (Whole item ∷ parts) [] rest last a b same shows x y p q = absurd cc
+      same_told n offset bytes (PassedOver kept fault by size ∷ parts) [] rest last a b same shows x y p q = absurd cc
+      same_told n offset bytes (Whole item ∷ parts) (PassedOver kept fault by size ∷ others) rest last a b same shows x y p q = absurd cc
+      same_told n offset bytes (PassedOver kept fault by size ∷ parts) (Whole item ∷ others) rest last a b same shows x y p q = absurd cc
+      same_told n offset bytes (Whole item ∷ parts) (Whole other ∷ others) rest last a b same shows x y p q =
           let one : item ≡ other = cc in
           let more : AreSame parts others = cc in
           let there = subst (λ (i : CutMessage). BeginWithParts settings.limits (drop i.size bytes) others last) (sym one) y.1 in
           let told = subst (λ (i : CutMessage). AreTold (Some all) settings (n + 1) (offset + i.size) others q.1) (sym one) q.4 in
-          p.2 ∙ ((λ i. (p.3 ∙ sym q.3) i ++ same_told (n + 1) (offset + item.size) (drop item.size bytes) parts others rest last p.1 q.1 more x.1 there p.4 told i) ∙ sym q.2)
-      same_told n offset bytes (PassedOver kept fault by size ∷ parts) (PassedOver also other with wide ∷ others) rest last a b same x y p q =
+          p.2 ∙ ((λ i. (p.3 ∙ sym q.3) i ++ same_told (n + 1) (offset + item.size) (drop item.size bytes) parts others rest last p.1 q.1 more shows x.1 there p.4 told i) ∙ sym q.2)
+      same_told n offset bytes (PassedOver kept fault by size ∷ parts) (PassedOver also other with wide ∷ others) rest last a b same shows x y p q =
           let one : fault ≡ other = cc in
           let long : size ≡ wide = cc in
           let more : AreSame parts others = cc in
           let there = subst (λ k. BeginWithParts settings.limits (drop k bytes) others last) (sym long) y.1 in
           let told = subst (λ k. AreTold (Some all) settings (n + 1) (offset + k) others q.1) (sym long) q.4 in
           let packet = one_packet settings.limits all offset bytes kept also fault other p.3.2.0 q.3.2.0 x.0.0 y.0.0 x.0.1 y.0.1 p.3.2.1 q.3.2.1 in
-          let line : p.0 ≡ q.0 = one_line n n offset offset fault other p.3.2.0 q.3.2.0 kept also p.0 q.0 refl refl one packet p.3.2.2 q.3.2.2 in
-          p.2 ∙ ((λ i. line i ++ same_told (n + 1) (offset + size) (drop size bytes) parts others rest last p.1 q.1 more x.1 there p.4 told i) ∙ sym q.2)
+          let line : p.0 ≡ q.0 = one_text n n offset offset fault other p.3.2.0 q.3.2.0 kept also p.0 q.0 refl refl one packet (prefix_one bytes kept also x.0.0 y.0.0) (show_first _ _ _ _ shows) p.3.2.2 q.3.2.2 in
+          p.2 ∙ ((λ i. line i ++ same_told (n + 1) (offset + size) (drop size bytes) parts others rest last p.1 q.1 more (show_others _ _ _ _ shows) x.1 there p.4 told i) ∙ sym q.2)
 
       -- and the rest after them
       pub same_last : (n offset : ℕ) (w kept also : List ℕ) (outcome : CutOutcome) (fault : Option Fault) (a b : List ℕ) → IsKeptOf settings.limits outcome kept w → IsKeptOf settings.limits outcome also w
-          → IsToldLast (Some all) settings n offset kept fault a → IsToldLast (Some all) settings n offset also fault b → a ≡ b
-      same_last n offset w kept also outcome None a b x y p q = p ∙ sym q
-      same_last n offset w kept also outcome (Some fault) a b x y p q =
-          one_line n n offset offset fault fault p.0 q.0 kept also a b refl refl refl (packet_by settings.limits all offset w kept also outcome p.0 q.0 x y p.1 q.1) p.2 q.2
+          → ShowAlike (last_of kept fault) (last_of also fault) → IsToldLast (Some all) settings n offset kept fault a → IsToldLast (Some all) settings n offset also fault b → a ≡ b
+      same_last n offset w kept also outcome None a b x y shows p q = p ∙ sym q
+      same_last n offset w kept also outcome (Some fault) a b x y shows p q =
+          one_text n n offset offset fault fault p.0 q.0 kept also a b refl refl refl (packet_by settings.limits all offset w kept also outcome p.0 q.0 x y p.1 q.1) (kept_one settings.limits w kept also outcome x y) shows p.2 q.2
 
   -- nothing is told where nothing is refused
   module _ (packets : Option Packets) where

@@ -26,7 +26,7 @@ use Rattle.cli_report.specs.Devices.{Reading, Taken, Writing, taken, writing}
 use Rattle.cli_report.specs.declared.ending.Cause.{Cause}
 use Rattle.cli_report.specs.declared.ending.ExitStatus.{ExitStatus}
 use Rattle.cli_report.specs.declared.ending.ExitStatus.TheVariants as status
-use Rattle.cli_run.specs.Laws.{AreToldAlike, ExplainsNone, GotAlike, OneCalls, OneCount, OneRun, OneSums, OneWithin}
+use Rattle.cli_run.specs.Laws.{AreToldAlike, ExplainsNone, GotAlike, OneCalls, OneCount, OneRun, OneSums, OneTelling, OneWithin, ReadAlike, RunAlike}
 use Rattle.cli_run.specs.ByName.{EndsBy, WritesTables, counting, span_of}
 use Rattle.cli_run.specs.CallListing.{EndsNoted, IsNote, WritesCalls, all_named, lack_times, notes, numbered}
 use Rattle.cli_run.specs.CallSumming.{WritesSums}
@@ -35,6 +35,7 @@ use Rattle.cli_run.specs.Inputs.{ArePlaced, BeginWithParts, Part, Placed, size_o
 use Rattle.cli_run.specs.Needed.{IsReadFor}
 use Rattle.cli_run.specs.Output.{IsFilledBy, is_check, check_line, fault_line, form_of, header_before, last_line, output_of, second_output, status_of, written}
 use Rattle.cli_run.specs.Refusals.{IsFaultIn}
+use Rattle.cli_run.specs.Shown.{AllShown, AreShownAlike, last_of, passed_of, shown_of}
 use Rattle.cli_run.specs.Running.{Writes, TellsLine}
 use Rattle.cli_run.specs.Told.{first_of, second_of}
 use Rattle.cli_run.specs.VisitorLaws.{wrote_both}
@@ -42,7 +43,7 @@ use Rattle.cli_run.specs.declared.tally.Tally.{Tally}
 use Rattle.cli_options.specs.declared.file_form.FileForm.{FileForm}
 use Rattle.cli_run.proofs.Outputs.{header_one}
 use Rattle.cli_run.proofs.PartLaws.{is_last, parts_more, parts_of}
-use Rattle.cli_run.proofs.SameOutputs.{acts_as, are_passed, bare_placed, bare_tally, none_last, none_refused, none_told, one_placed, same_counts, same_last, same_outputs, same_told}
+use Rattle.cli_run.proofs.SameOutputs.{ShowAlike, acts_as, are_passed, bare_placed, bare_tally, none_last, none_refused, none_told, one_placed, same_counts, same_last, same_outputs, same_told}
 use Rattle.cli_run.proofs.SameFar.{filled_alike, items_of, not_through, same_far}
 use Rattle.cli_run.proofs.SameParts.{AreKnown, AreSame, EndsHere, IsKeptOf, bare, ends_here, packet_by, same_cut, same_parts}
 use Rattle.std.specs.List.{concat}
@@ -75,6 +76,23 @@ AreAlikeRuns t u P Q end other = (items also : List Placed) × (told : List ℕ)
 none_passed : (cut : Option (Option ℕ)) (parts : List Part) (rest : List ℕ) → (tally_with cut parts rest).passed ≡ 0 → passed_count parts ≡ 0
 none_passed None parts rest none = none
 none_passed (Some by) parts rest none = absurd (omega (arith, none))
+
+-- nothing is explained, or as many bytes of each message that is refused had been read
+abbrev TellsAlike : Settings → ExitStatus → AllShown → AllShown → Type 0
+TellsAlike settings end a b = ExplainsNone settings end ⊎ AreShownAlike settings a b
+
+abbrev shown_through : {t : Taken} {settings : Settings} {is_check : Bool} {most : ℕ} {F : List Placed → Bool → Type 0} {P : List Placed → (told : List ℕ) → Type 0} {end : ExitStatus} → GoesThrough t settings most is_check F P end → AllShown
+shown_through g = record { passed = passed_of g.through.parts; last = last_of g.through.kept g.fault }
+
+abbrev shown_far : {t : Taken} {settings : Settings} {is_check : Bool} {most : ℕ} {F : List Placed → Bool → Type 0} {N : (size : ℕ) → Type 0} {P : List Placed → (told : List ℕ) → Type 0} {end : ExitStatus} → GoesFar t settings most is_check F N P end → AllShown
+shown_far g = record { passed = passed_of g.parts; last = [] }
+
+-- then each is told alike, or nothing was refused
+by_bytes : (settings : Settings) (end : ExitStatus) (a b : AllShown) → TellsAlike settings end a b → (end ≡ status.Done) ⊎ (ShowAlike settings a.passed b.passed × ShowAlike settings a.last b.last)
+by_bytes settings end a b tells = elim tells [
+  | inl none ↦ elim none [ inl off ↦ inr (inl off, inl off) | inr done ↦ inl done ]
+  | inr alike ↦ inr (inr alike.passed, inr alike.last)
+]
 
 module _ (settings : Settings) (is_check : Bool) (input : List ℕ) (bytes : IsBytes input) where
   record IsReached {t : Taken} {most : ℕ} {tally : Tally} {fault : Option Fault} {told text : List ℕ} (h : IsThrough t settings most is_check tally fault told text) : Type 0 where
@@ -110,7 +128,7 @@ module _ (settings : Settings) (is_check : Bool) (input : List ℕ) (bytes : IsB
   -- ---- two runs
 
   module _ {t u : Taken} {most more : ℕ} {F G : List Placed → Bool → Type 0} {P Q : List Placed → (told : List ℕ) → Type 0} {end other : ExitStatus} (g : GoesThrough t settings most is_check F P end) (h : GoesThrough u settings more is_check G Q other)
-      (explains : ExplainsNone settings end) (known : t.left0 ≡ Some input) (known_too : u.left0 ≡ Some input) (alike : AreTakenAlike t u end) where
+      (explains : TellsAlike settings end (shown_through g) (shown_through h)) (known : t.left0 ≡ Some input) (known_too : u.left0 ≡ Some input) (alike : AreTakenAlike t u end) where
     a : IsReached g.through
     a = reached g.through known
 
@@ -170,22 +188,23 @@ module _ (settings : Settings) (is_check : Bool) (input : List ℕ) (bytes : IsB
         let last_too = none_last settings u.packets (length g.through.parts + 1) (sizes_of g.through.parts) h.through.kept g.fault h.text none.1 told_last in
         (λ i. first i ++ last i) ∙ sym (λ i. first_too i ++ last_too i)
 
-    -- or what is refused is of the same packets, and is not explained
-    line_is : ShowsNone settings → (all : Packets) → t.packets ≡ Some all → u.packets ≡ Some all → g.told ++ g.text ≡ h.told ++ h.text
-    line_is off all one too =
+    -- or what is refused is of the same packets, and is told alike
+    line_is : ShowAlike settings (passed_of g.through.parts) (passed_of h.through.parts) → ShowAlike settings (last_of g.through.kept g.fault) (last_of h.through.kept h.fault) → (all : Packets) → t.packets ≡ Some all → u.packets ≡ Some all → g.told ++ g.text ≡ h.told ++ h.text
+    line_is passed ending all one too =
         let parts = subst (λ (p : Option Packets). AreTold p settings 1 0 g.through.parts g.told) one g.through.covers.tells in
         let parts_too = subst (λ (p : Option Packets). AreTold p settings 1 0 h.through.parts h.told) too h.through.covers.tells in
-        let first = same_told settings off all 1 0 input g.through.parts h.through.parts a.last b.last g.told h.told same.0 a.begin b.begin parts parts_too in
+        let first = same_told settings all 1 0 input g.through.parts h.through.parts a.last b.last g.told h.told same.0 passed a.begin b.begin parts parts_too in
         let text = subst (λ (p : Option Packets). IsToldLast p settings (length g.through.parts + 1) (sizes_of g.through.parts) g.through.kept g.fault g.text) one g.through.tells.told in
         let text_too = subst (λ (p : Option Packets). IsToldLast p settings (length g.through.parts + 1) (sizes_of g.through.parts) h.through.kept g.fault h.text) too told_last in
         let kept = transport (λ i. IsKeptOf settings.limits (sym outcome_is i) h.through.kept (sym same.1 i)) b.kept_is in
-        let last = same_last settings off all (length g.through.parts + 1) (sizes_of g.through.parts) a.last g.through.kept h.through.kept g.through.tells.outcome g.fault g.text h.text a.kept_is kept text text_too in
+        let shows = subst (λ (f : Option Fault). ShowAlike settings (last_of g.through.kept g.fault) (last_of h.through.kept f)) (sym fault_is) ending in
+        let last = same_last settings all (length g.through.parts + 1) (sizes_of g.through.parts) a.last g.through.kept h.through.kept g.through.tells.outcome g.fault g.text h.text a.kept_is kept shows text text_too in
         λ i. first i ++ last i
 
     told_is : g.told ++ g.text ≡ h.told ++ h.text
-    told_is = elim explains [
-      | inl off ↦ elim alike [ inl packets ↦ line_is off packets.0 packets.1 packets.2 | inr done ↦ none_is done ]
-      | inr done ↦ none_is done
+    told_is = elim by_bytes settings end (shown_through g) (shown_through h) explains [
+      | inl done ↦ none_is done
+      | inr tells ↦ elim alike [ inl packets ↦ line_is tells.0 tells.1 packets.0 packets.1 packets.2 | inr done ↦ none_is done ]
     ]
 
     goes_alike : AreAlikeRuns t u P Q end other
@@ -212,8 +231,8 @@ module _ (settings : Settings) (is_check : Bool) (input : List ℕ) (bytes : IsB
       (g.rest ++ after.0, subst (λ l. BeginWithParts settings.limits l g.parts (g.rest ++ after.0)) (sym after.2) (parts_more settings.limits g.covers.bytes g.parts g.rest after.0 g.covers.begin))
 
   module _ {t u : Taken} {most more : ℕ} {F G : List Placed → Bool → Type 0} {P Q : List Placed → (told : List ℕ) → Type 0} {end other : ExitStatus} (one : (s l : List Placed) (x y : Bool) → items_of s ≡ items_of l → F s x → G l y → x ≡ y)
-      (explains : ExplainsNone settings end) (known : t.left0 ≡ Some input) (known_too : u.left0 ≡ Some input) (alike : AreTakenAlike t u end) where
-    module _ {N M : (size : ℕ) → Type 0} (g : GoesFar t settings most is_check F N P end) (h : GoesFar u settings more is_check G M Q other) where
+      (known : t.left0 ≡ Some input) (known_too : u.left0 ≡ Some input) (alike : AreTakenAlike t u end) where
+    module _ {N M : (size : ℕ) → Type 0} (g : GoesFar t settings most is_check F N P end) (h : GoesFar u settings more is_check G M Q other) (explains : TellsAlike settings end (shown_far g) (shown_far h)) where
       far_same : AreSame g.parts h.parts × ((far_begins g known).0 ≡ (far_begins h known_too).0)
       far_same = same_far settings.limits F G one t.packets u.packets settings.keeps_going 1 0 1 0 input g.parts h.parts _ _ g.messages h.messages [] [] refl (far_begins g known).1 (far_begins h known_too).1 g.placed h.placed g.wanted h.wanted
           g.enough.0 h.enough.0 (are_passed t.packets settings 1 0 g.parts g.told g.covers.tells) (are_passed u.packets settings 1 0 h.parts h.told h.covers.tells) g.enough.1 h.enough.1 refl
@@ -228,16 +247,16 @@ module _ (settings : Settings) (is_check : Bool) (input : List ℕ) (bytes : IsB
           let none_too : passed_count h.parts ≡ 0 = ap (λ (x : Tally). x.passed) (sym far_tally) ∙ none in
           none_told settings t.packets 1 0 g.parts g.told none g.covers.tells ∙ sym (none_told settings u.packets 1 0 h.parts h.told none_too h.covers.tells)
 
-      far_lines : ShowsNone settings → (all : Packets) → t.packets ≡ Some all → u.packets ≡ Some all → g.told ≡ h.told
-      far_lines off all here there =
+      far_lines : ShowAlike settings (passed_of g.parts) (passed_of h.parts) → (all : Packets) → t.packets ≡ Some all → u.packets ≡ Some all → g.told ≡ h.told
+      far_lines passed all here there =
           let parts = subst (λ (p : Option Packets). AreTold p settings 1 0 g.parts g.told) here g.covers.tells in
           let parts_too = subst (λ (p : Option Packets). AreTold p settings 1 0 h.parts h.told) there h.covers.tells in
-          same_told settings off all 1 0 input g.parts h.parts _ _ g.told h.told far_same.0 (far_begins g known).1 (far_begins h known_too).1 parts parts_too
+          same_told settings all 1 0 input g.parts h.parts _ _ g.told h.told far_same.0 passed (far_begins g known).1 (far_begins h known_too).1 parts parts_too
 
       far_told : g.told ≡ h.told
-      far_told = elim explains [
-        | inl off ↦ elim alike [ inl packets ↦ far_lines off packets.0 packets.1 packets.2 | inr done ↦ far_none done ]
-        | inr done ↦ far_none done
+      far_told = elim by_bytes settings end (shown_far g) (shown_far h) explains [
+        | inl done ↦ far_none done
+        | inr tells ↦ elim alike [ inl packets ↦ far_lines tells.0 packets.0 packets.1 packets.2 | inr done ↦ far_none done ]
       ]
 
       far_alike : AreAlikeRuns t u P Q end other
@@ -271,23 +290,22 @@ module _ (settings : Settings) (is_check : Bool) (input : List ℕ) (bytes : IsB
         h.placed g.placed h.wanted g.wanted (after_all u.packets h.through.cut (sizes_of h.through.parts) b.last h.through.tells.outcome b.ends) (are_passed u.packets settings 1 0 h.through.parts h.told h.through.covers.tells) (are_passed t.packets settings 1 0 g.parts g.told g.covers.tells) h.unfilled g.enough.1 refl
         (elim alike [ inl packets ↦ inl (packets.0, packets.2, packets.1) | inr done ↦ inr (inr (none_refused (passed_count g.parts) None (sym g.end_is ∙ done)).0) ])
 
-    ends_alike : {N M : (size : ℕ) → Type 0} → Goes t settings most is_check F N P end → Goes u settings more is_check G M Q other → AreAlikeRuns t u P Q end other
-    ends_alike g h = elim g [
-      | inl through ↦ elim h [ inl too ↦ goes_alike through too explains known known_too alike | inr far ↦ absurd (far_not through far) ]
-      | inr far ↦ elim h [ inl too ↦ absurd (not_far far too) | inr far_too ↦ far_alike far far_too ]
-    ]
+    ends_alike : {N M : (size : ℕ) → Type 0} (g : Goes t settings most is_check F N P end) (h : Goes u settings more is_check G M Q other) → TellsAlike settings end (shown_of g) (shown_of h) → AreAlikeRuns t u P Q end other
+    ends_alike (inl through) (inl too) explains = goes_alike through too explains known known_too alike
+    ends_alike (inl through) (inr far) explains = absurd (far_not through far)
+    ends_alike (inr far) (inl too) explains = absurd (not_far far too)
+    ends_alike (inr far) (inr far_too) explains = far_alike far far_too explains
 
 -- ---- the laws
 
-pub one_run : (R S W V E F : Type 0) → OneRun R S W V E F
-one_run R S W V E F r s w v e f settings most more command copy end other same is runs ran = elim runs [
-  | inl g ↦ elim ran [
-    | inl h ↦ (
+one_ending : {R S W V E F : Type 0} (r : Reading R) (s : Reading S) (w : Writing W) (v : Writing V) (e : Writing E) (f : Writing F) (settings : Settings) (most more : ℕ) (command copy : Command) (end other : ExitStatus) → AreSameCommand command copy
+    → ReadAlike r s → AreToldAlike r s end → (g : Goes (taken r) settings most (is_check command) (IsFilledBy command settings.window) (IsReadFor r) (Writes w e settings command) end)
+    → (h : Goes (taken s) settings more (is_check copy) (IsFilledBy copy settings.window) (IsReadFor s) (Writes v f settings copy) other) → TellsAlike settings end (shown_of g) (shown_of h) → RunAlike r s w v e f settings command copy end other
+one_ending r s w v e f settings most more command copy end other same input told g h tells =
         let acts = acts_as command copy same in
         let checks = acts.checks in
-        let input = is.input in
-        let k = subst (λ c. Goes (taken s) settings more c (IsFilledBy copy settings.window) (IsReadFor s) (Writes v f settings copy) other) (sym checks) h in
-        let all = ends_alike settings (is_check command) input.0 input.1 (filled_alike command copy acts settings.window) is.explains input.2 input.3 (taken_alike r s end end refl is.told) g k in
+        let k = subst (λ c. (k : Goes (taken s) settings more c (IsFilledBy copy settings.window) (IsReadFor s) (Writes v f settings copy) other) × TellsAlike settings end (shown_of g) (shown_of k)) (sym checks) (h, tells) in
+        let all = ends_alike settings (is_check command) input.0 input.1 (filled_alike command copy acts settings.window) input.2 input.3 (taken_alike r s end end refl told) g k.0 k.1 in
         let one = all.0 in
         let other = all.1 in
         let told = all.2 in (
@@ -309,11 +327,20 @@ one_run R S W V E F r s w v e f settings most more command copy end other same i
                 second = (second_of (is_check command) told, all.3.second, subst (λ l. Wrote f.held f.failures f.old l f.new) (sym second) all.4.second);
               },
         )
-        )
+
+pub one_run : (R S W V E F : Type 0) → OneRun R S W V E F
+one_run R S W V E F r s w v e f settings most more command copy end other same is runs ran = elim runs [
+  | inl g ↦ elim ran [
+    | inl h ↦ one_ending r s w v e f settings most more command copy end other same is.input is.told g h (inl is.explains)
     | inr gave_up ↦ absurd (is.other_done gave_up.failed)
   ]
   | inr gave_up ↦ absurd (is.done gave_up.failed)
 ]
+
+pub one_telling : (R S W V E F : Type 0) → OneTelling R S W V E F
+one_telling R S W V E F r s w v e f settings most more command copy end other same input told (inl g) (inl h) tells = one_ending r s w v e f settings most more command copy end other same input told g h (inr tells)
+one_telling R S W V E F r s w v e f settings most more command copy end other same input told (inl g) (inr gave_up) tells = absurd tells
+one_telling R S W V E F r s w v e f settings most more command copy end other same input told (inr gave_up) ran tells = absurd tells
 
 -- what is due was written
 ended : {E : Type 0} (Writes : Result (Unit {0}) Cause → Type 0) (e : Writing E) (due end : ExitStatus) → (end ≡ status.Failed → ⊥) → EndsBy Writes e due end → Writes (Ok tt) × (e.new ≡ e.old) × (end ≡ due)
@@ -345,7 +372,7 @@ one_count R S W V E F one_table r s w v e f settings form most more end other is
         let input = is.input in
         let due = (ended (WritesTables w form _ _) (writing e.held e.failures g.before e.new) g.due end is.done g.through.came.1).2 in
         let explains = due_explains settings g.due end due is.explains in
-        let all = goes_alike settings false input.0 input.1 g.through h.through explains input.2 input.3 (taken_alike r s end g.due (sym due) is.told) in
+        let all = goes_alike settings false input.0 input.1 g.through h.through (inl explains) input.2 input.3 (taken_alike r s end g.due (sym due) is.told) in
         let told = all.2 in
         let items = all.0 in
         let also = all.1 in
@@ -389,7 +416,7 @@ one_calls R S W V E F r s w v e f settings wanted most more end other is packets
         let input = is.input in
         let due = (ended_noted (WritesCalls w wanted g.through.messages) (IsNote (lack_times wanted g.through.messages) (all_named g.through.messages)) (writing e.held e.failures g.before e.new) g.due end is.done g.through.came.1).4 in
         let explains = due_explains settings g.due end due is.explains in
-        let all = goes_alike settings false input.0 input.1 g.through h.through explains input.2 input.3 (taken_alike r s end g.due (sym due) is.told) in
+        let all = goes_alike settings false input.0 input.1 g.through h.through (inl explains) input.2 input.3 (taken_alike r s end g.due (sym due) is.told) in
         let items = all.0 in
         let also = all.1 in
         let told = all.2 in
@@ -423,7 +450,7 @@ one_sums R S W V E F r s w v e f settings wanted most more end other is packets 
         let input = is.input in
         let due = (ended_noted (WritesSums w wanted g.through.messages) (IsNote (lack_times wanted g.through.messages) (numbered g.through.messages)) (writing e.held e.failures g.before e.new) g.due end is.done g.through.came.1).4 in
         let explains = due_explains settings g.due end due is.explains in
-        let all = goes_alike settings false input.0 input.1 g.through h.through explains input.2 input.3 (taken_alike r s end g.due (sym due) is.told) in
+        let all = goes_alike settings false input.0 input.1 g.through h.through (inl explains) input.2 input.3 (taken_alike r s end g.due (sym due) is.told) in
         let items = all.0 in
         let also = all.1 in
         let told = all.2 in

@@ -1,7 +1,7 @@
 -- The laws over what a command writes: of all messages and the fault after them there is an output,
 -- and of each command but `json` exactly one. And what a command does by its settings is what it
 -- does under limits alone, if they ask for no more.
-use Rattle.std.specs.Prelude.{◌≡◌, ℕ, Bool, true, false, List, [], ◌∷◌, ◌++◌, Option, ◌≢◌, ◌⊎◌, Some}
+use Rattle.std.specs.Prelude.{◌≡◌, ℕ, Bool, true, false, List, [], ◌∷◌, ◌++◌, Option, ◌≢◌, ◌⊎◌, inl, inr, Some}
 use Rattle.std.specs.List.{AllByRecursion}
 use Rattle.dbus_value_model.specs.declared.fault.Fault.{Fault}
 use Rattle.dbus_stream.specs.Cut.{CutMessage}
@@ -14,7 +14,7 @@ use Rattle.dbus_capture.specs.Reading.{IsRead}
 use Rattle.dbus_message_model.specs.Messages.{IsValidMessage}
 use Rattle.dbus_names.specs.NameStates.{NameState}
 use Rattle.cli_options.specs.declared.settings.Settings.{Settings}
-use Rattle.cli_report.specs.Devices.{reading, writing, Reading, Writing}
+use Rattle.cli_report.specs.Devices.{reading, writing, Reading, Taken, Writing}
 use Rattle.cli_report.specs.declared.ending.ExitStatus.{ExitStatus}
 use Rattle.cli_report.specs.Gathering.{IsPrefixTo}
 use Rattle.dbus_device.specs.Device.{Wrote}
@@ -27,7 +27,7 @@ use Rattle.dbus_count.specs.declared.span.Span.{Span}
 use Rattle.cli_options.specs.Selections.{AreSameCommand}
 use Rattle.cli_report.specs.declared.ending.ExitStatus.TheVariants as status
 use Rattle.cli_run.specs.Running.{Runs, RunsWith, Writes}
-use Rattle.cli_run.specs.Going.{ShowsNone}
+use Rattle.cli_run.specs.Going.{Goes, ShowsNone}
 use Rattle.cli_run.specs.Output.{AreAlike, IsExact, IsFirstOutput, IsFront, IsOutputOfAll, form_of, output_of}
 use Rattle.dbus_call_lines.specs.Listing.{AreNames}
 use Rattle.dbus_call_lines.specs.declared.wanted.Wanted.{Wanted}
@@ -35,6 +35,7 @@ use Rattle.cli_run.specs.ByName.{CountsByName}
 use Rattle.cli_run.specs.CallListing.{ListsCalls, all_named}
 use Rattle.cli_run.specs.CallSumming.{SumsCalls}
 use Rattle.cli_run.specs.Inputs.{Placed}
+use Rattle.cli_run.specs.Shown.{AreShownAlike, shown_of}
 use Rattle.cli_run.specs.LineListing.{AreLinesOf}
 use Rattle.cli_run.specs.LineNames.{first_names}
 use Rattle.cli_options.specs.declared.wanted_lines.WantedLines.{WantedLines}
@@ -135,11 +136,30 @@ pub record AreOfOneInput {R S : Type 0} (r : Reading R) (s : Reading S) (setting
   pub done : end ≢ status.Failed
   pub other_done : other ≢ status.Failed
 
+-- they end alike: if the inputs are of the same packets, with texts of the same messages; and if the
+-- command is exact, with the same bytes
+abbrev pub RunAlike : {R S W V E F : Type 0} → Reading R → Reading S → Writing W → Writing V → Writing E → Writing F → Settings → (command copy : Command) → (end other : ExitStatus) → Type 0
+RunAlike r s w v e f settings command copy end other =
+    (AreOfSamePackets r s → MadeAlike w v e f settings command copy end other) × (IsExact command → AreAlike (form_of command) (r.packets r.old) (s.packets s.old) → EndAlike w v e f end other)
+
 -- two runs of a command
 abbrev pub OneRun : (R S W V E F : Type 0) → Type 0
 OneRun R S W V E F = (r : Reading R) (s : Reading S) (w : Writing W) (v : Writing V) (e : Writing E) (f : Writing F) (settings : Settings) (most more : ℕ) (command copy : Command) (end other : ExitStatus)
     → AreSameCommand command copy → AreOfOneInput r s settings end other → RunsWith r w e settings most command end → RunsWith s v f settings more copy other
-    → (AreOfSamePackets r s → MadeAlike w v e f settings command copy end other) × (IsExact command → AreAlike (form_of command) (r.packets r.old) (s.packets s.old) → EndAlike w v e f end other)
+    → RunAlike r s w v e f settings command copy end other
+
+-- both runs did not fail, and what they told of refused messages, also as JSON or with explanations,
+-- is of as many bytes of each
+abbrev pub TellAlike : (settings : Settings) → {t u : Taken} {most more : ℕ} {is_check too : Bool} {F G : List Placed → Bool → Type 0} {N M : (size : ℕ) → Type 0} {P Q : List Placed → (told : List ℕ) → Type 0} {end other : ExitStatus} {A B : Type 0}
+    → Goes t settings most is_check F N P end ⊎ A → Goes u settings more too G M Q other ⊎ B → Type 0
+TellAlike settings (inl a) (inl b) = AreShownAlike settings (shown_of a) (shown_of b)
+TellAlike settings a b = ⊥
+
+-- two such runs of a command
+abbrev pub OneTelling : (R S W V E F : Type 0) → Type 0
+OneTelling R S W V E F = (r : Reading R) (s : Reading S) (w : Writing W) (v : Writing V) (e : Writing E) (f : Writing F) (settings : Settings) (most more : ℕ) (command copy : Command) (end other : ExitStatus)
+    → AreSameCommand command copy → ReadAlike r s → AreToldAlike r s end → (runs : RunsWith r w e settings most command end) → (ran : RunsWith s v f settings more copy other) → TellAlike settings runs ran
+    → RunAlike r s w v e f settings command copy end other
 
 -- two runs of a command under the same limits alone
 abbrev pub OneWithin : (R S W V E F : Type 0) → Type 0

@@ -12,6 +12,7 @@ pub mod Needed
 pub mod Onward
 pub mod PassingOn
 pub mod Going
+pub mod Shown
 pub mod Running
 pub mod CallListing
 pub mod LineNames

@@ -2,7 +2,7 @@
 //! and it does nothing when it runs.
 #![tactic(auto)]
 
-ghost use Rattle.cli_run.specs.Laws.{OneCalls, OneCount, OneRun, OneSums, OneWithin, OneFront, OneOutput, PlainRuns, SomeLines, SomeOutput, TellsBusNames, WritesFile};
+ghost use Rattle.cli_run.specs.Laws.{OneCalls, OneCount, OneRun, OneSums, OneWithin, OneFront, OneOutput, OneTelling, PlainRuns, SomeLines, SomeOutput, TellsBusNames, WritesFile};
 
 use dbus_count::laws::one_table;
 use dbus_stream::{Sink, Source};
@@ -45,6 +45,13 @@ pub fn plain_run<R: Source, W: Sink, E: Sink>()
 /// its fault; and of `Swap` and `Filter` that write messages as they are read.
 pub fn one_run<R, S, W, V, E, F>()
     ensures { OneRun R S W V E F }
+{}
+
+/// The same of two runs that explain what is refused, or tell it as JSON, if both had read as many
+/// bytes of each message that is refused when it was: what they tell of these is the same too. In
+/// JSON a header field of such a message has no DOUBLE.
+pub fn one_telling<R, S, W, V, E, F>()
+    ensures { OneTelling R S W V E F }
 {}
 
 /// The same of two runs of a command under the same limits alone, but `Json`, `List` and `Show`

@@ -81,13 +81,13 @@ module _ (bytes : List ℕ) (at : ℕ) where
   text_one (EntryType x y) p a b c d g h = absurd g
 
   -- an element is entered by its key or its number
-  pub entered_by : (t : TypeTree) (p q number : ℕ) (step : PathStep) → Pass bytes at t number (first_element t p) q → IsIn bytes at t q → IsStepTo bytes at t q number step
+  pub entered_by : (t : TypeTree) (p q number : ℕ) (step : PathStep) → first_element t p ≤ at → Pass bytes at t number (first_element t p) q → IsIn bytes at t q → IsStepTo bytes at t q number step
       → Enters bytes at (ArrayType t) p step t q
-  entered_by t p q number (Number n) pass is_in h = (refl, subst (λ (m : ℕ). Pass bytes at t m (first_element t p) q) (sym h.0) pass, is_in, h.1)
-  entered_by t p q number (Keyed key) pass is_in h = (refl, number, pass, is_in, h)
-  entered_by t p q number Key pass is_in h = absurd h
-  entered_by t p q number Value pass is_in h = absurd h
-  entered_by t p q number Variant pass is_in h = absurd h
+  entered_by t p q number (Number n) begun pass is_in h = (begun, refl, subst (λ (m : ℕ). Pass bytes at t m (first_element t p) q) (sym h.0) pass, is_in, h.1)
+  entered_by t p q number (Keyed key) begun pass is_in h = (begun, refl, number, pass, is_in, h)
+  entered_by t p q number Key begun pass is_in h = absurd h
+  entered_by t p q number Value begun pass is_in h = absurd h
+  entered_by t p q number Variant begun pass is_in h = absurd h
 
 -- printable characters are ASCII
 low : (b : ℕ) → is_printable b ≡ true → b < 128

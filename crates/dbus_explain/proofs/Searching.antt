@@ -5,6 +5,7 @@ use Rattle.std.proofs.lemmas.List.{drop_at, take_at}
 use Rattle.std.proofs.lemmas.List.Concat.{flat_map-append}
 use Rattle.dbus_texts.specs.Types.{TypeTree, TypeTrees, STRING, OBJECT_PATH, SIGNATURE, NumberType, TextType, VariantType, ArrayType, StructType, EntryType, NoTypes, MoreTypes, IsShaped}
 use Rattle.dbus_texts.specs.Types.{AreShaped, sig, sigs}
+use Rattle.dbus_texts.specs.declared.text_kind.TextKind.{TextKind}
 use Rattle.dbus_texts.specs.declared.text_kind.TextKind.TheVariants.{Single}
 use Rattle.dbus_texts.proofs.KindFacts.{shaped_of, are_shaped_of}
 use Rattle.dbus_types.specs.Alignments.{alignment_of}
@@ -69,15 +70,15 @@ module _ (bytes : List ℕ) (at : ℕ) where
   second k v u p (suc (suc n)) q not h = absurd h.2.2
 
   pub key_entered : (k v u : TypeTree) (p n q : ℕ) (step : PathStep) → n ≡ 0 → step ≡ Key
-      → IsAmong bytes at (MoreTypes k (MoreTypes v NoTypes)) (p + gap_to 8 p) n u q → Enters bytes at (EntryType k v) p step u q
-  key_entered k v u p n q step zero_is is h =
+      → p + gap_to 8 p ≤ at → IsAmong bytes at (MoreTypes k (MoreTypes v NoTypes)) (p + gap_to 8 p) n u q → Enters bytes at (EntryType k v) p step u q
+  key_entered k v u p n q step zero_is is at_most h =
       subst (λ (s : PathStep). Enters bytes at (EntryType k v) p s u q) (sym is)
-      (subst (λ (m : ℕ). IsAmong bytes at (MoreTypes k (MoreTypes v NoTypes)) (p + gap_to 8 p) m u q) zero_is h)
+      (at_most, subst (λ (m : ℕ). IsAmong bytes at (MoreTypes k (MoreTypes v NoTypes)) (p + gap_to 8 p) m u q) zero_is h)
 
   pub value_entered : (k v u : TypeTree) (p n q : ℕ) (step : PathStep) → (n ≡ 0 → ⊥) → step ≡ Value
-      → IsAmong bytes at (MoreTypes k (MoreTypes v NoTypes)) (p + gap_to 8 p) n u q → Enters bytes at (EntryType k v) p step u q
-  value_entered k v u p n q step not is h = subst (λ (s : PathStep). Enters bytes at (EntryType k v) p s u q) (sym is)
-      (second k v u (p + gap_to 8 p) n q not h)
+      → p + gap_to 8 p ≤ at → IsAmong bytes at (MoreTypes k (MoreTypes v NoTypes)) (p + gap_to 8 p) n u q → Enters bytes at (EntryType k v) p step u q
+  value_entered k v u p n q step not is at_most h = subst (λ (s : PathStep). Enters bytes at (EntryType k v) p s u q) (sym is)
+      (at_most, second k v u (p + gap_to 8 p) n q not h)
 
   -- ---- texts of types
 
@@ -94,14 +95,15 @@ module _ (bytes : List ℕ) (at : ℕ) where
       )
 
   pub body_typed : (n p : ℕ) (w : List ℕ) → Pass bytes at field_type n 16 p → IsSignatureField bytes at p w
+      → ((m q : ℕ) (v : List ℕ) → m < n → Pass bytes at field_type m 16 q → IsSignatureField bytes at q v → ⊥)
       → (ts : TypeTrees) × (sigs ts ≡ w) × AreShaped ts × AreBodyTypes bytes at ts
-  body_typed n p w before h =
+  body_typed n p w before h first =
       let signature = h.value.ended.is_kind.0 in
       let is : sigs signature.0 ≡ w = sym (h.value.text_is ∙ signature.2) in (
         signature.0,
         is,
         are_shaped_of signature.0 0 0 signature.1,
-        record { n = n; p = p; before = before; signature = subst (λ (s : List ℕ). IsSignatureField bytes at p s) (sym is) h },
+        record { n = n; p = p; before = before; signature = subst (λ (s : List ℕ). IsSignatureField bytes at p s) (sym is) h; first = first },
       )
 
   -- ---- a step from a type
@@ -155,8 +157,8 @@ module _ (bytes : List ℕ) (at : ℕ) where
   inside_text (EntryType k v) p start stated h = absurd h
 
   -- one text of types is at a place
-  pub typed_one : (p : ℕ) (w x : List ℕ) (q r : ℕ) → IsTyped bytes at Single p w q → IsTyped bytes at Single p x r → (w ≡ x) × (q ≡ r)
-  typed_one p w x q r a b =
+  pub typed_one : (kind : TextKind) (p : ℕ) (w x : List ℕ) (q r : ℕ) → IsTyped bytes at kind p w q → IsTyped bytes at kind p x r → (w ≡ x) × (q ≡ r)
+  typed_one kind p w x q r a b =
       let long : length w ≡ length x = let e = sym (a.measured Little) ∙ b.measured Little in cc in (
         a.text_is ∙ (ap (λ (n : ℕ). take n (drop (p + 1) bytes)) long ∙ sym b.text_is),
         a.after ∙ (ap (λ (n : ℕ). p + 1 + n + 1) long ∙ sym b.after),

@@ -86,7 +86,7 @@ line_in_fields bytes at name text (behind_fields none) = literal (codes "the hea
 line_in_body : (bytes : List ℕ) (at : ℕ) (name : List ℕ) (text : Option StatedText) → IsValueName bytes at name text → IsOneLine name
 line_in_body bytes at name text (in_value ts number t p steps u q stated types among path there) =
     after_literal (codes "body") (path_text (Number number ∷ steps)) refl (line_path (Number number ∷ steps))
-line_in_body bytes at name text behind_values = literal (codes "the end of the body") refl
+line_in_body bytes at name text (behind_values none) = literal (codes "the end of the body") refl
 
 line_name : (bytes : List ℕ) (reason : Reason) (at : ℕ) (name : List ℕ) (text : Option StatedText) → IsNameOf bytes reason at name text → IsOneLine name
 line_name bytes reason at name text (first h) = line_first at

@@ -62,7 +62,7 @@ module _ (bytes : List ℕ) (at : ℕ) where
 
   -- ---- fields
 
-  abbrev Spelt : List FieldTree → (p q : ℕ) → Type 0
+  abbrev pub Spelt : List FieldTree → (p q : ℕ) → Type 0
   Spelt fs p q = SpelledAll (bounds_of specification) (order_of bytes) DEPTH_LIMIT p (drop p bytes) (value_trees (map field_struct fs)) q (drop q bytes)
 
   before_others : (n p q : ℕ) (fs : List FieldTree) (end : ℕ) → Pass bytes at field_type n p q → Spelt fs q end → (gs : List FieldTree) × Spelt gs p end

@@ -11,3 +11,4 @@ pub mod Escaping
 pub mod EscapingLaws
 pub mod Heads
 pub mod Members
+pub mod Laws

@@ -7,7 +7,7 @@ use Rattle.dbus_value_model.specs.declared.fault.Reason.TheVariants.{FieldMissin
 use Rattle.dbus_show.specs.ShownMessages.{field_name}
 use Rattle.dbus_show.specs.ShownValues.{quoted}
 use Rattle.dbus_texts.specs.Types.{TypeTree, TypeTrees}
-use Rattle.dbus_explain.specs.Places.{AreBodyTypes, IsAmong, IsInField, IsInFieldText, IsInText, IsPath, body_begin, fields_end}
+use Rattle.dbus_explain.specs.Places.{AreBodyTypes, IsAmong, IsAmongNone, IsInField, IsInFieldText, IsInText, IsWholePath, body_begin, fields_end}
 use Rattle.dbus_explain.specs.declared.search.StatedText.{StatedText}
 use Rattle.dbus_explain.specs.declared.path.PathStep.{PathStep}
 use Rattle.dbus_explain.specs.declared.path.PathStep.TheVariants.{Number, Keyed, Key, Value, Variant}
@@ -63,12 +63,12 @@ pub data IsFieldName (bytes : List ℕ) (at : ℕ) : List ℕ → Option StatedT
   behind_fields : ((p code : ℕ) → IsInField bytes at p code → ⊥) → IsFieldName bytes at (codes "the header fields") None
 
 -- the name of a place in the body: the path to the value that it is in, by its number among the
--- values of the body and the steps from there on, and the text that it is in; or behind the values
+-- values of the body and the steps from there on, and the text that it is in; or it is in none
 pub data IsValueName (bytes : List ℕ) (at : ℕ) : List ℕ → Option StatedText → Type 0 where
   in_value : (ts : TypeTrees) (number : ℕ) (t : TypeTree) (p : ℕ) (steps : List PathStep) (u : TypeTree) (q : ℕ) (text : Option StatedText) → AreBodyTypes bytes at ts
       → IsAmong bytes at ts (body_begin bytes) number t p
-      → IsPath bytes at t p steps u q → IsTextIf (IsInText bytes at u q) text → IsValueName bytes at (codes "body" ++ path_text (Number number ∷ steps)) text
-  behind_values : IsValueName bytes at (codes "the end of the body") None
+      → IsWholePath bytes at t p steps u q → IsTextIf (IsInText bytes at u q) text → IsValueName bytes at (codes "body" ++ path_text (Number number ∷ steps)) text
+  behind_values : ((ts : TypeTrees) → AreBodyTypes bytes at ts → IsAmongNone bytes at ts (body_begin bytes)) → IsValueName bytes at (codes "the end of the body") None
 
 -- the name of the place of a fault in a message, and the text that it is in, if it is in one
 pub data IsNameOf (bytes : List ℕ) (reason : Reason) (at : ℕ) : List ℕ → Option StatedText → Type 0 where

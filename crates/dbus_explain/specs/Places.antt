@@ -66,6 +66,10 @@ module _ (bytes : List ℕ) (at : ℕ) where
   IsAmong (MoreTypes t ts) p zero u q = (u ≡ t) × (q ≡ p) × IsIn t p
   IsAmong (MoreTypes t ts) p (suc n) u q = (r : ℕ) × Passes t p r × IsAmong ts r n u q
 
+  -- it is in none of them
+  abbrev pub IsAmongNone : TypeTrees → (p : ℕ) → Type 0
+  IsAmongNone ts p = (n : ℕ) (u : TypeTree) (q : ℕ) → IsAmong ts p n u q → ⊥
+
   -- the text w of a type or of several is at p, after its length, and ends at q
   pub record IsTyped (kind : TextKind) (p : ℕ) (w : List ℕ) (q : ℕ) : Type 0 where
     pub measured : (order : Order) → number order 1 at (text_row at) p (drop p bytes) ≡ Done (length w) (p + 1) (drop (p + 1) bytes)
@@ -90,18 +94,29 @@ module _ (bytes : List ℕ) (at : ℕ) where
   -- the place is in a value of type t at p, and in it in the value of type u at q, to which the
   -- step leads
   abbrev pub Enters : TypeTree → (p : ℕ) → PathStep → (u : TypeTree) → (q : ℕ) → Type 0
-  Enters (ArrayType t) p (Number n) u q = (u ≡ t) × Pass t n (first_element t p) q × IsIn t q × ((key : List ℕ) → IsKeyOf t q key → ⊥)
-  Enters (ArrayType t) p (Keyed key) u q = (u ≡ t) × (n : ℕ) × Pass t n (first_element t p) q × IsIn t q × IsKeyOf t q key.now
-  Enters (StructType ts) p (Number n) u q = IsAmong ts (p + gap_to 8 p) n u q
-  Enters (EntryType k v) p Key u q = IsAmong (MoreTypes k (MoreTypes v NoTypes)) (p + gap_to 8 p) 0 u q
-  Enters (EntryType k v) p Value u q = IsAmong (MoreTypes k (MoreTypes v NoTypes)) (p + gap_to 8 p) 1 u q
-  Enters VariantType p Variant u q = IsTyped Single p (sig u) q
+  Enters (ArrayType t) p (Number n) u q = (first_element t p ≤ at) × (u ≡ t) × Pass t n (first_element t p) q × IsIn t q × ((key : List ℕ) → IsKeyOf t q key → ⊥)
+  Enters (ArrayType t) p (Keyed key) u q = (first_element t p ≤ at) × (u ≡ t) × (n : ℕ) × Pass t n (first_element t p) q × IsIn t q × IsKeyOf t q key.now
+  Enters (StructType ts) p (Number n) u q = (p + gap_to 8 p ≤ at) × IsAmong ts (p + gap_to 8 p) n u q
+  Enters (EntryType k v) p Key u q = (p + gap_to 8 p ≤ at) × IsAmong (MoreTypes k (MoreTypes v NoTypes)) (p + gap_to 8 p) 0 u q
+  Enters (EntryType k v) p Value u q = (p + gap_to 8 p ≤ at) × IsAmong (MoreTypes k (MoreTypes v NoTypes)) (p + gap_to 8 p) 1 u q
+  Enters VariantType p Variant u q = (q ≤ at) × IsTyped Single p (sig u) q
   Enters t p step u q = ⊥
+
+  -- it is in no value in that one
+  abbrev pub EntersNone : TypeTree → (p : ℕ) → Type 0
+  EntersNone t p = (step : PathStep) (u : TypeTree) (q : ℕ) → Enters t p step u q → ⊥
 
   -- the steps from a value to one in it, of type u at q, that the place is in
   abbrev pub IsPath : TypeTree → (p : ℕ) → List PathStep → (u : TypeTree) → (q : ℕ) → Type 0
   IsPath t p [] u q = (u ≡ t) × (q ≡ p)
   IsPath t p (step ∷ steps) u q = (v : TypeTree) × (r : ℕ) × Enters t p step v r × IsPath v r steps u q
+
+  -- the steps go as far as they can, but there are 128 at most: 64 containers, and a dict entry in
+  -- each
+  pub record IsWholePath (t : TypeTree) (p : ℕ) (steps : List PathStep) (u : TypeTree) (q : ℕ) : Type 0 where
+    pub path : IsPath t p steps u q
+    pub few : length steps ≤ 128
+    pub ends : length steps < 128 → EntersNone u q
 
   -- the place is in the header field at p, of this code, which is its first byte, after the padding,
   -- and comes at the place or before it
@@ -127,13 +142,15 @@ module _ (bytes : List ℕ) (at : ℕ) where
     pub typed : IsTyped Signature (p + gap_to 8 p + 1) variant q
     pub r : ℕ
     pub value : IsTyped Signature q w r
+    pub within : r ≤ at
 
-  -- a header field says that the values of the body have these types
+  -- the first such header field says that the values of the body have these types
   pub record AreBodyTypes (ts : TypeTrees) : Type 0 where
     pub n : ℕ
     pub p : ℕ
     pub before : Pass field_type n 16 p
     pub signature : IsSignatureField p (sigs ts)
+    pub first : (m q : ℕ) (w : List ℕ) → m < n → Pass field_type m 16 q → IsSignatureField q w → ⊥
 
 -- the step to an element of type t at q: by its key, if it has one, else by its number
 abbrev pub IsStepTo : (bytes : List ℕ) (at : ℕ) → TypeTree → (q number : ℕ) → PathStep → Type 0

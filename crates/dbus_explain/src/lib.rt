@@ -14,6 +14,7 @@ mod counted;
 mod escaping;
 mod explanation;
 mod head;
+pub mod laws;
 mod looks;
 mod members;
 mod message;

@@ -30,8 +30,9 @@ use dbus_value_model::Reason;
 /// "place":"the serial","rule":"a serial is not 0 (..)","header":{"order":"l","type":"error"}
 /// ```
 ///
-/// Any bytes and any fault are safe, and only the draft allocates. RFC 8259; D-Bus Specification,
-/// "Message Format" and "Header Fields".
+/// Any bytes and any fault are safe, and only the draft allocates. There is one such text, but for
+/// the digits of DOUBLEs in header fields ([`laws::one_refusal`](crate::laws::one_refusal)). RFC
+/// 8259; D-Bus Specification, "Message Format" and "Header Fields".
 pub fn write_refusal_members<D: Draft>(draft: &mut D, refused: &Refused)
     ensures { (text : List ℕ) × AreMembersOf refused.now text × D.gains draft.old text draft.new }
 {

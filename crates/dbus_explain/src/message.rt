@@ -35,15 +35,16 @@ pub struct Refused<'a> {
 /// other one in it; three if the message type is not whole before the place of the fault.
 ///
 /// The first has the message's number and where it begins, the place of the fault from there, and
-/// its name: a part of the header, a header field, or the path to a value, such as
-/// `body[1][3].key`, in which arrays and structs count from 0, and a dict entry is named by its
-/// key, as in `body[1]["Title"].value`, if that is a text of 64 bytes at most, of printable ASCII,
-/// that is whole before the place; and if the place is in a text, behind its length, where the text
-/// begins and the length that is stated. The second is the head of the message as it is shown, as
-/// far as it is whole before the place: its number, byte order and type, and, if the first 16 bytes
-/// are whole, the serial, the flags, and the header fields that are; control characters of ASCII
-/// there are `\x1b` and hidden characters `\u{202e}`. The third has the bytes around the place in
-/// hexadecimal, and the one there between brackets, which are empty at the end of what was read.
+/// its name: a part of the header, a header field, or the path to a value, the longest of at most
+/// 128 steps, such as `body[1][3].key`, in which arrays and structs count from 0, and a dict entry
+/// is named by its key, as in `body[1]["Title"].value`, if that is a text of 64 bytes at most, of
+/// printable ASCII, that is whole before the place; and if the place is in a text, behind its
+/// length, where the text begins and the length that is stated. The second is the head of the
+/// message as it is shown, as far as it is whole before the place: its number, byte order and type,
+/// and, if the first 16 bytes are whole, the serial, the flags, and the header fields that are;
+/// control characters of ASCII there are `\x1b` and hidden characters `\u{202e}`. The third has the
+/// bytes around the place in hexadecimal, and the one there between brackets, which are empty at
+/// the end of what was read.
 /// The last says what has to be there, and names the section of the D-Bus Specification; if the
 /// very first byte of the input is refused, it also says what that looks like, as a handshake, an
 /// ELF program, a gzip, xz or zstd file, or text, and what to do.
@@ -56,8 +57,9 @@ pub struct Refused<'a> {
 /// ```
 ///
 /// It returns where their parts are. Of a place past the bytes, their end is named and shown. Any
-/// bytes and any fault are safe, and only the draft allocates. Not proved: that a path goes as far
-/// as it can. D-Bus Specification, "Message Protocol".
+/// bytes and any fault are safe, and only the draft allocates. There is one such text
+/// ([`laws::one_explanation`](crate::laws::one_explanation)). D-Bus Specification, "Message
+/// Protocol".
 pub fn explain_message<D: Draft>(draft: &mut D, refused: &Refused) -> Explanation
     ensures { (text : List ℕ) × (is : IsExplained refused.now text) ×
         ArePartsOf is result × D.gains draft.old text draft.new }

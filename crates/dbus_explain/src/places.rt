@@ -5,8 +5,9 @@ ghost use Rattle.std.specs.Prelude.{◌≡◌, ◌<◌, ◌≤◌, ◌^◌, ℕ,
 ghost use Rattle.dbus_texts.specs.Types.{TypeTree, TypeTrees, IsShaped, AreShaped, sig, sigs};
 ghost use Rattle.dbus_explain.specs.Names.{IsFieldName, IsNameOf, IsValueName, code_name};
 ghost use Rattle.dbus_explain.specs.Names.{first_part, path_text, text_part};
-ghost use Rattle.dbus_explain.specs.Places.{AreBodyTypes, IsAmong, IsInField, IsPath};
-ghost use Rattle.dbus_explain.specs.Places.{IsSignatureField, body_begin, fields_end, order_of};
+ghost use Rattle.dbus_explain.specs.Places.{AreBodyTypes, IsAmong, IsAmongNone, IsInField};
+ghost use Rattle.dbus_explain.specs.Places.{IsSignatureField, IsWholePath, body_begin, fields_end};
+ghost use Rattle.dbus_explain.specs.Places.{order_of};
 ghost use Rattle.dbus_explain.specs.declared.path.PathStep.{PathStep as StepTo};
 
 use crate::path::{PathStep, write_step};
@@ -169,10 +170,13 @@ fn write_value<D: Draft>(draft: &mut D, search: &Search, body: usize) -> Option<
 fn body_value<'a>(search: &Search<'a>, body: usize) -> Option<(usize, ValuePlace<'a>)>
     requires within { body ≤ search.now.at }
     requires fields { 16 ≤ search.now.at }
-    ensures { IfSome result (λ r. (ts : TypeTrees) × (t : TypeTree) ×
+    ensures some { IfSome result (λ r. (ts : TypeTrees) × (t : TypeTree) ×
         AreBodyTypes search.now.bytes.now search.now.at ts ×
         (sig t ≡ r.1.types.now) × IsShaped true t ×
         IsAmong search.now.bytes.now search.now.at ts body r.0 t r.1.place) }
+    ensures none { result ≡ None → (ts : TypeTrees) →
+        AreBodyTypes search.now.bytes.now search.now.at ts →
+        IsAmongNone search.now.bytes.now search.now.at ts body }
 {
     let types = body_types(search)?;
     search.among(ValuePlace { types, place: body })
@@ -187,7 +191,8 @@ fn write_steps<'a, D: Draft>(
     ensures { (steps : List StepTo) × D.gains draft.old (path_text steps) draft.new ×
         ((t : TypeTree) → sig t ≡ value.entry.types.now → IsShaped true t →
         (u : TypeTree) × (sig u ≡ result.types.now) ×
-        IsPath search.now.bytes.now search.now.at t value.entry.place steps u result.place) }
+        IsWholePath search.now.bytes.now search.now.at t value.entry.place steps u
+        result.place) }
 {
     let mut spot = value;
     for _ in 0..MOST_ENTERED {
@@ -216,8 +221,10 @@ pub(crate) fn write_text_part<D: Draft>(draft: &mut D, text: Option<StatedText>)
 // The types of the body, by the first SIGNATURE field, which is a variant.
 fn body_types<'a>(search: &Search<'a>) -> Option<&'a [u8]>
     requires { 16 ≤ search.now.at }
-    ensures { IfSome result (λ types. (ts : TypeTrees) × (sigs ts ≡ types.now) × AreShaped ts ×
-        AreBodyTypes search.now.bytes.now search.now.at ts) }
+    ensures some { IfSome result (λ types. (ts : TypeTrees) × (sigs ts ≡ types.now) ×
+        AreShaped ts × AreBodyTypes search.now.bytes.now search.now.at ts) }
+    ensures none { result ≡ None → (ts : TypeTrees) →
+        AreBodyTypes search.now.bytes.now search.now.at ts → ⊥ }
 {
     let mut place = FIELDS;
     for _ in 0..search.bytes.len() {
@@ -234,8 +241,10 @@ fn body_types<'a>(search: &Search<'a>) -> Option<&'a [u8]>
 
 // The signature in a header field at this place, if that is a SIGNATURE field.
 fn signature_field<'a>(search: &Search<'a>, place: usize) -> Option<&'a [u8]>
-    ensures { IfSome result (λ types. IsSignatureField search.now.bytes.now search.now.at place
-        types.now) }
+    ensures some { IfSome result (λ types. IsSignatureField search.now.bytes.now search.now.at
+        place types.now) }
+    ensures none { result ≡ None → (w : List ℕ) →
+        IsSignatureField search.now.bytes.now search.now.at place w → ⊥ }
 {
     let code = search.aligned(place, b'(')?;
     if code >= search.bytes.len() || search.bytes[code] != SIGNATURE {

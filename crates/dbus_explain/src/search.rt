@@ -11,9 +11,9 @@ ghost use Rattle.dbus_texts.specs.Types.{sigs};
 ghost use Rattle.dbus_types.specs.Alignments.{alignment_of};
 ghost use Rattle.dbus_types.specs.SignatureCodes.{first_code};
 ghost use Rattle.dbus_value_model.specs.Bytes.{gap_to};
-ghost use Rattle.dbus_explain.specs.Places.{IsAmong, IsIn, IsInFieldText, IsInText, IsKeyOf};
-ghost use Rattle.dbus_explain.specs.Places.{IsStepTo, IsTyped, Leads, Pass, Passes, is_printable};
-ghost use Rattle.dbus_explain.specs.Places.{order_of};
+ghost use Rattle.dbus_explain.specs.Places.{EntersNone, IsAmong, IsAmongNone, IsIn, IsInFieldText};
+ghost use Rattle.dbus_explain.specs.Places.{IsInText, IsKeyOf, IsStepTo, IsTyped, Leads, Pass};
+ghost use Rattle.dbus_explain.specs.Places.{Passes, is_printable, order_of};
 
 use crate::path::PathStep;
 use dbus_types::{TextKind, boundary, type_end};
@@ -131,6 +131,8 @@ impl<'a> Search<'a> {
             AreShaped ts →
             (t : TypeTree) × (sig t ≡ r.1.types.now) × IsShaped true t ×
             IsAmong self.now.bytes.now self.now.at ts values.entry.place r.0 t r.1.place) }
+        ensures none { result ≡ None → (ts : TypeTrees) → sigs ts ≡ values.entry.types.now →
+            AreShaped ts → IsAmongNone self.now.bytes.now self.now.at ts values.entry.place }
         ensures within { IfSome result (λ r. r.1.place ≤ self.now.at) }
     {
         let mut types = values.types;
@@ -177,6 +179,8 @@ impl<'a> Search<'a> {
     fn element(&self, types: &'a [u8], place: usize) -> Option<(PathStep<'a>, ValuePlace<'a>)>
         ensures leads { IfSome result (λ r. (t : TypeTree) → sig t ≡ types.now → IsShaped true t →
             Leads self.now.bytes.now self.now.at (ArrayType t) place r.0 r.1) }
+        ensures none { result ≡ None → (t : TypeTree) → sig t ≡ types.now → IsShaped true t →
+            EntersNone self.now.bytes.now self.now.at (ArrayType t) place }
         ensures within { IfSome result (λ r. r.1.place ≤ self.now.at) }
     {
         let [code, ..] = types else {
@@ -232,6 +236,8 @@ impl<'a> Search<'a> {
     fn member(&self, types: &'a [u8], place: usize) -> Option<(PathStep<'a>, ValuePlace<'a>)>
         ensures leads { IfSome result (λ r. (ts : TypeTrees) → sigs ts ≡ types.now → AreShaped ts →
             Leads self.now.bytes.now self.now.at (StructType ts) place r.0 r.1) }
+        ensures none { result ≡ None → (ts : TypeTrees) → sigs ts ≡ types.now → AreShaped ts →
+            EntersNone self.now.bytes.now self.now.at (StructType ts) place }
         ensures within { IfSome result (λ r. r.1.place ≤ self.now.at) }
     {
         let place = self.aligned(place, b'(')?;
@@ -245,6 +251,10 @@ impl<'a> Search<'a> {
             sigs (MoreTypes k (MoreTypes v NoTypes)) ≡ types.now →
             AreShaped (MoreTypes k (MoreTypes v NoTypes)) →
             Leads self.now.bytes.now self.now.at (EntryType k v) place r.0 r.1) }
+        ensures none { result ≡ None → (k v : TypeTree) →
+            sigs (MoreTypes k (MoreTypes v NoTypes)) ≡ types.now →
+            AreShaped (MoreTypes k (MoreTypes v NoTypes)) →
+            EntersNone self.now.bytes.now self.now.at (EntryType k v) place }
         ensures within { IfSome result (λ r. r.1.place ≤ self.now.at) }
     {
         let place = self.aligned(place, b'{')?;
@@ -261,6 +271,8 @@ impl<'a> Search<'a> {
     fn inner(&self, place: usize) -> Option<(PathStep<'a>, ValuePlace<'a>)>
         ensures leads { IfSome result (λ r. Leads self.now.bytes.now self.now.at VariantType place
             r.0 r.1) }
+        ensures none { result ≡ None →
+            EntersNone self.now.bytes.now self.now.at VariantType place }
         ensures within { IfSome result (λ r. r.1.place ≤ self.now.at) }
     {
         let spot = self.typed(place, TextKind::Single)?;
@@ -325,6 +337,9 @@ impl<'a> Search<'a> {
         ensures leads { IfSome result (λ r. (t : TypeTree) → sig t ≡ spot.entry.types.now →
             IsShaped true t →
             Leads self.now.bytes.now self.now.at t spot.entry.place r.0 r.1) }
+        ensures none { result ≡ None → (t : TypeTree) → sig t ≡ spot.entry.types.now →
+            IsShaped true t →
+            EntersNone self.now.bytes.now self.now.at t spot.entry.place }
         ensures within { IfSome result (λ r. r.1.place ≤ self.now.at) }
     {
         match spot.types {

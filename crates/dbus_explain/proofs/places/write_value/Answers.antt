@@ -1,7 +1,7 @@
 use Rattle.std.proofs.Common.{ℕ, ◌∷◌, ◌++◌, codes, subst}
 use Rattle.dbus_show.proofs.FieldTexts.{then}
 use Rattle.dbus_explain.specs.Names.{behind_values, in_value, path_text}
-use Rattle.dbus_explain.specs.Places.{IsAmong}
+use Rattle.dbus_explain.specs.Places.{IsAmong, IsAmongNone}
 use Rattle.dbus_explain.specs.declared.path.PathStep.TheVariants.{Number}
 use Rattle.dbus_explain.proofs.Searching.{some_map, text_if}
 use Rattle.dbus_explain.proofs.places.write_value.Goals as goal
@@ -9,7 +9,7 @@ use Rattle.dbus_explain.proofs.places.write_value.Goals as goal
 pub returns-in-Some : goal.returns-in-Some
 returns-in-Some g c =
     let search = c.args.search.now in
-    let found = c.in-Some.ensures in
+    let found = c.in-Some.ensures.some in
     let value = c.in-Some.value in
     let number = c.in-Some.number in
     let steps = c.write_steps-last.ensures.0 in
@@ -25,4 +25,9 @@ returns-in-Some g c =
     )
 
 pub returns-in-None : goal.returns-in-None
-returns-in-None g c = (codes "the end of the body", behind_values, c.push_str-in-None.ensures)
+returns-in-None g c =
+    let search = c.args.search.now in (
+      codes "the end of the body",
+      behind_values (λ ts types. subst (λ (b : ℕ). IsAmongNone search.bytes.now search.at ts b) c.requires.begin (c.body_value.ensures.none c.in-None.is ts types)),
+      c.push_str-in-None.ensures,
+    )

@@ -28,7 +28,7 @@ returns-clause-none c = λ none start stated is.
     let value = c.in_ok-value.value in
     let code : c.in_ok-code.code ≡ c.args.field + gap_to 8 c.args.field = c.in_ok-code.ensures.gap field_type refl in
     let here = subst (λ (n : ℕ). IsTyped self.bytes.now self.at Single (n + 1) value.types.now value.place) code c.in_ok-value.ensures.typed in
-    let one = typed_one self.bytes.now self.at (c.args.field + gap_to 8 c.args.field + 1) (sig is.0) value.types.now is.1 value.place is.2 here in
+    let one = typed_one self.bytes.now self.at Single (c.args.field + gap_to 8 c.args.field + 1) (sig is.0) value.types.now is.1 value.place is.2 here in
     c.text.ensures.none none is.0 one.0 start stated (subst (λ (n : ℕ). IsInText self.bytes.now self.at is.0 n start stated) one.1 is.3)
 
 pub returns-clause-some : goal.returns-clause-some
