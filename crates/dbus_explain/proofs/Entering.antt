@@ -1,5 +1,5 @@
 -- Where a search enters no value.
-use Rattle.std.proofs.Common.{◌≡◌, ℕ, zero, suc, ◌+◌, ◌-◌, ◌<◌, ◌≤◌, List, [], ◌∷◌, ◌++◌, append_assoc, get_or, length, drop, true, refl, sym, ap, ◌∙◌, subst, arith}
+use Rattle.std.proofs.Common.{◌≡◌, ℕ, zero, suc, ◌+◌, ◌-◌, ◌<◌, ◌≤◌, List, [], ◌∷◌, ◌++◌, append_assoc, get_or, length, true, refl, sym, ap, ◌∙◌, subst, arith}
 use Rattle.dbus_texts.specs.Types.{TypeTree, TypeTrees, NumberType, TextType, VariantType, ArrayType, StructType, EntryType, NoTypes, MoreTypes, IsShaped, sig, sigs}
 use Rattle.dbus_texts.specs.declared.text_kind.TextKind.TheVariants.{Single}
 use Rattle.dbus_types.proofs.TypeCodes.{no_text_of}

@@ -1,5 +1,5 @@
 -- What is said of a refused message is one text.
-use Rattle.std.proofs.Common.{◌≡◌, ℕ, suc, ◌+◌, ◌<◌, ◌≤◌, List, [], ◌∷◌, ◌++◌, codes, decimal, Bool, true, false, cond, nat_eq, ◌&&◌, if◌then◌else◌, filter, min, not, Option, refl, sym, ap, ◌∙◌, subst, arith}
+use Rattle.std.proofs.Common.{◌≡◌, ℕ, ◌+◌, List, [], ◌∷◌, ◌++◌, codes, decimal, Bool, true, false, cond, nat_eq, ◌&&◌, if◌then◌else◌, filter, min, not, Option, refl, sym, ap, ◌∙◌, subst, arith}
 use Rattle.std.specs.List.{enumerate_from, flat_map}
 use Rattle.std.proofs.Math.Path.{transport}
 use Rattle.dbus_texts.specs.Types.{DOUBLE, sig}
@@ -10,11 +10,11 @@ use Rattle.dbus_value_model.specs.declared.order.Order.{Order}
 use Rattle.dbus_message_model.specs.Messages.{FieldTree, is_known}
 use Rattle.dbus_show.specs.ShownMessages.{field_name}
 use Rattle.dbus_value_text.specs.Forms.{AreFieldTexts}
-use Rattle.dbus_json.specs.JsonMessages.{AreFields, IsJsonHeader, IsKnown, IsOther, front_members, head_members, is_before_known, known_fields, other_fields, place_members}
+use Rattle.dbus_json.specs.JsonMessages.{IsJsonHeader, IsKnown, IsOther, head_members, is_before_known, known_fields, other_fields, place_members}
 use Rattle.dbus_json.specs.JsonValues.{AreJson, IsJson, array, listed, member, object, plain, string}
-use Rattle.dbus_explain.specs.Explained.{IsExplained, bytes_line, place_in, rule_line}
+use Rattle.dbus_explain.specs.Explained.{bytes_line, place_in, rule_line}
 use Rattle.dbus_explain.specs.Heads.{AreWhole, IsHead, flags_of, head_lines, kind_of, serial_of}
-use Rattle.dbus_explain.specs.Laws.{AreOfOne, FieldsHaveNoDouble, HasNoDouble, HaveNoDouble, HeaderHasNoDouble, OneExplanation, OneRefusal}
+use Rattle.dbus_explain.specs.Laws.{AreOfOne, FieldsHaveNoDouble, HasNoDouble, HaveNoDouble, OneExplanation, OneRefusal}
 use Rattle.dbus_explain.specs.Looks.{look_of}
 use Rattle.dbus_explain.specs.Members.{AreMembersOf, IsJsonHead}
 use Rattle.dbus_explain.specs.Members as members

@@ -1,5 +1,4 @@
 use Rattle.std.proofs.Common.{rules, ◌≡◌, ℕ, suc, List, length, sym, ap, ◌∙◌, subst, arith, zero-add, add-zero, refl}
-use Rattle.dbus_texts.specs.Types.{sigs}
 use Rattle.dbus_explain.specs.Places.{IsAmong}
 use Rattle.dbus_explain.proofs.Searching.{among_first, among_later, split_types}
 use Rattle.dbus_explain.proofs.Entering.{among_behind, among_nothing}

@@ -1,6 +1,6 @@
 use Rattle.dbus_texts.specs.Types.{ArrayType, StructType, EntryType, TypeTree, IsShaped}
 use Rattle.dbus_types.proofs.TypeCodes.{array_is, struct_is, entry_is, struct_shaped, entry_shaped}
-use Rattle.std.proofs.Common.{rules, refl, sym, subst, true}
+use Rattle.std.proofs.Common.{rules, sym, subst, true}
 use Rattle.dbus_explain.specs.Places.{EntersNone}
 use Rattle.dbus_explain.proofs.Searching.{leads_by, some_map}
 use Rattle.dbus_explain.proofs.Entering.{none_in}
