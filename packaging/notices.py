@@ -29,11 +29,11 @@ def kit_crates(names):
 
 
 def notices(crates):
-    """The licences, each below the name of its crate and its file."""
+    """The licences, each below the name of its crate and its file. A crate that was not ported from elsewhere may have none."""
     for name in kit_crates(crates):
         licences = sorted((kit_folder() / name).glob("LICENSE*"))
         if not licences:
-            sys.exit(f"{name} of the kit has no licence file")
+            yield f"{name}\n\nA part of the Rattle kit, which has no licence file of this crate.\n\n"
         for licence in licences:
             yield f"{name}, {licence.name}\n\n{licence.read_text().strip()}\n\n"
 
