@@ -70,6 +70,9 @@ SHARED = $(ROOM)/$(SONAME)
 # The calls of malloc, realloc and free, which are C: an object that the archive needs. The kit has it for x86-64.
 HEAP_OBJECT = heap.pic.o
 HEAP = cd $(ROOM) && $(AR) x $(dir $(firstword $(shell rt doc)))c/liblibc_c.a $(HEAP_OBJECT)
+# What the kit names those calls, and what the library does.
+HEAP_NAMES = $(foreach call,alloc realloc dealloc,--redefine-sym rattle_$(call)=dbus_wire_$(call))
+OBJCOPY ?= objcopy
 # Another system that the library is built for, by GNU's name: the kit's name of it, its tools, and what runs its programs here.
 ifeq ($(origin TARGET),command line)
 ifneq ($(TARGET) $(filter-out library test-c install-c install-shared install-dev,$(or $(MAKECMDGOALS),run)),aarch64-linux-gnu )
@@ -79,6 +82,7 @@ KIT_TARGET = --target aarch64-unknown-linux-gnu
 ROOM = out/$(TARGET)
 CC = $(TARGET)-gcc
 AR = $(TARGET)-ar
+OBJCOPY = $(TARGET)-objcopy
 HEAP = $(CC) -std=c99 -O2 -fPIC -c -o $(ROOM)/$(HEAP_OBJECT) packaging/heap.c
 RUN = qemu-aarch64-static -L /usr/$(TARGET)
 RUN_BY = $(TARGET) $(RUN)
@@ -132,8 +136,9 @@ library: kit
 	cp crates/dbus_c/out/libdbus_c.a $(ARCHIVE)
 	$(HEAP)
 	cd $(ROOM) && $(AR) r $(notdir $(ARCHIVE)) $(HEAP_OBJECT) && rm $(HEAP_OBJECT)
+	$(OBJCOPY) $(HEAP_NAMES) $(ARCHIVE)
 	$(CC) -shared -o $(SHARED) -Wl,-soname,$(SONAME) -Wl,--whole-archive $(ARCHIVE) -Wl,--no-whole-archive \
-		-Wl,--version-script=include/libdbus_wire.map -Wl,-z,defs -Wl,-z,text -Wl,-z,now
+		-Wl,--version-script=include/libdbus_wire.map -Wl,--no-undefined-version -Wl,-z,defs -Wl,-z,text -Wl,-z,now
 
 test: kit
 	.ci/run

@@ -53,6 +53,10 @@ for sample in session big-endian; do
 	for name in room threads "sharing type='signal' member='NameAcquired' sender='org.a.B'"; do $run "$built/"$name < "$here/../samples/$sample.dbus"; done
 	for length in 1 64 4096; do $run "$built/pieces" $length < "$here/../samples/$sample.dbus"; done
 done
+# A program that defines the three calls for memory has those, and not the archive's.
+"$CC" $sanitized -o "$built/own_heap" "$here/c/rules.c" "$here/../packaging/heap.c" -L"$built" -ldbus_wire
+"${tools}nm" "$built/own_heap" | grep -q ' T dbus_wire_alloc'
+$run "$built/own_heap" "member='NameAcquired'" < "$here/../samples/session.dbus" > "$built/said"
 # Each growth is refused in turn: a caller ends by a status of its own, and has written a front of what it writes else.
 "$CC" -shared -fPIC -O2 -o "$built/refuse_nth.so" "$here/../bench/refuse_nth.c" -ldl
 try_growths() {
