@@ -228,6 +228,7 @@ static void rules(void) {
            "the other is left");
     dbus_wire_rules_free(&rules);
     dbus_wire_rules_free(&rules);
+    dbus_wire_rules_free(NULL), dbus_wire_checker_free(NULL), dbus_wire_handshake_free(NULL);
     expect(rules.inner == NULL && dbus_wire_rules_remove(&rules, &all) == DBUS_WIRE_NO_RULE, "freed rules are none");
 }
 
