@@ -66,9 +66,13 @@ static int read_both(void) {
 
 static int build(void) {
     static struct dbus_wire_parts message;
+    static struct dbus_wire_draft draft;
     struct dbus_wire_checked told;
-    if (message.length == 0 && dbus_wire_parts_of(bytes, length, NULL, &message, NULL) != DBUS_WIRE_WHOLE) return 0;
-    return dbus_wire_build(&message, bytes, length, NULL, built, sizeof built, &told) == DBUS_WIRE_OK;
+    if (message.length == 0) {
+        if (dbus_wire_parts_of(bytes, length, NULL, &message, NULL) != DBUS_WIRE_WHOLE) return 0;
+        draft = dbus_wire_draft_of(&message, bytes);
+    }
+    return dbus_wire_build(&draft, NULL, built, sizeof built, &told) == DBUS_WIRE_OK;
 }
 
 static int matching(void) {

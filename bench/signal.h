@@ -31,7 +31,7 @@ static const struct changed {
 /* Those that changed to something that is not told. */
 static const char *const INVALIDATED[] = {"ExecStart", "ExecStop", "ExecMainStatus", "ExecMainCode"};
 
-/* The body, and the texts of the header after it. */
+/* The body. */
 static uint8_t spelled[SIGNAL_ROOM];
 
 static int put_text(struct dbus_wire_writer *body, const char *text) {
@@ -62,31 +62,18 @@ static int put_body(struct dbus_wire_writer *body) {
     return dbus_wire_close_array(spelled, sizeof spelled, body, &array) == DBUS_WIRE_OK;
 }
 
-/* Puts a text of the header at the end of `length` bytes, which have room for it, and returns its place. */
-static struct dbus_wire_text place(size_t *length, const char *text) {
-    struct dbus_wire_text found = {*length, strlen(text), 1};
-    memcpy(spelled + *length, text, found.length);
-    *length += found.length;
-    return found;
-}
-
 /* Whether the signal was spelled and built. */
 static int signal_built(void) {
     static uint8_t out[SIGNAL_ROOM];
     struct dbus_wire_writer body = {0, 'l', 0};
-    struct dbus_wire_parts parts = {0};
+    struct dbus_wire_draft draft = {.order = 'l', .kind = DBUS_WIRE_TYPE_SIGNAL, .serial = 1, .body = spelled};
     struct dbus_wire_checked told;
-    size_t length;
     if (!put_body(&body)) return 0;
-    length = body.length;
-    parts.order = 'l';
-    parts.kind = DBUS_WIRE_TYPE_SIGNAL;
-    parts.serial = 1;
-    parts.path = place(&length, "/org/freedesktop/systemd1/unit/dbus_2eservice");
-    parts.interface = place(&length, "org.freedesktop.DBus.Properties");
-    parts.member = place(&length, "PropertiesChanged");
-    parts.sender = place(&length, ":1.3");
-    parts.signature = place(&length, "sa{sv}as");
-    parts.length = body.length;
-    return dbus_wire_build(&parts, spelled, length, NULL, out, sizeof out, &told) == DBUS_WIRE_OK && told.length == SIGNAL_LENGTH;
+    draft.path = dbus_wire_text_of("/org/freedesktop/systemd1/unit/dbus_2eservice");
+    draft.interface = dbus_wire_text_of("org.freedesktop.DBus.Properties");
+    draft.member = dbus_wire_text_of("PropertiesChanged");
+    draft.sender = dbus_wire_text_of(":1.3");
+    draft.signature = dbus_wire_text_of("sa{sv}as");
+    draft.body_length = body.length;
+    return dbus_wire_build(&draft, NULL, out, sizeof out, &told) == DBUS_WIRE_OK && told.length == SIGNAL_LENGTH;
 }

@@ -128,6 +128,25 @@ try_echo() {
 	rm -rf "$sockets"
 }
 if command -v dbus-daemon > /dev/null; then try_echo $run "$built/descriptors" serve; fi
+# A service of few lines answers gdbus, and tells it of a method that is not there.
+"$CC" $sanitized -D_GNU_SOURCE -o "$built/service" "$here/c/service.c" -L"$built" -ldbus_wire
+if command -v dbus-daemon > /dev/null && command -v gdbus > /dev/null; then
+	sockets=$(mktemp -d)
+	bus=$(dbus-daemon --session --fork --print-pid --address="unix:path=$sockets/bus")
+	$run "$built/service" "$sockets/bus" & service=$!
+	trap 'kill "$bus" "$service"' EXIT
+	ask="gdbus call --address unix:path=$sockets/bus --dest org.example.Load --object-path / --method org.example.Load"
+	for round in $(seq 100); do
+		if $ask.Get > "$built/said" 2> "$built/told"; then break; fi
+		sleep 0.1
+	done
+	grep -qx '([0-9.]*,)' "$built/said"
+	must_fail $ask.Set 2> "$built/told"
+	grep -q 'UnknownMethod: try Get' "$built/told"
+	kill "$bus" "$service"
+	trap - EXIT
+	rm -rf "$sockets"
+fi
 # A checker for which there is no memory is not made.
 for nth in 1 2; do
 	status=0

@@ -15,6 +15,8 @@ BLOCK = re.compile(r"^/\* ((?:.|\n)*?) ?\*/\n((?:.+\n)*)", re.M)
 ATTRIBUTES = re.compile(r"DBUS_WIRE_(?:ANSWERS|NOT_NULL\(\(.*?\)\))\s*")
 DECLARED = re.compile(r"^(?:DBUS_WIRE_\w+ ?(?:\(\(.*\)\) )?)*(?:void|\w+_t) (dbus_wire_\w+)\([^;{]*\);", re.M)
 # Of a comment an item of a list: what a call returns, or after a hyphen.
+# A function that is inline: its declaration, its name and its code.
+INLINE = re.compile(r"^static inline ([\w ]+?[ *]+(dbus_wire_\w+)\([^;{]*\)) \{\n(?:.*\n)*?\}\n", re.M)
 ITEM = re.compile(r"  (- |DBUS_WIRE_\w+)(.*)")
 SUMMARY = "check, take apart, build, byteswap and match D-Bus messages"
 
@@ -55,12 +57,18 @@ def paragraphs(comment):
 
 
 def code(text):
-    return [".PP", ".nf", *(escaped(line) for line in ATTRIBUTES.sub("", text).rstrip("\n").split("\n")), ".fi"]
+    text = INLINE.sub(r"\1;\n", ATTRIBUTES.sub("", text))
+    return [".PP", ".nf", *(escaped(line) for line in text.rstrip("\n").split("\n")), ".fi"]
+
+
+def names_in(body):
+    """The calls that the code declares, or the functions that are inline there."""
+    return DECLARED.findall(body) + [name for _, name in INLINE.findall(ATTRIBUTES.sub("", body))]
 
 
 def sections(blocks):
     """The page's parts: of each its title, and its blocks."""
-    is_call = [bool(DECLARED.search(body)) or not body for _, body in blocks]
+    is_call = [bool(names_in(body)) or not body for _, body in blocks]
     calls = [it for it, wanted in zip(blocks, is_call) if wanted]
     structs = [it for it in blocks if it[1].startswith("struct")]
     numbers = [it for it in blocks if it[1].startswith(("enum", "#define DBUS_WIRE_")) and "__attribute__" not in it[1]]
@@ -78,7 +86,7 @@ def page(header, calls):
     for title, of_part in sections(blocks):
         yield f".SH {title}"
         for comment, body in of_part:
-            if names := DECLARED.findall(body) or re.findall(r"^struct (\w+) \{", body, re.M):
+            if names := names_in(body) or re.findall(r"^struct (\w+) \{", body, re.M):
                 yield from [".SS " + ", ".join(names)]
             yield from [*code(body), ".PP", *paragraphs(comment)] if body else [".SS Bodies", *paragraphs(comment)]
     yield from [".SH SEE ALSO", ".BR dbus\\-wire (1)"]

@@ -7,37 +7,22 @@
 
 #include <stdio.h>
 #include <stdlib.h>
-#include <string.h>
 
-/* The message at hand, with a text after it to which parts may point. */
-static uint8_t bytes[1 << 20];
-
-/* Puts a text at the end of `length` bytes, and returns its place. */
-static struct dbus_wire_text put(size_t *length, const char *text) {
-    struct dbus_wire_text place = {*length, strlen(text), 1};
-    memcpy(bytes + *length, text, place.length);
-    *length += place.length;
-    return place;
-}
-
-/* Builds what the words say of the message at the start of `bytes`, and writes it. Returns whether
- * it was built. */
-static int build(struct dbus_wire_parts parts, const char *what, const char *word) {
+/* Builds what the words say of the message with these parts at the start of the bytes, and writes
+ * it. Returns whether it was built. */
+static int build(const uint8_t *bytes, const struct dbus_wire_parts *parts, const char *what, const char *word) {
     static uint8_t out[1 << 20];
     struct dbus_wire_checked told;
-    struct dbus_wire_parts error = {0};
-    size_t length = parts.length;
+    struct dbus_wire_draft draft = dbus_wire_draft_of(parts, bytes), error = {.serial = 1, .error_name = dbus_wire_text_of(word)};
     uint32_t answer;
 
     if (strcmp(what, "error") == 0) {
-        if (parts.kind != DBUS_WIRE_TYPE_METHOD_CALL) return 1;
-        error.serial = 1;
-        error.error_name = put(&length, word);
-        answer = dbus_wire_reply_to(&error, bytes, length, NULL, out, sizeof out, &told);
+        if (parts->kind != DBUS_WIRE_TYPE_METHOD_CALL) return 1;
+        answer = dbus_wire_reply_to(bytes, parts->length, NULL, &error, out, sizeof out, &told);
     } else {
-        if (strcmp(what, "serial") == 0) parts.serial = (uint32_t)strtoul(word, NULL, 10);
-        if (strcmp(what, "destination") == 0) parts.destination = put(&length, word);
-        answer = dbus_wire_rebuild(&parts, bytes, length, NULL, out, sizeof out, &told);
+        if (strcmp(what, "serial") == 0) draft.serial = (uint32_t)strtoul(word, NULL, 10);
+        if (strcmp(what, "destination") == 0) draft.destination = dbus_wire_text_of(word);
+        answer = dbus_wire_rebuild(bytes, parts->length, NULL, &draft, out, sizeof out, &told);
     }
     switch (answer) {
     case DBUS_WIRE_OK: return fwrite(out, 1, told.length, stdout) == told.length;
@@ -54,8 +39,7 @@ int main(int count_of_words, char **words) {
     const char *what = count_of_words > 1 ? words[1] : "again", *word = count_of_words > 2 ? words[2] : "";
 
     while (at < count && dbus_wire_parts_of(all + at, count - at, NULL, &parts, NULL) == DBUS_WIRE_WHOLE) {
-        memcpy(bytes, all + at, parts.length);
-        if (strlen(word) > 1000 || !build(parts, what, word)) return 1;
+        if (!build(all + at, &parts, what, word)) return 1;
         at += parts.length;
     }
     return at < count;

@@ -110,42 +110,21 @@ static void drop(struct bus *bus, const struct dbus_wire_parts *parts) {
     memmove(bus->bytes, bus->bytes + parts->length, bus->length);
 }
 
-typedef uint32_t build_call(const struct dbus_wire_parts *, const void *, size_t, const struct dbus_wire_limits *, uint8_t *, size_t,
-                            struct dbus_wire_checked *);
-
-/* Builds and sends a message of these parts, whose texts and body are in `bytes`. */
-static void send_parts(struct bus *bus, build_call *build, struct dbus_wire_parts *parts, const uint8_t *bytes, size_t length,
-                       const int *fds) {
-    static uint8_t out[1 << 16];
+/* Calls a method, with a body of this signature, and waits for the reply. */
+static struct dbus_wire_parts call(struct bus *bus, const char *name, const char *member, const char *signature, const uint8_t *body,
+                                   size_t length, const int *fds, uint32_t count) {
+    struct dbus_wire_draft draft = {.order = 'l', .kind = DBUS_WIRE_TYPE_METHOD_CALL, .serial = ++bus->serial, .unix_fds = count};
     struct dbus_wire_checked told;
-    parts->serial = ++bus->serial;
-    if (build(parts, bytes, length, &limits, out, sizeof out, &told) != DBUS_WIRE_OK) fail("not built");
-    send_with(bus->socket, out, (size_t)told.length, fds, parts->unix_fds);
-}
-
-static struct dbus_wire_text put(uint8_t *bytes, uint64_t *length, const char *text) {
-    struct dbus_wire_text place = {*length, strlen(text), 1};
-    memcpy(bytes + *length, text, place.length);
-    *length += place.length;
-    return place;
-}
-
-/* Calls a method, with a body of this signature at the start of `bytes`, which have room for the
- * texts after it; and waits for the reply. */
-static struct dbus_wire_parts call(struct bus *bus, const char *name, const char *member, const char *signature, uint8_t *bytes,
-                                   uint64_t length, const int *fds, uint32_t count) {
-    struct dbus_wire_parts parts = {0}, reply;
-    parts.order = 'l';
-    parts.kind = DBUS_WIRE_TYPE_METHOD_CALL;
-    parts.length = length;
-    parts.unix_fds = count;
-    parts.path = put(bytes, &length, "/");
-    parts.destination = put(bytes, &length, name);
-    parts.interface = parts.destination;
-    parts.member = put(bytes, &length, member);
-    parts.signature = put(bytes, &length, signature);
-    parts.signature.is_there = *signature != '\0';
-    send_parts(bus, dbus_wire_build, &parts, bytes, (size_t)length, fds);
+    struct dbus_wire_parts reply;
+    uint8_t out[512];
+    draft.path = dbus_wire_text_of("/");
+    draft.destination = draft.interface = dbus_wire_text_of(name);
+    draft.member = dbus_wire_text_of(member);
+    if (*signature != '\0') draft.signature = dbus_wire_text_of(signature);
+    draft.body = body;
+    draft.body_length = length;
+    if (dbus_wire_build(&draft, &limits, out, sizeof out, &told) != DBUS_WIRE_OK) fail("not built");
+    send_with(bus->socket, out, (size_t)told.length, fds, count);
     while ((reply = next(bus)).reply_serial != bus->serial) drop(bus, &reply);
     if (reply.kind != DBUS_WIRE_TYPE_METHOD_RETURN) fail("the call failed");
     return reply;
@@ -158,7 +137,7 @@ static void open_bus(struct bus *bus, const char *path) {
     struct dbus_wire_handshake client = {0};
     struct dbus_wire_handshake_step step;
     struct sockaddr_un address = {0};
-    uint8_t reply[DBUS_WIRE_REPLY_ROOM], texts[256], byte;
+    uint8_t reply[DBUS_WIRE_REPLY_ROOM], byte;
     struct dbus_wire_parts hello;
     size_t length = 0;
     uint32_t answer;
@@ -177,44 +156,46 @@ static void open_bus(struct bus *bus, const char *path) {
     write_all(bus->socket, reply, (size_t)step.reply);
     if (dbus_wire_handshake_agreed(&client) != DBUS_WIRE_OK) fail("the bus passes no descriptors");
     dbus_wire_handshake_free(&client);
-    hello = call(bus, "org.freedesktop.DBus", "Hello", "", texts, 0, NULL, 0);
+    hello = call(bus, "org.freedesktop.DBus", "Hello", "", NULL, 0, NULL, 0);
     drop(bus, &hello);
 }
 
 /* The body of RequestName, "su". */
-static uint64_t put_name(uint8_t *bytes, size_t room, const char *name) {
+static size_t put_name(uint8_t *bytes, size_t room, const char *name) {
     struct dbus_wire_writer body = {0, 'l', 0};
     if (dbus_wire_put_text(bytes, room, &body, name, strlen(name)) != DBUS_WIRE_OK) fail("no room");
     if (dbus_wire_put_number(bytes, room, &body, 4, 0) != DBUS_WIRE_OK) fail("no room");
-    return body.length;
+    return (size_t)body.length;
 }
 
 static void serve(struct bus *bus) {
-    uint8_t bytes[256];
+    static uint8_t out[1 << 16];
+    uint8_t bytes[64];
     struct dbus_wire_parts message = call(bus, "org.freedesktop.DBus", "RequestName", "su", bytes,
-                                          put_name(bytes, 64, "org.example.Echo"), NULL, 0);
+                                          put_name(bytes, sizeof bytes, "org.example.Echo"), NULL, 0);
     for (;; message = next(bus)) {
         if (message.kind == DBUS_WIRE_TYPE_METHOD_CALL && (message.flags & DBUS_WIRE_FLAG_NO_REPLY_EXPECTED) == 0) {
-            struct dbus_wire_parts reply = {0};
-            reply.signature = message.signature;
-            reply.unix_fds = message.unix_fds;
-            reply.body = message.body;
-            reply.length = message.length;
-            send_parts(bus, dbus_wire_reply_to, &reply, bus->bytes, (size_t)message.length, bus->fds);
+            struct dbus_wire_draft reply = {.serial = ++bus->serial, .unix_fds = message.unix_fds};
+            struct dbus_wire_checked told;
+            reply.signature = dbus_wire_text_at(bus->bytes, message.signature);
+            reply.body = bus->bytes + message.body;
+            reply.body_length = (size_t)(message.length - message.body);
+            if (dbus_wire_reply_to(bus->bytes, bus->length, &limits, &reply, out, sizeof out, &told) != DBUS_WIRE_OK) fail("not built");
+            send_with(bus->socket, out, (size_t)told.length, bus->fds, message.unix_fds);
         }
         drop(bus, &message);
     }
 }
 
 static void ask(struct bus *bus, const char *path) {
-    uint8_t bytes[256] = {0}, piece[4096];
+    uint8_t index[4] = {0}, piece[4096];
     int own = open(path, O_RDONLY | O_CLOEXEC);
     struct dbus_wire_flat_item item;
     struct dbus_wire_parts reply;
     uint64_t items;
     ssize_t count;
     if (own < 0) fail("open");
-    reply = call(bus, "org.example.Echo", "Echo", "h", bytes, 4, &own, 1);
+    reply = call(bus, "org.example.Echo", "Echo", "h", index, sizeof index, &own, 1);
     if (dbus_wire_flatten(bus->bytes, bus->length, &limits, 0, &item, 1, &items, NULL) != DBUS_WIRE_WHOLE || item.code != 'h')
         fail("no descriptor");
     while ((count = read(bus->fds[item.number], piece, sizeof piece)) > 0)

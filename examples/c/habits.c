@@ -20,6 +20,7 @@ static void sizes(void) {
     expect(dbus_wire_version() == DBUS_WIRE_VERSION, "the library has the header's version");
     expect(sizeof(struct dbus_wire_limits) == 16 && sizeof(struct dbus_wire_checked) == 32, "limits 16, checked 32 bytes");
     expect(sizeof(struct dbus_wire_parts) == 208 && sizeof(struct dbus_wire_text) == 24, "parts 208, text 24 bytes");
+    expect(sizeof(struct dbus_wire_draft) == 208 && sizeof(struct dbus_wire_draft_text) == 24, "draft 208, draft_text 24 bytes");
     expect(sizeof(struct dbus_wire_checker) == 8 && sizeof(struct dbus_wire_taken) == 24, "checker 8, taken 24 bytes");
     expect(sizeof(struct dbus_wire_rules) == 8 && sizeof(struct dbus_wire_rule_id) == 24 && sizeof(struct dbus_wire_rule_refused) == 16,
            "rules 8, rule_id 24, rule_refused 16 bytes");
@@ -71,6 +72,7 @@ static void answers(void) {
     uint8_t bad[SIGNAL_LENGTH];
     struct dbus_wire_checked told, same;
     struct dbus_wire_parts parts;
+    struct dbus_wire_draft draft;
     struct dbus_wire_flat_item item;
     uint64_t count;
     size_t length;
@@ -100,10 +102,17 @@ static void answers(void) {
                told.length == parts.length,
            "it has a first value");
     expect(item.code == 's' && item.length == 2 && memcmp(SIGNAL + item.offset, "hi", 2) == 0, "which is hi");
-    parts.kind = 0;
-    expect(dbus_wire_build(&parts, SIGNAL, SIGNAL_LENGTH, NULL, NULL, 0, NULL) == DBUS_WIRE_REFUSED &&
-               dbus_wire_rebuild(&parts, NULL, 0, NULL, NULL, 0, NULL) == DBUS_WIRE_PARTIAL &&
-               dbus_wire_reply_to(&parts, NULL, 0, NULL, NULL, 0, NULL) == DBUS_WIRE_PARTIAL,
+    draft = dbus_wire_draft_of(&parts, SIGNAL);
+    expect(dbus_wire_rebuild(SIGNAL, SIGNAL_LENGTH, NULL, &draft, bad, sizeof bad, &told) == DBUS_WIRE_OK &&
+               told.length == SIGNAL_LENGTH && memcmp(bad, SIGNAL, SIGNAL_LENGTH) == 0,
+           "of its own draft it comes back");
+    memset(&draft, 0, sizeof draft);
+    expect(dbus_wire_build(&draft, NULL, NULL, 0, &told) == DBUS_WIRE_REFUSED && told.reason == DBUS_WIRE_REASON_BYTE_ORDER,
+           "a draft of zeros names no byte order");
+    draft.order = 'l';
+    expect(dbus_wire_build(&draft, NULL, NULL, 0, &told) == DBUS_WIRE_REFUSED && told.reason == DBUS_WIRE_REASON_KIND &&
+               dbus_wire_rebuild(NULL, 0, NULL, &draft, NULL, 0, NULL) == DBUS_WIRE_PARTIAL &&
+               dbus_wire_reply_to(NULL, 0, NULL, &draft, NULL, 0, NULL) == DBUS_WIRE_PARTIAL,
            "no type is 0, and no bytes are partial, by builders");
 }
 

@@ -74,19 +74,12 @@ static void shake(struct dbus_wire_handshake *end, struct peer *peer) {
 
 /* Answers a call by an error, which has a serial that the bus does not reach soon. */
 static void deny(const struct peer *client, const struct dbus_wire_parts *call) {
-    static const char name[] = "org.freedesktop.DBus.Error.AccessDenied";
-    static uint32_t serial = UINT32_C(1) << 31;
-    struct dbus_wire_parts error = {0};
+    static struct dbus_wire_draft error = {.serial = UINT32_C(1) << 31};
     struct dbus_wire_checked told;
-    uint8_t out[256];
-    error.order = call->order;
-    error.kind = DBUS_WIRE_TYPE_ERROR;
-    error.flags = DBUS_WIRE_FLAG_NO_REPLY_EXPECTED;
-    error.serial = serial++;
-    error.reply_serial = call->serial;
-    error.error_name.length = strlen(name);
-    error.error_name.is_there = 1;
-    if (dbus_wire_build(&error, name, strlen(name), &limits, out, sizeof out, &told) != DBUS_WIRE_OK)
+    uint8_t out[512];
+    error.error_name = dbus_wire_text_of("org.freedesktop.DBus.Error.AccessDenied");
+    error.serial++;
+    if (dbus_wire_reply_to(client->bytes, (size_t)call->length, &limits, &error, out, sizeof out, &told) != DBUS_WIRE_OK)
         fail("no error is built");
     write_all(client, out, (size_t)told.length);
 }

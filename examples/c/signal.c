@@ -5,9 +5,8 @@
 
 #include <stdio.h>
 #include <stdlib.h>
-#include <string.h>
 
-/* The body, and the texts of the header after it. */
+/* The body. */
 static uint8_t bytes[1 << 16];
 static struct dbus_wire_writer body = {0, 'l', 0};
 
@@ -43,35 +42,22 @@ static int put_body(int count, char **words) {
         && dbus_wire_close_array(bytes, sizeof bytes, &body, &array) == DBUS_WIRE_OK;
 }
 
-/* Puts a text of the header at the end of `length` bytes, which have room for it, and returns its
- * place. */
-static struct dbus_wire_text put(size_t *length, const char *text) {
-    struct dbus_wire_text place = {*length, strlen(text), 1};
-    memcpy(bytes + *length, text, place.length);
-    *length += place.length;
-    return place;
-}
-
 int main(int count_of_words, char **words) {
     static uint8_t out[(1 << 16) + 512];
-    struct dbus_wire_parts parts = {0};
+    struct dbus_wire_draft draft = {.order = 'l', .kind = DBUS_WIRE_TYPE_SIGNAL, .serial = 1};
     struct dbus_wire_checked told;
-    size_t length;
 
-    if (!put_body(count_of_words - 1, words + 1) || sizeof bytes - body.length < 512) {
+    if (!put_body(count_of_words - 1, words + 1)) {
         fputs("not spelled: it is too long\n", stderr);
         return 1;
     }
-    parts.order = body.order;
-    parts.kind = DBUS_WIRE_TYPE_SIGNAL;
-    parts.serial = 1;
-    length = body.length;
-    parts.path = put(&length, "/org/example/service");
-    parts.interface = put(&length, "org.freedesktop.DBus.Properties");
-    parts.member = put(&length, "PropertiesChanged");
-    parts.signature = put(&length, "sa{sv}as");
-    parts.length = body.length;
-    if (dbus_wire_build(&parts, bytes, length, NULL, out, sizeof out, &told) != DBUS_WIRE_OK) {
+    draft.path = dbus_wire_text_of("/org/example/service");
+    draft.interface = dbus_wire_text_of("org.freedesktop.DBus.Properties");
+    draft.member = dbus_wire_text_of("PropertiesChanged");
+    draft.signature = dbus_wire_text_of("sa{sv}as");
+    draft.body = bytes;
+    draft.body_length = body.length;
+    if (dbus_wire_build(&draft, NULL, out, sizeof out, &told) != DBUS_WIRE_OK) {
         fprintf(stderr, "not built: %s\n", dbus_wire_reason_text(told.reason));
         return 1;
     }

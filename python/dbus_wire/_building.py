@@ -64,7 +64,7 @@ def build(
     parts |= {"type": type, "flags": flags, "serial": serial, "reply_serial": reply_serial}
     parts |= {"path": path, "interface": interface, "member": member, "error_name": error_name}
     parts |= {"destination": destination, "sender": sender, "signature": signature}
-    return _built(library.dbus_wire_build, b"", parts, limits)
+    return _built(library.dbus_wire_build, (), parts, limits)
 
 
 def reply_to(
@@ -111,30 +111,32 @@ def rebuild(message: Message, *, limits: Limits | None = None, **changes: Any) -
     if unknown := changes.keys() - parts.keys():
         raise TypeError(f"a message has no part {min(unknown)!r} to change")
     changed = parts | changes | {"order": message.order}
-    return _built(library.dbus_wire_rebuild, message.data, changed, limits)
+    return _built(library.dbus_wire_rebuild, (message.data, len(message.data)), changed, limits)
 
 
-def _built(call: Any, front: bytes, parts: dict[str, Any], limits: Limits | None) -> Message:
-    """The message that the call makes of the parts, whose texts and body come after the bytes in
-    front."""
-    given, data = _library.Parts(order=ord(Order(parts["order"]).value)), bytearray(front)
+def _built(call: Any, of: tuple[Any, ...], parts: dict[str, Any], limits: Limits | None) -> Message:
+    """The message that the call makes of the parts, and of a message and its length, if it changes
+    one."""
+    draft = _library.Draft(order=ord(Order(parts["order"]).value))
     for name, name_there in _NUMBERS.items():
-        setattr(given, name_there, 0 if parts[name] is None else uint32_of(name, parts[name]))
+        setattr(draft, name_there, 0 if parts[name] is None else uint32_of(name, parts[name]))
     for name in _TEXTS:
-        if parts[name] is not None:
-            spelled = text_of(name, parts[name])
-            setattr(given, name, _library.Text(len(data), len(spelled), 1))
-            data += spelled
-    given.body = len(data)
+        text = b"" if parts[name] is None else text_of(name, parts[name])
+        setattr(draft, name, _library.DraftText(text, len(text), parts[name] is not None))
     if not isinstance(parts["body"], (bytes, bytearray, memoryview)):
         raise bad_value("body", "bytes, a bytearray or a memoryview", parts["body"])
-    data += as_bytes(parts["body"])
-    given.length = len(data)
+    body = as_bytes(parts["body"])
+    draft.body, draft.body_length = body, len(body)
     # Each of seven texts has 16 bytes beside its own at most, and so has each number, the fixed
     # header and the body.
-    out, told = ctypes.create_string_buffer(len(data) + 11 * 16), _library.Checked()
-    limit = byref(limits_struct(limits))
-    answer = call(byref(given), bytes(data), len(data), limit, out, len(out), byref(told))
+    texts = sum(getattr(draft, name).length for name in _TEXTS)
+    room = sum(of[1:]) + texts + len(body) + 11 * 16
+    out, told = ctypes.create_string_buffer(room), _library.Checked()
+    limit, given = byref(limits_struct(limits)), byref(draft)
+    if of:
+        answer = call(*of, limit, given, out, room, byref(told))
+    else:
+        answer = call(given, limit, out, room, byref(told))
     if answer == NO_MEMORY:
         raise MemoryError
     if answer != OK:

@@ -53,6 +53,19 @@ class Parts(ctypes.Structure):
     )
 
 
+class DraftText(ctypes.Structure):
+    _fields_ = [("bytes", c_char_p), ("length", c_size_t), ("is_there", c_uint64)]
+
+
+class Draft(ctypes.Structure):
+    _fields_ = [
+        *((name, c_uint32) for name in ("order", "kind", "flags", "serial", "reply_serial", "unix_fds")),
+        *((name, DraftText) for name in ("path", "interface", "member", "error_name", "destination", "sender", "signature")),
+        ("body", c_char_p),
+        ("body_length", c_size_t),
+    ]
+
+
 class FlatItem(ctypes.Structure):
     _fields_ = [
         *((name, c_uint64) for name in ("number", "offset", "length")),
@@ -141,8 +154,8 @@ _CALLS = {
     "explain": (c_uint32, *_MESSAGE, POINTER(InputPlace), c_char_p, c_size_t, POINTER(Explained), POINTER(Checked)),
     "wanted": (c_uint64, *_MESSAGE),
     "swap": (c_uint32, *_MESSAGE, c_uint32, c_char_p, c_size_t, POINTER(Checked)),
-    "build": (c_uint32, POINTER(Parts), *_MESSAGE, c_char_p, c_size_t, POINTER(Checked)),
-    "rebuild": (c_uint32, POINTER(Parts), *_MESSAGE, c_char_p, c_size_t, POINTER(Checked)),
+    "build": (c_uint32, POINTER(Draft), POINTER(Limits), c_char_p, c_size_t, POINTER(Checked)),
+    "rebuild": (c_uint32, *_MESSAGE, POINTER(Draft), c_char_p, c_size_t, POINTER(Checked)),
     "put_number": (c_uint32, *_BODY, c_uint32, c_uint64),
     "put_text": (c_uint32, *_BODY, c_char_p, c_size_t),
     "put_signature": (c_uint32, *_BODY, c_char_p, c_size_t),

@@ -40,7 +40,7 @@ class Header(unittest.TestCase):
         declared = re.findall(r"(\d+) bytes\. \*/\nstruct dbus_wire_(\w+) \{(.*?)\n\};", self.text, re.DOTALL)
         self.assertEqual(len(declared), 20)
         for size, name, fields in declared:
-            lines = re.findall(r"^    (struct \w+|\w+_t|void \*) ?([\w, ]+);", fields, re.MULTILINE)
+            lines = re.findall(r"^    (struct \w+|\w+_t|(?:const )?void \*) ?([\w, ]+);", fields, re.MULTILINE)
             right = [(field, self.type_of(kind)) for kind, names in lines for field in names.split(", ")]
             struct = self.type_of(f"struct dbus_wire_{name}")
             self.assertEqual((list(struct._fields_), ctypes.sizeof(struct)), (right, int(size)), name)

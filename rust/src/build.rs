@@ -90,7 +90,10 @@ impl Error for BuildError {}
 /// So of the parts of a message at hand it makes that message only if its fields are in this order,
 /// and none is of another code; [`rebuild`] changes a message and keeps its fields.
 pub fn build(parts: &Parts<'_>, limits: &Limits) -> Result<Vec<u8>, BuildError> {
-    built(sys::dbus_wire_build, Vec::new(), parts, limits)
+    built(parts, 0, |draft, out, room, told| {
+        // SAFETY: as `built` says.
+        unsafe { sys::dbus_wire_build(draft, &limits.raw(), out, room, told) }
+    })
 }
 
 /// The bytes of the message, changed as the parts say. Each header field stays in its place, as the
@@ -110,7 +113,11 @@ pub fn build(parts: &Parts<'_>, limits: &Limits) -> Result<Vec<u8>, BuildError> 
 /// # Ok::<(), BuildError>(())
 /// ```
 pub fn rebuild(message: &Message<'_>, parts: &Parts<'_>, limits: &Limits) -> Result<Vec<u8>, BuildError> {
-    built(sys::dbus_wire_rebuild, message.bytes().to_vec(), parts, limits)
+    let bytes = message.bytes();
+    built(parts, bytes.len(), |draft, out, room, told| {
+        // SAFETY: a slice, and as `built` says.
+        unsafe { sys::dbus_wire_rebuild(bytes.as_ptr(), bytes.len(), &limits.raw(), draft, out, room, told) }
+    })
 }
 
 /// The bytes of the reply to a call: what [`build`] makes of the parts, but in the byte order of the
@@ -138,30 +145,28 @@ pub fn rebuild(message: &Message<'_>, parts: &Parts<'_>, limits: &Limits) -> Res
 /// # Ok::<(), Box<dyn std::error::Error>>(())
 /// ```
 pub fn reply_to(call: &Message<'_>, parts: &Parts<'_>, limits: &Limits) -> Result<Vec<u8>, BuildError> {
-    built(sys::dbus_wire_reply_to, call.bytes().to_vec(), parts, limits)
+    let bytes = call.bytes();
+    built(parts, bytes.len(), |draft, out, room, told| {
+        // SAFETY: a slice, and as `built` says.
+        unsafe { sys::dbus_wire_reply_to(bytes.as_ptr(), bytes.len(), &limits.raw(), draft, out, room, told) }
+    })
 }
 
-// `sys::dbus_wire_build`, or another call that takes what it takes.
-type Build = unsafe extern "C" fn(
-    *const sys::dbus_wire_parts,
-    *const u8,
-    usize,
-    *const sys::dbus_wire_limits,
-    *mut u8,
-    usize,
-    *mut sys::dbus_wire_checked,
-) -> u32;
-
-// What the call makes of the parts, whose texts and body come after the bytes.
-fn built(call: Build, mut bytes: Vec<u8>, parts: &Parts<'_>, limits: &Limits) -> Result<Vec<u8>, BuildError> {
-    let given = placed(parts, &mut bytes);
+// What the call makes of the parts, and of other bytes of this length. It is passed the draft, whose
+// texts are slices, the start of as much room as it says, which nothing else points to, and a
+// reference.
+fn built(
+    parts: &Parts<'_>,
+    others: usize,
+    call: impl FnOnce(*const sys::dbus_wire_draft, *mut u8, usize, *mut sys::dbus_wire_checked) -> u32,
+) -> Result<Vec<u8>, BuildError> {
+    let draft = draft_of(parts);
+    let texts = [draft.path, draft.interface, draft.member, draft.error_name, draft.destination, draft.sender, draft.signature];
     // Each of seven texts has 16 bytes beside its own at most, and so has each number, the fixed
     // header and the body.
-    let mut out = vec![0; bytes.len() + 11 * 16];
+    let mut out = vec![0; others + texts.map(|text| text.length).iter().sum::<usize>() + parts.body.len() + 11 * 16];
     let mut told = sys::dbus_wire_checked::default();
-    // SAFETY: two slices, of which `out` is mutable, and references, as `sys` says.
-    let answer = unsafe { call(&given, bytes.as_ptr(), bytes.len(), &limits.raw(), out.as_mut_ptr(), out.len(), &mut told) };
-    match answer {
+    match call(&draft, out.as_mut_ptr(), out.len(), &mut told) {
         sys::DBUS_WIRE_OK => {
             out.truncate(told.length as usize);
             Ok(out)
@@ -172,32 +177,27 @@ fn built(call: Build, mut bytes: Vec<u8>, parts: &Parts<'_>, limits: &Limits) ->
     }
 }
 
-// The parts as the call takes them, whose texts and body are appended to the bytes.
-fn placed(parts: &Parts<'_>, bytes: &mut Vec<u8>) -> sys::dbus_wire_parts {
-    let mut put = |text: Option<&str>| {
-        let Some(text) = text else { return sys::dbus_wire_text::default() };
-        let offset = bytes.len() as u64;
-        bytes.extend(text.as_bytes());
-        sys::dbus_wire_text { offset, length: text.len() as u64, is_there: 1 }
+// The parts as the calls take them.
+fn draft_of(parts: &Parts<'_>) -> sys::dbus_wire_draft {
+    let given = |text: Option<&str>| {
+        let bytes = text.unwrap_or_default();
+        sys::dbus_wire_draft_text { bytes: bytes.as_ptr(), length: bytes.len(), is_there: text.is_some().into() }
     };
-    let mut given = sys::dbus_wire_parts {
+    sys::dbus_wire_draft {
         order: parts.order.code().into(),
         kind: parts.kind.number().into(),
         flags: parts.flags.into(),
         serial: parts.serial,
         reply_serial: parts.reply_serial.map_or(0, NonZeroU32::get),
         unix_fds: parts.unix_fds,
-        path: put(parts.path),
-        interface: put(parts.interface),
-        member: put(parts.member),
-        error_name: put(parts.error_name),
-        destination: put(parts.destination),
-        sender: put(parts.sender),
-        signature: put(parts.signature),
-        ..Default::default()
-    };
-    given.body = bytes.len() as u64;
-    bytes.extend(parts.body);
-    given.length = bytes.len() as u64;
-    given
+        path: given(parts.path),
+        interface: given(parts.interface),
+        member: given(parts.member),
+        error_name: given(parts.error_name),
+        destination: given(parts.destination),
+        sender: given(parts.sender),
+        signature: given(parts.signature),
+        body: parts.body.as_ptr(),
+        body_length: parts.body.len(),
+    }
 }

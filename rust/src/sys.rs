@@ -167,6 +167,34 @@ pub struct dbus_wire_parts {
 }
 
 #[repr(C)]
+#[derive(Clone, Copy, Debug)]
+pub struct dbus_wire_draft_text {
+    pub bytes: *const u8,
+    pub length: usize,
+    pub is_there: u64,
+}
+
+#[repr(C)]
+#[derive(Clone, Copy, Debug)]
+pub struct dbus_wire_draft {
+    pub order: u32,
+    pub kind: u32,
+    pub flags: u32,
+    pub serial: u32,
+    pub reply_serial: u32,
+    pub unix_fds: u32,
+    pub path: dbus_wire_draft_text,
+    pub interface: dbus_wire_draft_text,
+    pub member: dbus_wire_draft_text,
+    pub error_name: dbus_wire_draft_text,
+    pub destination: dbus_wire_draft_text,
+    pub sender: dbus_wire_draft_text,
+    pub signature: dbus_wire_draft_text,
+    pub body: *const u8,
+    pub body_length: usize,
+}
+
+#[repr(C)]
 #[derive(Clone, Copy, Debug, Default)]
 pub struct dbus_wire_flat_item {
     pub number: u64,
@@ -300,6 +328,8 @@ const _: () = assert!(size_of::<dbus_wire_limits>() == 16);
 const _: () = assert!(size_of::<dbus_wire_checked>() == 32);
 const _: () = assert!(size_of::<dbus_wire_text>() == 24);
 const _: () = assert!(size_of::<dbus_wire_parts>() == 208);
+const _: () = assert!(size_of::<dbus_wire_draft_text>() == 24);
+const _: () = assert!(size_of::<dbus_wire_draft>() == 208);
 const _: () = assert!(size_of::<dbus_wire_flat_item>() == 32);
 const _: () = assert!(size_of::<dbus_wire_input_place>() == 16);
 const _: () = assert!(size_of::<dbus_wire_explained>() == 104);
@@ -389,28 +419,26 @@ extern "C" {
         told: *mut dbus_wire_checked,
     ) -> u32;
     pub fn dbus_wire_build(
-        parts: *const dbus_wire_parts,
-        bytes: *const u8,
-        length: usize,
+        draft: *const dbus_wire_draft,
         limits: *const dbus_wire_limits,
         out: *mut u8,
         room: usize,
         told: *mut dbus_wire_checked,
     ) -> u32;
     pub fn dbus_wire_rebuild(
-        parts: *const dbus_wire_parts,
         bytes: *const u8,
         length: usize,
         limits: *const dbus_wire_limits,
+        draft: *const dbus_wire_draft,
         out: *mut u8,
         room: usize,
         told: *mut dbus_wire_checked,
     ) -> u32;
     pub fn dbus_wire_reply_to(
-        parts: *const dbus_wire_parts,
         bytes: *const u8,
         length: usize,
         limits: *const dbus_wire_limits,
+        draft: *const dbus_wire_draft,
         out: *mut u8,
         room: usize,
         told: *mut dbus_wire_checked,

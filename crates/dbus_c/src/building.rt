@@ -1,85 +1,80 @@
-//! A message built from parts in numbers, as `dbus_wire_parts_of` writes them, or changed by them.
+//! A message built of a draft, or changed by it.
 #![tactic(auto)]
 
-ghost use Rattle.std.specs.Prelude.{◌≡◌, ◌<◌, ◌≤◌, ◌++◌, length, drop, nat_eq, if◌then◌else◌, MatchOption, MatchResult};
+ghost use Rattle.std.specs.Prelude.{◌≡◌, ℕ, ◌<◌, ◌≤◌, ◌++◌, length, drop, nat_eq, if◌then◌else◌};
 ghost use Rattle.dbus_value_model.specs.declared.fault.Reason.TheVariants.{MessageTooLong, Signature};
-ghost use Rattle.dbus_value_model.specs.declared.order.Order.{Order};
-ghost use Rattle.dbus_message_model.specs.Messages.{order_byte};
-ghost use Rattle.dbus_c.specs.Building.{AreNoParts, Builds, ComesBack, Keeps, KeepsOrder, Kept, Nothing, Rebuilds, Replies, StandFor, field_told, place_given, refusal_told, reply_parts};
+ghost use Rattle.dbus_c.specs.Building.{Builds, ComesBack, IsOwnDraft, Keeps, Kept, Nothing, Rebuilds, Replies, field_told, refusal_told, reply_draft};
 ghost use Rattle.dbus_c.specs.Checking.{whole_told};
 ghost use Rattle.dbus_c.specs.GivenLimits.{limits_of};
-ghost use Rattle.dbus_c.specs.Parting.{HasParts};
 
 use crate::answers::{NO_MEMORY, NO_ROOM, REFUSED, WHOLE};
-use crate::checking::{Checked, fault_told, first_validated, nothing_told};
+use crate::checking::{Checked, fault_told, first_validated, first_view, nothing_told};
+use crate::drafts::{DraftText, WireDraft, parts_given, sender_of};
 use crate::given_limits::{WireLimits, given_limits};
-use crate::parts::{TextPlace, WireParts, order_byte, parts_in};
+use crate::parts::order_byte;
 use crate::reasons::reason_number;
-use dbus_c_build::{ByteRange, Given, PlacedFault, PlacedParts, build};
+use dbus_c_build::{DraftFault, Given, build};
 use dbus_message_model::field_code::SIGNATURE;
 use dbus_message_model::flag::NO_REPLY_EXPECTED;
 use dbus_message_model::message_type::{ERROR, METHOD_RETURN};
-use dbus_message_model::order_named;
 use dbus_value_model::{Order, Reason};
 use std::alloc::Global;
 
-/// Writes the message that has exactly these parts to the start of `out`, in the byte order that
-/// they name: the header fields that are there, in the order of their codes, and the body from
-/// `parts.body` up to `parts.length`, which is spelled as in a message. The places are among
-/// `bytes`. It is not the inverse of [`crate::dbus_wire_parts_of`], as [`dbus_wire_rebuild`] is: a
-/// message comes back from its parts exactly if it has no header fields beside the known ones,
-/// these in the order of their codes, and no UNIX_FDS of 0.
+/// Writes the message that has exactly the parts of the draft to the start of `out`, in the byte
+/// order that it names: the header fields that are there, in the order of their codes, and the body.
+/// It is not the inverse of [`crate::dbus_wire_parts_of`], as [`dbus_wire_rebuild`] is: a message
+/// comes back from its parts exactly if it has no header fields beside the known ones, these in the
+/// order of their codes, and no UNIX_FDS of 0.
 ///
 /// [`WHOLE`] if it is written; `told` has its length and order. [`NO_ROOM`] if `out` has fewer
 /// bytes than the message, with the same in `told`. [`REFUSED`] if no message within the limits has
 /// these parts. Then `told` has the reason and the field: what [`crate::dbus_wire_check`] finds in
-/// the bytes that the parts spell; or `Overrun` if a place is outside `bytes`, or a number over 255
-/// stands for a byte; `MessageTooLong` or `Signature` if a text is too long for any message;
-/// `ByteOrder` if no order is named. Of several faults the first is reported: the order, the
-/// numbers, the body, each field in the order of the codes, all fields, the bytes. [`NO_MEMORY`] if
-/// memory runs out, of which it takes one block for a header of up to 512 bytes. In these three
-/// cases `out` stays as it was. D-Bus Specification, "Message Format" and "Header Fields".
+/// the bytes that the draft spells; or `Overrun` if a number over 255 stands for a byte;
+/// `MessageTooLong` or `Signature` if a text is too long for any message; `ByteOrder` if no order is
+/// named. Of several faults the first is reported: the order, the numbers, the body, each field in
+/// the order of the codes, all fields, the bytes. [`NO_MEMORY`] if memory runs out, of which it takes
+/// one block for a header of up to 512 bytes. In these three cases `out` stays as it was. D-Bus
+/// Specification, "Message Format" and "Header Fields".
 #[unsafe(no_mangle)]
 pub extern "C" fn dbus_wire_build(
     alloc: Global,
-    parts: &WireParts,
-    bytes: &[u8],
+    draft: &WireDraft<'_>,
     limits: &WireLimits,
     out: &mut [u8],
     told: &mut Checked,
 ) -> u32
-    ensures { Builds (limits_of limits.now) bytes.now Nothing parts.now result told.new out.old out.new }
+    ensures { Builds (limits_of limits.now) Nothing draft.now result told.new out.old out.new }
 {
     let given = Given {
-        bytes,
+        bytes: b"",
         limits: given_limits(limits),
         kept: None,
     };
-    build_given(alloc, parts, &given, out, told)
+    build_given(alloc, draft, &given, out, told)
 }
 
-/// Writes the message that the bytes begin with to the start of `out`, changed as the parts say:
-/// each header field stays in its place, one of a known code as the parts have it, or not at all if
-/// they have none, and one of another code as it is. Then come the fields that the message does not
-/// have, in the order of their codes. The parts of the message, as [`crate::dbus_wire_parts_of`]
-/// writes them, leave it as it is, byte for byte.
+/// Writes the message that the bytes begin with to the start of `out`, changed as the draft says:
+/// each header field stays in its place, one of a known code as the draft has it, or not at all if
+/// it has none, and one of another code as it is. Then come the fields that the message does not
+/// have, in the order of their codes. A draft that has the parts of the message leaves it as it is,
+/// byte for byte.
 ///
 /// It returns what [`dbus_wire_build`] does, but takes the byte order of the message alone: for any
-/// other it reports `ByteOrder`. A UNIX_FDS of 0 stays if the parts have 0. If the bytes begin with
+/// other it reports `ByteOrder`. A UNIX_FDS of 0 stays if the draft has 0. If the bytes begin with
 /// no message within the limits, it returns what [`crate::dbus_wire_check`] does, and `out` stays
 /// as it was. D-Bus Specification, "Message Format" and "Header Fields".
 #[unsafe(no_mangle)]
 pub extern "C" fn dbus_wire_rebuild(
     alloc: Global,
-    parts: &WireParts,
     bytes: &[u8],
     limits: &WireLimits,
+    draft: &WireDraft<'_>,
     out: &mut [u8],
     told: &mut Checked,
 ) -> u32
-    ensures rebuilds { Rebuilds (limits_of limits.now) bytes.now parts.now result told.new out.old out.new }
-    ensures same { HasParts (limits_of limits.now) bytes.now parts.now →
-        ComesBack bytes.now parts.now result out.old out.new }
+    ensures rebuilds { Rebuilds (limits_of limits.now) bytes.now draft.now result told.new out.old out.new }
+    ensures same { (own : IsOwnDraft (limits_of limits.now) bytes.now draft.now) →
+        ComesBack bytes.now own.count result out.old out.new }
 {
     match first_validated(bytes, limits, told) {
         Ok(validated) => {
@@ -88,18 +83,17 @@ pub extern "C" fn dbus_wire_rebuild(
                 limits: given_limits(limits),
                 kept: Some(validated),
             };
-            build_given(alloc, parts, &given, out, told)
+            build_given(alloc, draft, &given, out, told)
         }
         Err(answer) => answer,
     }
 }
 
 /// Writes the reply to the call that the bytes begin with to the start of `out`, which is what
-/// [`dbus_wire_build`] writes of these parts with others in place of five: an ERROR if the parts
-/// have an error name, else a METHOD_RETURN, with NO_REPLY_EXPECTED, in the byte order of the call,
-/// whose serial is the REPLY_SERIAL, and whose SENDER, if it has one, the DESTINATION. The places
-/// are among `bytes`: the texts and the body come after the call. The message that the bytes begin
-/// with may have any type.
+/// [`dbus_wire_build`] writes of this draft with others in place of five: an ERROR if the draft has
+/// an error name, else a METHOD_RETURN, with NO_REPLY_EXPECTED, in the byte order of the call, whose
+/// serial is the REPLY_SERIAL, and whose SENDER, if it has one, the DESTINATION. The message that
+/// the bytes begin with may have any type.
 ///
 /// It returns what [`dbus_wire_build`] does. If the bytes begin with no message within the limits,
 /// it returns what [`crate::dbus_wire_check`] does, and `out` stays as it was. D-Bus Specification,
@@ -107,72 +101,78 @@ pub extern "C" fn dbus_wire_rebuild(
 #[unsafe(no_mangle)]
 pub extern "C" fn dbus_wire_reply_to(
     alloc: Global,
-    parts: &WireParts,
     bytes: &[u8],
     limits: &WireLimits,
+    draft: &WireDraft<'_>,
     out: &mut [u8],
     told: &mut Checked,
 ) -> u32
-    ensures { Replies (limits_of limits.now) bytes.now parts.now result told.new out.old out.new }
+    ensures { Replies (limits_of limits.now) bytes.now draft.now result told.new out.old out.new }
 {
     match first_validated(bytes, limits, told) {
         Ok(validated) => {
+            let call = first_view(bytes, limits, validated);
             let given = Given {
-                bytes,
+                bytes: b"",
                 limits: given_limits(limits),
                 kept: None,
             };
-            let reply = reply_parts(parts_in(&validated), parts);
+            let reply = reply_draft(call.order(), call.serial(), sender_of(&call), draft);
             build_given(alloc, &reply, &given, out, told)
         }
         Err(answer) => answer,
     }
 }
 
-// The parts of a reply to the call of these parts.
-fn reply_parts(call: WireParts, parts: &WireParts) -> WireParts
-    ensures { result ≡ reply_parts call parts.now }
+// The draft of a reply to a call of this order and serial, to whom it came from.
+fn reply_draft<'a>(
+    order: Order,
+    serial: u32,
+    to: DraftText<'a>,
+    draft: &WireDraft<'a>,
+) -> WireDraft<'a>
+    ensures { result ≡ reply_draft order serial to.entry draft.now }
 {
-    let kind = if parts.error_name.is_there == 0 {
+    let kind = if draft.error_name.is_there == 0 {
         METHOD_RETURN
     } else {
         ERROR
     };
-    WireParts {
-        order: call.order,
+    WireDraft {
+        order: order_byte(order),
         kind: u32::from(kind),
         flags: u32::from(NO_REPLY_EXPECTED),
-        reply_serial: call.serial,
-        destination: call.sender,
-        ..*parts
+        reply_serial: serial,
+        destination: to,
+        ..*draft
     }
 }
 
-// Builds the message of what is given, and writes it.
+// Builds the message of a draft and of what is given, and writes it.
 fn build_given(
     alloc: Global,
-    parts: &WireParts,
+    draft: &WireDraft<'_>,
     given: &Given<'_>,
     out: &mut [u8],
     told: &mut Checked,
 ) -> u32
     requires { (k : Kept) × Keeps given.now k }
     ensures { (k : Kept) → Keeps given.now k →
-        Builds given.now.limits given.now.bytes.now k parts.now result told.new out.old out.new }
+        Builds given.now.limits k draft.now result told.new out.old out.new }
 {
-    let placed = match placed_parts(parts, given) {
-        Ok(placed) => placed,
+    let parts = match parts_given(draft, given) {
+        Ok(parts) => parts,
         Err(reason) => {
             *told = field_told(reason, 0);
             return REFUSED;
         }
     };
-    match build(alloc, given, &placed) {
-        Ok(message) => write_built(message.as_slice(), placed.order, out, told),
+    match build(alloc, given, &parts) {
+        Ok(message) => write_built(message.as_slice(), parts.order, out, told),
         Err(why) => {
             *told = refusal_told(why);
             match why {
-                PlacedFault::Memory => NO_MEMORY,
+                DraftFault::Memory => NO_MEMORY,
                 _ => REFUSED,
             }
         }
@@ -216,14 +216,13 @@ fn field_told(reason: Reason, code: u8) -> Checked
 }
 
 // What is told of parts of which nothing is built.
-fn refusal_told(why: PlacedFault) -> Checked
+fn refusal_told(why: DraftFault) -> Checked
     ensures { result ≡ refusal_told why }
 {
     match why {
-        PlacedFault::Memory => nothing_told(),
-        PlacedFault::Outside(code) => field_told(Reason::Overrun, code),
-        PlacedFault::TooLong(code) => field_told(too_long(code), code),
-        PlacedFault::Format(fault) => fault_told(fault),
+        DraftFault::Memory => nothing_told(),
+        DraftFault::TooLong(code) => field_told(too_long(code), code),
+        DraftFault::Format(fault) => fault_told(fault),
     }
 }
 
@@ -236,68 +235,4 @@ fn too_long(code: u8) -> Reason
     } else {
         Reason::MessageTooLong
     }
-}
-
-// The byte order that is named, if it is one, and that of the message that is kept.
-fn order_given(parts: &WireParts, given: &Given<'_>) -> Option<Order>
-    ensures { (k : Kept) → Keeps given.now k → MatchOption result
-        ((order : Order) → KeepsOrder k order → parts.now.order ≡ order_byte order → ⊥)
-        (λ order. KeepsOrder k order × (parts.now.order ≡ order_byte order)) }
-{
-    match given.kept {
-        Some(validated) => {
-            if parts.order == order_byte(validated.order) {
-                Some(validated.order)
-            } else {
-                None
-            }
-        }
-        None => order_named(parts.order),
-    }
-}
-
-// The parts that the numbers stand for, or why they stand for none.
-fn placed_parts(parts: &WireParts, given: &Given<'_>) -> Result<PlacedParts, Reason>
-    ensures { (k : Kept) → Keeps given.now k →
-        MatchResult result (λ p. StandFor k parts.now p) (λ reason. AreNoParts k parts.now reason) }
-{
-    let order = match order_given(parts, given) {
-        Some(order) => order,
-        None => return Err(Reason::ByteOrder),
-    };
-    if parts.kind > 255 || parts.flags > 255 || parts.length < parts.body {
-        return Err(Reason::Overrun);
-    }
-    Ok(PlacedParts {
-        order,
-        kind: parts.kind as u8,
-        flags: parts.flags as u8,
-        serial: parts.serial,
-        reply_serial: parts.reply_serial,
-        unix_fds: parts.unix_fds,
-        path: place_given(&parts.path),
-        interface: place_given(&parts.interface),
-        member: place_given(&parts.member),
-        error_name: place_given(&parts.error_name),
-        destination: place_given(&parts.destination),
-        sender: place_given(&parts.sender),
-        signature: place_given(&parts.signature),
-        body: ByteRange {
-            start: parts.body as usize,
-            length: (parts.length - parts.body) as usize,
-        },
-    })
-}
-
-// The place that numbers stand for, or none.
-fn place_given(text: &TextPlace) -> Option<ByteRange>
-    ensures { result ≡ place_given text.now }
-{
-    if text.is_there == 0 {
-        return None;
-    }
-    Some(ByteRange {
-        start: text.offset as usize,
-        length: text.length as usize,
-    })
 }

@@ -12,7 +12,7 @@
 //! [`dbus_wire_server_new`] and [`dbus_wire_client_new`] make an end of a handshake;
 //! [`dbus_wire_client_line`] and [`dbus_wire_server_line`] give the lines of one between others, of
 //! which [`dbus_wire_watch_client`] and [`dbus_wire_watch_server`] say what to pass on;
-//! [`dbus_wire_build`] builds a message of its parts, whose body [`dbus_wire_put_number`] and its
+//! [`dbus_wire_build`] builds a message of a draft, whose body [`dbus_wire_put_number`] and its
 //! like spell, [`dbus_wire_rebuild`] changes one, and [`dbus_wire_reply_to`] replies to one.
 //!
 //! `include/dbus_wire.h` declares them, and says which allocate and what a caller owes;
@@ -23,6 +23,7 @@ mod answers;
 mod building;
 mod checkers;
 mod checking;
+mod drafts;
 mod explaining;
 mod flattening;
 mod given_limits;
@@ -53,6 +54,7 @@ pub use checkers::{
     dbus_wire_checker_take,
 };
 pub use checking::{Checked, dbus_wire_check};
+pub use drafts::{DraftText, WireDraft};
 pub use explaining::{Explained, InputPlace, dbus_wire_explain};
 pub use flattening::{dbus_wire_flatten, dbus_wire_flatten_fields};
 pub use given_limits::{ANY_INDEX, INDEX_BELOW_COUNT, WireLimits, dbus_wire_specification_limits};

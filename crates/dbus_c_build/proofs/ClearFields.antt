@@ -1,17 +1,16 @@
 -- The fields of parts that have bytes, and those that are kept, are plain or spelled at any offset.
-use Rattle.std.proofs.Common.{◌≡◌, ℕ, ◌^◌, ◌<◌, List, [], ◌∷◌, ◌++◌, length, drop, Bool, true, false, if◌then◌else◌, nat_eq, Option, Some, None, inl, inr, refl, arith}
+use Rattle.std.proofs.Common.{◌≡◌, ℕ, ◌^◌, ◌<◌, List, [], ◌∷◌, ◌++◌, length, Bool, true, false, if◌then◌else◌, nat_eq, Option, Some, None, inl, inr, refl, arith}
+use Rattle.std.specs.Borrow.{Bor}
 use Rattle.std.specs.List.{flat_map}
 use Rattle.std.proofs.lemmas.Bool.{eqb-true}
-use Rattle.std.proofs.lemmas.List.{length-take}
 use Rattle.dbus_texts.specs.Types.{TextCode, STRING, OBJECT_PATH, SIGNATURE, TextType, sig}
 use Rattle.dbus_types.specs.Alignments.{length_width}
 use Rattle.dbus_value_model.specs.declared.limits.Bounds.{Bounds}
 use Rattle.dbus_value_model.specs.declared.order.Order.{Order}
 use Rattle.dbus_message_model.specs.Messages.{FieldTree, has_code}
-use Rattle.dbus_c_build.specs.Placed.{text_code, number_value, number_of, place_of, field_of, field_given, stays, in_place, added, known_codes, fields_after}
+use Rattle.dbus_c_build.specs.Drafts.{text_code, number_value, number_of, text_of, field_of, field_given, stays, in_place, added, known_codes, fields_after}
 use Rattle.dbus_c_build.specs.Building.{HaveBytes, IsShort, most_of}
-use Rattle.dbus_c_build.specs.declared.placed.ByteRange.{ByteRange}
-use Rattle.dbus_c_build.specs.declared.placed.PlacedParts.{PlacedParts}
+use Rattle.dbus_c_build.specs.declared.draft.Draft.{Draft}
 use Rattle.dbus_c_build.proofs.Anywhere.{IsSpelled, AreSpelled}
 use Rattle.dbus_c_build.proofs.SameFields.{AreClear, spelled_sound}
 
@@ -49,31 +48,31 @@ module _ (bounds : Bounds) (order : Order) (depth : ℕ) where
   clear_number code n true small few = tt
   clear_number code n false small few = (inl (small, omega arith, (refl, omega (arith, few))), tt)
 
-  clear_field : (b : List ℕ) (code : ℕ) (q : Option ByteRange) (n : ℕ) → code < 256 → IsShort code q → n < 2 ^ 32 → AreClear bounds order depth (field_of b code q n)
-  clear_field b code None n small short few = clear_number code n (nat_eq n 0) small few
-  clear_field b code (Some q) n small short few = (inl (small, short_sig (text_code code), omega (arith, most_fits code, short, length-take q.length (drop q.start b))), tt)
+  clear_field : (code : ℕ) (q : Option (Bor (List ℕ))) (n : ℕ) → code < 256 → IsShort code q → n < 2 ^ 32 → AreClear bounds order depth (field_of code q n)
+  clear_field code None n small short few = clear_number code n (nat_eq n 0) small few
+  clear_field code (Some t) n small short few = (inl (small, short_sig (text_code code), omega (arith, most_fits code, short)), tt)
 
-  module _ (b : List ℕ) (kept : List FieldTree) (p : PlacedParts) (h : HaveBytes b kept p) where
-    clear_given : (code : ℕ) → code < 256 → AreClear bounds order depth (field_given b p code)
+  module _ (kept : List FieldTree) (p : Draft) (h : HaveBytes kept p) where
+    clear_given : (code : ℕ) → code < 256 → AreClear bounds order depth (field_given p code)
     clear_given code small =
-        clear_field b code (place_of code p) (number_of code p) small (h.good code).1 (few_if (nat_eq code 5) (nat_eq code 9) p.reply_serial p.unix_fds h.numbers.3 h.numbers.4)
+        clear_field code (text_of code p) (number_of code p) small (h.short code) (few_if (nat_eq code 5) (nat_eq code 9) p.reply_serial p.unix_fds h.numbers.3 h.numbers.4)
 
-    clear_one : (f : FieldTree) (same : Bool) → IsSpelled bounds order depth f → AreClear bounds order depth (if same then f ∷ [] else field_given b p f.code)
+    clear_one : (f : FieldTree) (same : Bool) → IsSpelled bounds order depth f → AreClear bounds order depth (if same then f ∷ [] else field_given p f.code)
     clear_one f true spelled = (inr spelled, tt)
     clear_one f false spelled = clear_given f.code (spelled_sound bounds order depth f spelled).code
 
-    clear_kept : (fs : List FieldTree) → AreSpelled bounds order depth fs → AreClear bounds order depth (flat_map (in_place b p kept) fs)
+    clear_kept : (fs : List FieldTree) → AreSpelled bounds order depth fs → AreClear bounds order depth (flat_map (in_place p kept) fs)
     clear_kept [] spelled = tt
-    clear_kept (f ∷ fs) spelled = clear_append (in_place b p kept f) _ (clear_one f (stays p kept f.code) spelled.0) (clear_kept fs spelled.1)
+    clear_kept (f ∷ fs) spelled = clear_append (in_place p kept f) _ (clear_one f (stays p kept f.code) spelled.0) (clear_kept fs spelled.1)
 
-    clear_new : (code : ℕ) (there : Bool) → code < 256 → AreClear bounds order depth (if there then [] else field_given b p code)
+    clear_new : (code : ℕ) (there : Bool) → code < 256 → AreClear bounds order depth (if there then [] else field_given p code)
     clear_new code true small = tt
     clear_new code false small = clear_given code small
 
-    clear_added : (codes : List ℕ) → AreSmall codes → AreClear bounds order depth (flat_map (added b p kept) codes)
+    clear_added : (codes : List ℕ) → AreSmall codes → AreClear bounds order depth (flat_map (added p kept) codes)
     clear_added [] small = tt
-    clear_added (c ∷ cs) small = clear_append (added b p kept c) _ (clear_new c (has_code c kept) small.0) (clear_added cs small.1)
+    clear_added (c ∷ cs) small = clear_append (added p kept c) _ (clear_new c (has_code c kept) small.0) (clear_added cs small.1)
 
-    pub clear_fields : AreSpelled bounds order depth kept → AreClear bounds order depth (fields_after b p kept)
+    pub clear_fields : AreSpelled bounds order depth kept → AreClear bounds order depth (fields_after p kept)
     clear_fields spelled = clear_append _ _ (clear_kept kept spelled)
         (clear_added known_codes (omega arith, (omega arith, (omega arith, (omega arith, (omega arith, (omega arith, (omega arith, (omega arith, (omega arith, tt))))))))))

@@ -12,25 +12,25 @@ use Rattle.dbus_value_model.specs.Values.{ValueTrees}
 use Rattle.dbus_message_model.specs.Messages.{FieldTree, MessageTree, IsMessage, order_byte, field_array, fields_end, body_bytes, message_bytes}
 use Rattle.dbus_message_model.proofs.BothOrders.{message_length}
 use Rattle.dbus_c_build.specs.Building.{OneBuilt, with_header, spelled, HaveBytes}
-use Rattle.dbus_c_build.specs.Placed.{HasParts, text_at, fields_after}
-use Rattle.dbus_c_build.specs.declared.placed.PlacedParts.{PlacedParts}
+use Rattle.dbus_c_build.specs.Drafts.{HasParts, fields_after}
+use Rattle.dbus_c_build.specs.declared.draft.Draft.{Draft}
 use Rattle.dbus_c_build.proofs.Anywhere.{AreSpelled, message_spelled, structs}
 use Rattle.dbus_c_build.proofs.Cancelling.{fronts, heads, numbers}
 use Rattle.dbus_c_build.proofs.ClearFields.{clear_fields}
 use Rattle.dbus_c_build.proofs.SameFields.{same_fields}
 
 -- where a message has the parts, its bytes are these
-pub parts_spelled : (b : List ℕ) (kept : List FieldTree) (p : PlacedParts) (m : MessageTree) → HasParts b kept p m → message_bytes p.order m ≡ spelled b kept p
-parts_spelled b kept p m has =
+pub parts_spelled : (kept : List FieldTree) (p : Draft) (m : MessageTree) → HasParts kept p m → message_bytes p.order m ≡ spelled kept p
+parts_spelled kept p m has =
     ap (λ (k : ℕ). with_header p.order k m.flags m.serial m.fields (body_bytes p.order m)) has.numbers.0
     ∙ ap (λ (f : ℕ). with_header p.order p.kind f m.serial m.fields (body_bytes p.order m)) has.numbers.1
     ∙ ap (λ (s : ℕ). with_header p.order p.kind p.flags s m.fields (body_bytes p.order m)) has.numbers.2
     ∙ ap (λ (fs : List FieldTree). with_header p.order p.kind p.flags p.serial fs (body_bytes p.order m)) has.fields
-    ∙ ap (with_header p.order p.kind p.flags p.serial (fields_after b p kept)) has.body
+    ∙ ap (with_header p.order p.kind p.flags p.serial (fields_after p kept)) has.body
 
 -- what is built of the parts of a message is that message
 pub one_built : OneBuilt
-one_built limits b kept p m out has is = is.bytes ∙ parts_spelled b kept p is.message is.parts ∙ sym (parts_spelled b kept p m has)
+one_built limits kept p m out has is = is.bytes ∙ parts_spelled kept p is.message is.parts ∙ sym (parts_spelled kept p m has)
 
 pub array_is : (order : Order) (fs : List FieldTree) → spelling order 12 (field_array fs) ≡ num order 4 (length (spellings order 16 (structs fs))) ++ spellings order 16 (structs fs)
 unfolding spelling gap_to
@@ -60,26 +60,26 @@ one_order Big Little same = absurd (omega (arith, same))
 one_order Big Big same = refl
 
 -- what a message is whose bytes begin those of the parts
-pub record IsOnly (limits : Limits) (b : List ℕ) (kept : List FieldTree) (p : PlacedParts) (order : Order) (m : MessageTree) (rest : List ℕ) : Type 0 where
+pub record IsOnly (limits : Limits) (kept : List FieldTree) (p : Draft) (order : Order) (m : MessageTree) (rest : List ℕ) : Type 0 where
   pub order_is : order ≡ p.order
   pub numbers : (m.kind ≡ p.kind) × (m.flags ≡ p.flags) × (m.serial ≡ p.serial)
-  pub fields : m.fields ≡ fields_after b p kept
-  pub body : body_bytes p.order m ≡ text_at b p.body
+  pub fields : m.fields ≡ fields_after p kept
+  pub body : body_bytes p.order m ≡ p.body.now
   pub nothing : rest ≡ []
 
-module _ (limits : Limits) (b : List ℕ) (kept : List FieldTree) (p : PlacedParts) (have : HaveBytes b kept p) (spells : AreSpelled (bounds_of limits) p.order (limits.depth - 1) kept) where
+module _ (limits : Limits) (kept : List FieldTree) (p : Draft) (have : HaveBytes kept p) (spells : AreSpelled (bounds_of limits) p.order (limits.depth - 1) kept) where
   abbrev fs : List FieldTree
-  fs = fields_after b p kept
+  fs = fields_after p kept
 
-  in_order : (m : MessageTree) (rest : List ℕ) → length (text_at b p.body) < 256 ^ 4 → IsMessage limits p.order m → message_bytes p.order m ++ rest ≡ spelled b kept p → IsOnly limits b kept p p.order m rest
+  in_order : (m : MessageTree) (rest : List ℕ) → length p.body.now < 256 ^ 4 → IsMessage limits p.order m → message_bytes p.order m ++ rest ≡ spelled kept p → IsOnly limits kept p p.order m rest
   in_order m rest few valid same =
       let order = p.order in
-      let body = text_at b p.body in
+      let body = p.body.now in
       let contents = spellings order 16 (structs m.fields) in
       let given = spellings order 16 (structs fs) in
       let left = in_parts order m.kind m.flags m.serial m.fields (body_bytes order m) rest in
       let right = in_parts order p.kind p.flags p.serial fs body [] in
-      let all = sym left ∙ same ∙ sym (append-nil (spelled b kept p)) ∙ right in
+      let all = sym left ∙ same ∙ sym (append-nil (spelled kept p)) ∙ right in
       let tail = (heads _ _ _ _ all).1 in
       let byte : (n : ℕ) → n < 256 → n < 256 ^ 1 = λ n h. omega (arith, h) in
       let kind = numbers order 1 m.kind p.kind _ _ (byte _ valid.kind_fits) (byte _ have.numbers.0) tail in
@@ -94,15 +94,15 @@ module _ (limits : Limits) (b : List ℕ) (kept : List FieldTree) (p : PlacedPar
       let sixteen : length front ≡ 16 = length-replicate {A = ℕ} 16 0 in
       let spelled_alike = values_are order (structs m.fields) front sixteen ∙ ap (λ (l : List ℕ). front ++ l) held.0 ∙ sym (values_are order (structs fs) front sixteen) in
       let bounds = bounds_of limits in
-      let clear = clear_fields bounds order (limits.depth - 1) b kept p have spells in
+      let clear = clear_fields bounds order (limits.depth - 1) kept p have spells in
       let alike : m.fields ≡ fs = same_fields bounds order (limits.depth - 1) m.fields fs front (message_spelled limits order m valid) clear spelled_alike in
       let ends : pad 8 (fields_end order m.fields) ≡ pad 8 (fields_end order fs) = ap (λ (gs : List FieldTree). pad 8 (fields_end order gs)) alike in
       let after = fronts (pad 8 (fields_end order m.fields)) (pad 8 (fields_end order fs)) _ _ (ap length ends) held.1 in
       let bodies = fronts (body_bytes order m) body rest [] long.0 after.1 in
       record { order_is = refl; numbers = (kind.0, flags.0, serial.0); fields = alike; body = bodies.0; nothing = bodies.1 }
 
-  pub only_message : (order : Order) (m : MessageTree) (rest : List ℕ) → length (text_at b p.body) < 256 ^ 4 → IsMessage limits order m → message_bytes order m ++ rest ≡ spelled b kept p → IsOnly limits b kept p order m rest
+  pub only_message : (order : Order) (m : MessageTree) (rest : List ℕ) → length p.body.now < 256 ^ 4 → IsMessage limits order m → message_bytes order m ++ rest ≡ spelled kept p → IsOnly limits kept p order m rest
   only_message order m rest few valid same =
       let is : order ≡ p.order = one_order order p.order (heads _ _ _ _ same).0 in
-      let P : Order → Type 0 = λ o. IsMessage limits o m → message_bytes o m ++ rest ≡ spelled b kept p → IsOnly limits b kept p o m rest in
+      let P : Order → Type 0 = λ o. IsMessage limits o m → message_bytes o m ++ rest ≡ spelled kept p → IsOnly limits kept p o m rest in
       subst P (sym is) (in_order m rest few) valid same

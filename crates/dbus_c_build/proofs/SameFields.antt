@@ -25,7 +25,7 @@ use Rattle.dbus_walk.specs.Fields.{field_types}
 use Rattle.dbus_walk.specs.Standing.{Stands}
 use Rattle.dbus_c_build.proofs.Anywhere.{IsSpelled, AreSpelled, structs, message_spelled}
 use Rattle.dbus_c_build.proofs.Cancelling.{fronts, heads, numbers}
-use Rattle.dbus_c_build.specs.Placed.{IsKept, AreKept, known_codes}
+use Rattle.dbus_c_build.specs.Drafts.{IsKept, AreKept, known_codes}
 use Rattle.dbus_c_build.specs.declared.given.Given.{Given}
 
 -- a text or a UINT32 whose length or number fits

@@ -14,9 +14,9 @@ use Rattle.dbus_value_model.proofs.Numbers.{length-num, num_1}
 use Rattle.dbus_marshal.proofs.Written.{padding_is, written_none, written_more, written_path}
 use Rattle.dbus_message_model.specs.Messages.{FieldTree, field_struct, field_array, fields_end, has_code, order_byte}
 use Rattle.dbus_encode.proofs.FieldWriting.{before_value, field_written}
-use Rattle.dbus_c_build.specs.Placed.{text_at, text_code, number_field, number_value, field_given, stays, in_place, added, fields_after}
+use Rattle.dbus_c_build.specs.Drafts.{text_code, number_field, number_value, field_given, stays, in_place, added, fields_after}
 use Rattle.dbus_c_build.specs.Building.{fields_length, with_fields, fixed_items, spelled}
-use Rattle.dbus_c_build.specs.declared.placed.PlacedParts.{PlacedParts}
+use Rattle.dbus_c_build.specs.declared.draft.Draft.{Draft}
 use Rattle.dbus_c_build.proofs.OnlyMessage.{array_is}
 
 -- what holds if a call succeeds, made into something else
@@ -87,25 +87,25 @@ module _ (order : Order) where
       ∙ ap (λ (fs : List FieldTree). with_fields order fs start) (flat_map_more g [] done x)
 
   -- what comes in the place of a field that is kept, and of one that may be added
-  module _ (b : List ℕ) (p : PlacedParts) (kept : List FieldTree) where
-    pub same_in_place : (f : FieldTree) (front next : List ℕ) → stays p kept f.code ≡ true → next ≡ with_value order (field_struct f) front → next ≡ with_fields order (in_place b p kept f) front
+  module _ (p : Draft) (kept : List FieldTree) where
+    pub same_in_place : (f : FieldTree) (front next : List ℕ) → stays p kept f.code ≡ true → next ≡ with_value order (field_struct f) front → next ≡ with_fields order (in_place p kept f) front
     same_in_place f front next is put =
-        put ∙ sym (one_field f front) ∙ ap (λ (same : Bool). with_fields order (if same then f ∷ [] else field_given b p f.code) front) (sym is)
+        put ∙ sym (one_field f front) ∙ ap (λ (same : Bool). with_fields order (if same then f ∷ [] else field_given p f.code) front) (sym is)
 
-    pub given_in_place : (f : FieldTree) (front next : List ℕ) → stays p kept f.code ≡ false → next ≡ with_fields order (field_given b p f.code) front → next ≡ with_fields order (in_place b p kept f) front
-    given_in_place f front next is put = put ∙ ap (λ (same : Bool). with_fields order (if same then f ∷ [] else field_given b p f.code) front) (sym is)
+    pub given_in_place : (f : FieldTree) (front next : List ℕ) → stays p kept f.code ≡ false → next ≡ with_fields order (field_given p f.code) front → next ≡ with_fields order (in_place p kept f) front
+    given_in_place f front next is put = put ∙ ap (λ (same : Bool). with_fields order (if same then f ∷ [] else field_given p f.code) front) (sym is)
 
-    pub given_added : (code : ℕ) (front next : List ℕ) → has_code code kept ≡ false → next ≡ with_fields order (field_given b p code) front → next ≡ with_fields order (added b p kept code) front
-    given_added code front next is put = put ∙ ap (λ (there : Bool). with_fields order (if there then [] else field_given b p code) front) (sym is)
+    pub given_added : (code : ℕ) (front next : List ℕ) → has_code code kept ≡ false → next ≡ with_fields order (field_given p code) front → next ≡ with_fields order (added p kept code) front
+    given_added code front next is put = put ∙ ap (λ (there : Bool). with_fields order (if there then [] else field_given p code) front) (sym is)
 
-    pub none_added : (code : ℕ) (front : List ℕ) → has_code code kept ≡ true → front ≡ with_fields order (added b p kept code) front
-    none_added code front is = sym (written_none order front) ∙ ap (λ (there : Bool). with_fields order (if there then [] else field_given b p code) front) (sym is)
+    pub none_added : (code : ℕ) (front : List ℕ) → has_code code kept ≡ true → front ≡ with_fields order (added p kept code) front
+    none_added code front is = sym (written_none order front) ∙ ap (λ (there : Bool). with_fields order (if there then [] else field_given p code) front) (sym is)
 
 -- ---- the header
 
-module _ (b : List ℕ) (kept : List FieldTree) (p : PlacedParts) where
+module _ (kept : List FieldTree) (p : Draft) where
   abbrev fs : List FieldTree
-  fs = fields_after b p kept
+  fs = fields_after p kept
 
   abbrev structs : ValueTrees
   structs = value_trees (map field_struct fs)
@@ -115,10 +115,10 @@ module _ (b : List ℕ) (kept : List FieldTree) (p : PlacedParts) where
 
   -- the items before the fields' length
   abbrev first_items : List ℕ
-  first_items = order_byte p.order ∷ (p.kind ∷ (p.flags ∷ (1 ∷ (num p.order 4 (length (text_at b p.body)) ++ num p.order 4 p.serial))))
+  first_items = order_byte p.order ∷ (p.kind ∷ (p.flags ∷ (1 ∷ (num p.order 4 (length p.body.now) ++ num p.order 4 p.serial))))
 
   abbrev fixed : List ℕ
-  fixed = fixed_items p.order p.kind p.flags p.serial (length (text_at b p.body))
+  fixed = fixed_items p.order p.kind p.flags p.serial (length p.body.now)
 
   first_length : length first_items ≡ 12
   first_length = simp (length-append, length-num)
@@ -133,11 +133,11 @@ module _ (b : List ℕ) (kept : List FieldTree) (p : PlacedParts) where
   unfolding with_values
   fields_are out is = is ∙ ap (λ (n : ℕ). fixed ++ spellings p.order n structs) fixed_length ∙ ap (λ (l : List ℕ). l ++ contents) fixed_is ∙ simp append_assoc
 
-  pub fields_count : (out : List ℕ) → out ≡ with_fields p.order fs fixed → length out ≡ 16 + fields_length b kept p
+  pub fields_count : (out : List ℕ) → out ≡ with_fields p.order fs fixed → length out ≡ 16 + fields_length kept p
   fields_count out is = ap length (fields_are out is) ∙ simp (length-append, length-num, first_length) (omega arith)
 
   pub all_spelled : (o2 o3 o4 o5 : List ℕ) (n : ℕ) → p.kind < 256 → p.flags < 256 → o2 ≡ with_fields p.order fs fixed → n ≡ length o2 - 16
-      → o3 ≡ take 12 o2 ++ (num p.order 4 n ++ drop 16 o2) → o4 ≡ with_padding 8 o3 → o5 ≡ o4 ++ text_at b p.body → o5 ≡ spelled b kept p
+      → o3 ≡ take 12 o2 ++ (num p.order 4 n ++ drop 16 o2) → o4 ≡ with_padding 8 o3 → o5 ≡ o4 ++ p.body.now → o5 ≡ spelled kept p
   all_spelled o2 o3 o4 o5 n kind flags fields counts length_is padded ends =
       let is = fields_are o2 fields in
       let regrouped : o2 ≡ (first_items ++ num p.order 4 0) ++ contents = is ∙ sym (append_assoc first_items (num p.order 4 0) contents) in
@@ -151,7 +151,7 @@ module _ (b : List ℕ) (kept : List FieldTree) (p : PlacedParts) where
       let long : length o3 ≡ fields_end p.order fs = ap length array ∙ length-append first_items (spelling p.order 12 (field_array fs)) ∙ ap (λ (k : ℕ). k + length (spelling p.order 12 (field_array fs))) first_length in
       let padding : o4 ≡ (first_items ++ spelling p.order 12 (field_array fs)) ++ pad 8 (fields_end p.order fs) =
       padded ∙ padding_is 8 o3 ∙ ap (λ (k : ℕ). o3 ++ pad 8 k) long ∙ ap (λ (l : List ℕ). l ++ pad 8 (fields_end p.order fs)) array in
-      let joined = ends ∙ ap (λ (l : List ℕ). l ++ text_at b p.body) padding in
-      let regrouped_all : ((first_items ++ spelling p.order 12 (field_array fs)) ++ pad 8 (fields_end p.order fs)) ++ text_at b p.body
-      ≡ order_byte p.order ∷ (p.kind ∷ (p.flags ∷ (1 ∷ (num p.order 4 (length (text_at b p.body)) ++ (num p.order 4 p.serial ++ (spelling p.order 12 (field_array fs) ++ (pad 8 (fields_end p.order fs) ++ text_at b p.body))))))) = simp append_assoc in
+      let joined = ends ∙ ap (λ (l : List ℕ). l ++ p.body.now) padding in
+      let regrouped_all : ((first_items ++ spelling p.order 12 (field_array fs)) ++ pad 8 (fields_end p.order fs)) ++ p.body.now
+      ≡ order_byte p.order ∷ (p.kind ∷ (p.flags ∷ (1 ∷ (num p.order 4 (length p.body.now) ++ (num p.order 4 p.serial ++ (spelling p.order 12 (field_array fs) ++ (pad 8 (fields_end p.order fs) ++ p.body.now))))))) = simp append_assoc in
       joined ∙ regrouped_all ∙ rw (num_1 p.order p.kind kind, num_1 p.order p.flags flags, num_1 p.order 1 (omega arith)) refl

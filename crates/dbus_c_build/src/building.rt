@@ -5,13 +5,13 @@ ghost use Rattle.std.specs.Prelude.{◌≡◌, ◌≤◌, List, [], ◌++◌, le
 ghost use Rattle.dbus_value_model.specs.Bytes.{num};
 ghost use Rattle.dbus_message_model.specs.Messages.{FieldTree};
 ghost use Rattle.dbus_c_build.specs.Building.{HaveBytes, HaveNoBytes, IsBuilt, IsRefusal, fixed_items, spelled};
-ghost use Rattle.dbus_c_build.specs.Placed.{AreKept};
+ghost use Rattle.dbus_c_build.specs.Drafts.{AreKept};
 
+use crate::draft::{BODY, Draft};
+use crate::draft_fault::DraftFault;
 use crate::given::Given;
 use crate::kept::append_fields;
-use crate::placed::{BODY, PlacedParts};
-use crate::placed_fault::PlacedFault;
-use crate::places::{check_places, text_at};
+use crate::lengths::check_lengths;
 use dbus_body::{begin_struct, put_number};
 use dbus_check::fault_at_end;
 use dbus_marshal::writing::overwrite_32;
@@ -30,7 +30,7 @@ const HEADER_ROOM: usize = 512;
 /// Appends the items up to the fields' length, for which 0 stands.
 fn put_fixed<A: Allocator>(
     out: &mut Vec<u8, A>,
-    parts: &PlacedParts,
+    parts: &Draft<'_>,
     body_length: u32,
 ) -> Result<(), AllocError>
     requires { out.old.items ≡ [] }
@@ -57,26 +57,26 @@ fn set_length<A: Allocator>(out: &mut Vec<u8, A>, order: Order, fields_length: u
 fn spell<A: Allocator + Copy>(
     alloc: A,
     given: &Given<'_>,
-    parts: &PlacedParts,
-) -> Result<Vec<u8, A>, PlacedFault>
+    parts: &Draft<'_>,
+) -> Result<Vec<u8, A>, DraftFault>
     requires kept { (fs : List FieldTree) × AreKept given.now parts.now.order fs }
     ensures spelled { (fs : List FieldTree) → AreKept given.now parts.now.order fs →
-        IfOk result (λ v. v.items ≡ spelled given.now.bytes.now fs parts.now) }
+        IfOk result (λ v. v.items ≡ spelled fs parts.now) }
     ensures bounded { (fs : List FieldTree) → AreKept given.now parts.now.order fs →
-        IfOk result (λ v. HaveBytes given.now.bytes.now fs parts.now) }
+        IfOk result (λ v. HaveBytes fs parts.now) }
     ensures refused { (fs : List FieldTree) → AreKept given.now parts.now.order fs →
-        IfErr result (λ why. HaveNoBytes given.now.bytes.now fs parts.now why) }
+        IfErr result (λ why. HaveNoBytes fs parts.now why) }
 {
     let (_kind, _flags, _serial) = (parts.kind, parts.flags, parts.serial);
     let (_reply_serial, _unix_fds) = (parts.reply_serial, parts.unix_fds);
-    check_places(given.bytes, parts)?;
-    let body = text_at(given.bytes, parts.body);
+    check_lengths(parts)?;
+    let body = parts.body;
     let mut out = Vec::with_capacity(alloc, body.len() + HEADER_ROOM)?;
     put_fixed(&mut out, parts, body.len() as u32)?;
     append_fields(&mut out, given, parts)?;
     let length = out.len() - FIELDS_START;
     if length > ARRAY_LIMIT as usize {
-        return Err(PlacedFault::TooLong(BODY));
+        return Err(DraftFault::TooLong(BODY));
     }
     set_length(&mut out, parts.order, length as u32);
     // A body begins where a struct could.
@@ -89,26 +89,26 @@ fn spell<A: Allocator + Copy>(
 /// their header fields. If the fields of a message are kept, which is in the same order, each stays
 /// in its place: one of a known code as the parts have it, or nothing, and one of another code as
 /// it is, as is a UNIX_FDS of 0 of which the parts have 0. Then come the fields that it did not
-/// have, in the order of their codes. `given` says which bytes the places are in.
+/// have, in the order of their codes.
 ///
 /// Some message within the limits has these parts exactly if it returns one. Else it returns the
-/// [`PlacedFault`], which says why; that of `Format` is the fault of the bytes that the parts
+/// [`DraftFault`], which says why; that of `Format` is the fault of the bytes that the parts
 /// spell. It takes one block of memory for a header of up to 512 bytes, and a few for a longer one.
 /// D-Bus Specification, "Message Format".
 pub fn build<A: Allocator + Copy>(
     alloc: A,
     given: &Given<'_>,
-    parts: &PlacedParts,
-) -> Result<Vec<u8, A>, PlacedFault>
+    parts: &Draft<'_>,
+) -> Result<Vec<u8, A>, DraftFault>
     requires kept { (fs : List FieldTree) × AreKept given.now parts.now.order fs }
     ensures built { (fs : List FieldTree) → AreKept given.now parts.now.order fs →
-        IfOk result (λ v. IsBuilt given.now.limits given.now.bytes.now fs parts.now v.items) }
+        IfOk result (λ v. IsBuilt given.now.limits fs parts.now v.items) }
     ensures refused { (fs : List FieldTree) → AreKept given.now parts.now.order fs →
-        IfErr result (λ why. IsRefusal given.now.limits given.now.bytes.now fs parts.now why) }
+        IfErr result (λ why. IsRefusal given.now.limits fs parts.now why) }
 {
     let out = spell(alloc, given, parts)?;
     match validate(out.as_slice(), given.limits) {
         Some(_) => Ok(out),
-        None => Err(PlacedFault::Format(fault_at_end(out.as_slice(), given.limits))),
+        None => Err(DraftFault::Format(fault_at_end(out.as_slice(), given.limits))),
     }
 }

@@ -6,13 +6,12 @@ ghost use Rattle.dbus_texts.specs.Types.{TextType, sig};
 ghost use Rattle.dbus_value_model.specs.SizeLimits.{with_padding, with_value};
 ghost use Rattle.dbus_value_model.specs.Values.{TextValue};
 ghost use Rattle.dbus_message_model.specs.Messages.{field_struct};
-ghost use Rattle.dbus_c_build.specs.Placed.{text_code, number_field, field_given};
-ghost use Rattle.dbus_c_build.specs.Building.{with_fields, AreGood};
-ghost use Rattle.dbus_c_build.specs.declared.placed_fault.PlacedFault.TheVariants.{Memory};
+ghost use Rattle.dbus_c_build.specs.Drafts.{text_code, number_field, field_given};
+ghost use Rattle.dbus_c_build.specs.Building.{with_fields, AreShort};
+ghost use Rattle.dbus_c_build.specs.declared.draft_fault.DraftFault.TheVariants.{Memory};
 
-use crate::placed::PlacedParts;
-use crate::placed_fault::PlacedFault;
-use crate::places::text_at;
+use crate::draft::Draft;
+use crate::draft_fault::DraftFault;
 use dbus_body::{PutFault, begin_struct, put_number, put_signature, put_text};
 use dbus_message_model::field_code::{PATH, SIGNATURE};
 use dbus_value_model::Order;
@@ -80,18 +79,17 @@ fn append_number<A: Allocator>(
 /// Appends the field of a known code, if the parts have one.
 pub(crate) fn append_given<A: Allocator>(
     out: &mut Vec<u8, A>,
-    bytes: &[u8],
-    parts: &PlacedParts,
+    parts: &Draft<'_>,
     code: u8,
-) -> Result<(), PlacedFault>
-    requires { AreGood bytes.now parts.now }
+) -> Result<(), DraftFault>
+    requires { AreShort parts.now }
     ensures appended { OnOk result (out.new.items ≡
-        with_fields parts.now.order (field_given bytes.now parts.now code) out.old.items) }
+        with_fields parts.now.order (field_given parts.now code) out.old.items) }
     ensures memory { IfErr result (λ why. why ≡ Memory) }
 {
-    match parts.place(code) {
-        Some(place) => {
-            append_text(out, parts.order, code, text_at(bytes, place))?;
+    match parts.text(code) {
+        Some(text) => {
+            append_text(out, parts.order, code, text)?;
             Ok(())
         }
         None => {

@@ -11,7 +11,7 @@ use dbus_value_model::Limits;
 /// What a message is built from, beside its parts.
 #[derive(Clone, Copy)]
 pub struct Given<'a> {
-    /// The bytes that the places are in.
+    /// The bytes that begin with the message that is kept; none if none is.
     pub bytes: &'a [u8],
     /// The limits that the message is held to.
     pub limits: Limits,
@@ -21,7 +21,7 @@ pub struct Given<'a> {
 }
 
 impl<'a> Given<'a> {
-    ghost use Rattle.dbus_c_build.specs.Placed.{AreKept};
+    ghost use Rattle.dbus_c_build.specs.Drafts.{AreKept};
 
     /// Whether a field of a known code is kept.
     pub(crate) fn has(&self, code: u8) -> bool

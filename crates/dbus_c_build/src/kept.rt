@@ -8,14 +8,14 @@ ghost use Rattle.dbus_value_model.specs.SizeLimits.{with_value};
 ghost use Rattle.dbus_message_model.specs.Messages.{FieldTree, field_struct};
 ghost use Rattle.dbus_validate.specs.Seen.{AreNoted};
 ghost use Rattle.dbus_walk.specs.Fields.{FieldStands, field_end};
-ghost use Rattle.dbus_c_build.specs.Building.{AreGood, with_fields};
-ghost use Rattle.dbus_c_build.specs.Placed.{AreKept, added, fields_after, in_place, known_codes, stays};
-ghost use Rattle.dbus_c_build.specs.declared.placed_fault.PlacedFault.TheVariants.{Memory};
+ghost use Rattle.dbus_c_build.specs.Building.{AreShort, with_fields};
+ghost use Rattle.dbus_c_build.specs.Drafts.{AreKept, added, fields_after, in_place, known_codes, stays};
+ghost use Rattle.dbus_c_build.specs.declared.draft_fault.DraftFault.TheVariants.{Memory};
 
+use crate::draft::Draft;
+use crate::draft_fault::DraftFault;
 use crate::fields::append_given;
 use crate::given::Given;
-use crate::placed::PlacedParts;
-use crate::placed_fault::PlacedFault;
 use dbus_body::begin_struct;
 use dbus_message_model::field_code::UNIX_FDS;
 use dbus_message_model::field_table::is_known;
@@ -25,7 +25,7 @@ use dbus_walk::{FIELDS_START, MessageBytes, Spot, field_at, fields_end, lengths_
 use std::alloc::{AllocError, Allocator};
 
 /// Whether a field of the message stays as it is.
-fn stays(parts: &PlacedParts, kept: &Validated, code: u8) -> bool
+fn stays(parts: &Draft<'_>, kept: &Validated, code: u8) -> bool
     ensures { (bytes : List ℕ) (fs : List FieldTree) → AreNoted fs bytes kept.now.fields →
         result ≡ stays parts.now fs code }
 {
@@ -59,13 +59,13 @@ fn append_same<A: Allocator>(
 fn append_kept<A: Allocator>(
     out: &mut Vec<u8, A>,
     given: &Given<'_>,
-    parts: &PlacedParts,
-) -> Result<(), PlacedFault>
+    parts: &Draft<'_>,
+) -> Result<(), DraftFault>
     requires kept { (fs : List FieldTree) × AreKept given.now parts.now.order fs }
-    requires good { AreGood given.now.bytes.now parts.now }
+    requires short { AreShort parts.now }
     ensures appended { (fs : List FieldTree) → AreKept given.now parts.now.order fs →
         OnOk result (out.new.items ≡ with_fields parts.now.order
-        (flat_map (in_place given.now.bytes.now parts.now fs) fs) out.old.items) }
+        (flat_map (in_place parts.now fs) fs) out.old.items) }
     ensures memory { IfErr result (λ why. why ≡ Memory) }
 {
     let kept = match given.kept {
@@ -92,7 +92,7 @@ fn append_kept<A: Allocator>(
         if stays(parts, &kept, field.code) {
             append_same(out, &source, at, place)?;
         } else {
-            append_given(out, given.bytes, parts, field.code)?;
+            append_given(out, parts, field.code)?;
         }
     }
     Ok(())
@@ -103,12 +103,12 @@ fn append_kept<A: Allocator>(
 fn append_added<A: Allocator>(
     out: &mut Vec<u8, A>,
     given: &Given<'_>,
-    parts: &PlacedParts,
-) -> Result<(), PlacedFault>
-    requires good { AreGood given.now.bytes.now parts.now }
+    parts: &Draft<'_>,
+) -> Result<(), DraftFault>
+    requires short { AreShort parts.now }
     ensures appended { (fs : List FieldTree) → AreKept given.now parts.now.order fs →
         OnOk result (out.new.items ≡ with_fields parts.now.order
-        (flat_map (added given.now.bytes.now parts.now fs) known_codes) out.old.items) }
+        (flat_map (added parts.now fs) known_codes) out.old.items) }
     ensures memory { IfErr result (λ why. why ≡ Memory) }
 {
     for before in 0..UNIX_FDS {
@@ -116,7 +116,7 @@ fn append_added<A: Allocator>(
         if given.has(code) {
             continue;
         }
-        append_given(out, given.bytes, parts, code)?;
+        append_given(out, parts, code)?;
     }
     Ok(())
 }
@@ -125,13 +125,13 @@ fn append_added<A: Allocator>(
 pub(crate) fn append_fields<A: Allocator>(
     out: &mut Vec<u8, A>,
     given: &Given<'_>,
-    parts: &PlacedParts,
-) -> Result<(), PlacedFault>
+    parts: &Draft<'_>,
+) -> Result<(), DraftFault>
     requires kept { (fs : List FieldTree) × AreKept given.now parts.now.order fs }
-    requires good { AreGood given.now.bytes.now parts.now }
+    requires short { AreShort parts.now }
     ensures appended { (fs : List FieldTree) → AreKept given.now parts.now.order fs →
         OnOk result (out.new.items ≡ with_fields parts.now.order
-        (fields_after given.now.bytes.now parts.now fs) out.old.items) }
+        (fields_after parts.now fs) out.old.items) }
     ensures memory { IfErr result (λ why. why ≡ Memory) }
 {
     append_kept(out, given, parts)?;

@@ -1,4 +1,4 @@
-//! Messages built in bytes, for C: of a header in numbers and places, and of a body that is spelled
+//! Messages built in bytes, for C: of a header in numbers and texts, and of a body that is spelled
 //! already. D-Bus Specification, "Message Format".
 //!
 //! [`build`] makes a message of parts, with its header fields in the order of their codes and none
@@ -7,15 +7,15 @@
 #![tactic(auto)]
 
 mod building;
+mod draft;
+mod draft_fault;
 mod fields;
 mod given;
 mod kept;
 pub mod laws;
-mod placed;
-mod placed_fault;
-mod places;
+mod lengths;
 
 pub use building::build;
+pub use draft::Draft;
+pub use draft_fault::DraftFault;
 pub use given::Given;
-pub use placed::{ByteRange, PlacedParts};
-pub use placed_fault::PlacedFault;

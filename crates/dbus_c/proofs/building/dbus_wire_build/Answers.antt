@@ -7,4 +7,4 @@ pub build_given-requires : goal.build_given-requires
 build_given-requires c = (Nothing, refl)
 
 pub returns : goal.returns
-returns c = subst (λ (l : Limits). Builds l c.args.bytes.now Nothing c.args.parts.now c.build_given.result c.build_given.new.told c.args.out.now c.build_given.new.out) c.given_limits.ensures (c.build_given.ensures Nothing refl)
+returns c = subst (λ (l : Limits). Builds l Nothing c.args.draft.now c.build_given.result c.build_given.new.told c.args.out.now c.build_given.new.out) c.given_limits.ensures (c.build_given.ensures Nothing refl)

@@ -16,15 +16,15 @@ returns-in-Ok-clause-rebuilds c =
     let j = c.in-Ok.validated in
     let first = subst (λ (l : Limits). IsValidated l c.args.bytes.now j) (sym c.given_limits.ensures) c.in-Ok.ensures.validated in
     let builds = c.build_given.ensures (FieldsOf j.order first.message) (record { first = first; order_is = refl; fields = refl }) in
-    changed (limits_of c.args.limits.now) c.given_limits.result c.args.bytes.now c.args.parts.now j first c.build_given.result c.build_given.new.told c.args.out.now c.build_given.new.out c.given_limits.ensures builds
+    changed (limits_of c.args.limits.now) c.given_limits.result c.args.bytes.now c.args.draft.now j first c.build_given.result c.build_given.new.told c.args.out.now c.build_given.new.out c.given_limits.ensures builds
 
 pub returns-in-Ok-clause-same : goal.returns-in-Ok-clause-same
 returns-in-Ok-clause-same c = λ has.
     let j = c.in-Ok.validated in
     let first = subst (λ (l : Limits). IsValidated l c.args.bytes.now j) (sym c.given_limits.ensures) c.in-Ok.ensures.validated in
     let builds = c.build_given.ensures (FieldsOf j.order first.message) (record { first = first; order_is = refl; fields = refl }) in
-    let rebuilds = changed (limits_of c.args.limits.now) c.given_limits.result c.args.bytes.now c.args.parts.now j first c.build_given.result c.build_given.new.told c.args.out.now c.build_given.new.out c.given_limits.ensures builds in
-    comes_back (limits_of c.args.limits.now) c.args.bytes.now c.args.parts.now has c.build_given.result c.build_given.new.told c.args.out.now c.build_given.new.out rebuilds
+    let rebuilds = changed (limits_of c.args.limits.now) c.given_limits.result c.args.bytes.now c.args.draft.now j first c.build_given.result c.build_given.new.told c.args.out.now c.build_given.new.out c.given_limits.ensures builds in
+    comes_back (limits_of c.args.limits.now) c.args.bytes.now c.args.draft.now has c.build_given.result c.build_given.new.told c.args.out.now c.build_given.new.out rebuilds
 
 pub returns-in-Err-clause-rebuilds : goal.returns-in-Err-clause-rebuilds
 returns-in-Err-clause-rebuilds c =

@@ -3,7 +3,7 @@ use Rattle.dbus_texts.specs.Types.{UINT32}
 use Rattle.dbus_value_model.specs.SizeLimits.{with_padding}
 use Rattle.dbus_value_model.specs.Bytes.{num}
 use Rattle.dbus_marshal.proofs.Written.{written_none, written_number}
-use Rattle.dbus_c_build.specs.Placed.{number_field, number_value}
+use Rattle.dbus_c_build.specs.Drafts.{number_field, number_value}
 use Rattle.dbus_c_build.specs.Building.{with_fields}
 use Rattle.dbus_c_build.proofs.Spelling.{on_ok, field_after, number_there}
 use Rattle.dbus_c_build.proofs.fields.append_number.Goals as goal

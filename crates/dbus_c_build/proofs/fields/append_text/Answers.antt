@@ -1,7 +1,7 @@
 use Rattle.std.proofs.Common.{◌<◌, arith, ℕ, sym, ap, ◌∙◌}
 use Rattle.dbus_value_model.specs.SizeLimits.{with_value}
 use Rattle.dbus_value_model.specs.Values.{TextValue}
-use Rattle.dbus_c_build.specs.Placed.{text_code}
+use Rattle.dbus_c_build.specs.Drafts.{text_code}
 use Rattle.dbus_c_build.proofs.Spelling.{on_ok, text_after, string_kind}
 use Rattle.dbus_c_build.proofs.fields.append_text.Goals as goal
 

@@ -1,5 +1,5 @@
 use Rattle.std.proofs.Common.{nat_eq, sym, ap, ◌∙◌}
-use Rattle.dbus_c_build.specs.Placed.{stays}
+use Rattle.dbus_c_build.specs.Drafts.{stays}
 use Rattle.dbus_c_build.proofs.kept.stays.Goals as goal
 
 pub returns-then-code-eq-UNIX_FDS : goal.returns-then-code-eq-UNIX_FDS

@@ -1,6 +1,7 @@
--- The parts of a message that is to be built, whose texts and body are places among bytes, and
--- which messages have them. D-Bus Specification, "Message Format" and "Header Fields".
-use Rattle.std.specs.Prelude.{◌≡◌, ℕ, ◌+◌, ◌≤◌, List, [], ◌∷◌, ◌++◌, length, take, drop, Bool, true, ◌&&◌, nat_eq, if◌then◌else◌, Option, Some, None, MatchOption}
+-- The parts of a message that is to be built, whose texts and body are anywhere, and which messages
+-- have them. D-Bus Specification, "Message Format" and "Header Fields".
+use Rattle.std.specs.Prelude.{◌≡◌, ℕ, List, [], ◌∷◌, ◌++◌, Bool, true, ◌&&◌, nat_eq, if◌then◌else◌, Option, Some, None, MatchOption}
+use Rattle.std.specs.Borrow.{Bor}
 use Rattle.std.specs.List.{flat_map}
 use Rattle.dbus_texts.specs.Types.{TextCode, STRING, OBJECT_PATH, SIGNATURE, UINT32}
 use Rattle.dbus_value_model.specs.Values.{NumberValue, TextValue}
@@ -9,29 +10,19 @@ use Rattle.dbus_value_model.specs.declared.limits.Limits.{Limits}
 use Rattle.dbus_value_model.specs.declared.order.Order.{Order}
 use Rattle.dbus_validate.specs.Validating.{IsValidated}
 use Rattle.dbus_validate.specs.declared.validating.Validated.{Validated}
-use Rattle.dbus_c_build.specs.declared.placed.ByteRange.{ByteRange}
-use Rattle.dbus_c_build.specs.declared.placed.PlacedParts.{PlacedParts}
+use Rattle.dbus_c_build.specs.declared.draft.Draft.{Draft}
 use Rattle.dbus_c_build.specs.declared.given.Given.{Given}
 
--- the place of the text of a field by its code, and of the body under 0
-abbrev pub place_of : ℕ → PlacedParts → Option ByteRange
-place_of code p =
+-- the text of a field by its code, and the body under 0
+abbrev pub text_of : ℕ → Draft → Option (Bor (List ℕ))
+text_of code p =
     if nat_eq code 0 then Some p.body else if nat_eq code 1 then p.path else if nat_eq code 2 then p.interface
     else if nat_eq code 3 then p.member else if nat_eq code 4 then p.error_name else if nat_eq code 6 then p.destination
     else if nat_eq code 7 then p.sender else if nat_eq code 8 then p.signature else None
 
 -- the number of a field by its code, or 0
-abbrev pub number_of : ℕ → PlacedParts → ℕ
+abbrev pub number_of : ℕ → Draft → ℕ
 number_of code p = if nat_eq code 5 then p.reply_serial else if nat_eq code 9 then p.unix_fds else 0
-
--- the place lies within the bytes, if there is one
-abbrev pub IsInside : List ℕ → Option ByteRange → Type 0
-IsInside b None = Unit {0}
-IsInside b (Some q) = q.start + q.length ≤ length b
-
--- what stands there
-abbrev pub text_at : List ℕ → ByteRange → List ℕ
-text_at b q = take q.length (drop q.start b)
 
 -- ---- fields
 
@@ -39,8 +30,8 @@ text_at b q = take q.length (drop q.start b)
 abbrev pub text_code : ℕ → TextCode
 text_code code = if nat_eq code 1 then OBJECT_PATH else if nat_eq code 8 then SIGNATURE else STRING
 
-abbrev pub text_value : List ℕ → (code : ℕ) → ByteRange → FieldTree
-text_value b code q = record { code = code; value = TextValue (text_code code) (text_at b q) }
+abbrev pub text_value : (code : ℕ) → List ℕ → FieldTree
+text_value code t = record { code = code; value = TextValue (text_code code) t }
 
 abbrev pub number_value : (code number : ℕ) → FieldTree
 number_value code n = record { code = code; value = NumberValue UINT32 n }
@@ -50,26 +41,26 @@ abbrev pub number_field : (code number : ℕ) → List FieldTree
 number_field code n = if nat_eq n 0 then [] else number_value code n ∷ []
 
 -- the field of a text, if there is one, or else of a number
-abbrev pub field_of : List ℕ → (code : ℕ) → Option ByteRange → (number : ℕ) → List FieldTree
-field_of b code (Some q) n = text_value b code q ∷ []
-field_of b code None n = number_field code n
+abbrev pub field_of : (code : ℕ) → Option (Bor (List ℕ)) → (number : ℕ) → List FieldTree
+field_of code (Some t) n = text_value code t.now ∷ []
+field_of code None n = number_field code n
 
 -- the field of a known code that the parts have, if they have one
-abbrev pub field_given : List ℕ → PlacedParts → (code : ℕ) → List FieldTree
-field_given b p code = field_of b code (place_of code p) (number_of code p)
+abbrev pub field_given : Draft → (code : ℕ) → List FieldTree
+field_given p code = field_of code (text_of code p) (number_of code p)
 
 -- Whether a field of a message stays as it is: it does if its code is unknown, or if it is the
 -- UNIX_FDS, which may be 0, of the number that the parts have.
-abbrev pub stays : PlacedParts → (kept : List FieldTree) → (code : ℕ) → Bool
+abbrev pub stays : Draft → (kept : List FieldTree) → (code : ℕ) → Bool
 stays p kept code = if is_known code then nat_eq code 9 && nat_eq p.unix_fds (fd_count kept) else true
 
 -- what comes in the place of a field of a message
-abbrev pub in_place : List ℕ → PlacedParts → (kept : List FieldTree) → FieldTree → List FieldTree
-in_place b p kept f = if stays p kept f.code then f ∷ [] else field_given b p f.code
+abbrev pub in_place : Draft → (kept : List FieldTree) → FieldTree → List FieldTree
+in_place p kept f = if stays p kept f.code then f ∷ [] else field_given p f.code
 
 -- the field of a code that the message does not have
-abbrev pub added : List ℕ → PlacedParts → (kept : List FieldTree) → (code : ℕ) → List FieldTree
-added b p kept code = if has_code code kept then [] else field_given b p code
+abbrev pub added : Draft → (kept : List FieldTree) → (code : ℕ) → List FieldTree
+added p kept code = if has_code code kept then [] else field_given p code
 
 abbrev pub known_codes : List ℕ
 known_codes = 1 ∷ (2 ∷ (3 ∷ (4 ∷ (5 ∷ (6 ∷ (7 ∷ (8 ∷ (9 ∷ []))))))))
@@ -77,16 +68,15 @@ known_codes = 1 ∷ (2 ∷ (3 ∷ (4 ∷ (5 ∷ (6 ∷ (7 ∷ (8 ∷ (9 ∷ []))
 -- The fields of a message that has these parts, if it keeps the fields of another, or none: each of
 -- these in its place, changed as the parts say, and then those that it did not have, in the order
 -- of their codes.
-abbrev pub fields_after : List ℕ → PlacedParts → (kept : List FieldTree) → List FieldTree
-fields_after b p kept = flat_map (in_place b p kept) kept ++ flat_map (added b p kept) known_codes
+abbrev pub fields_after : Draft → (kept : List FieldTree) → List FieldTree
+fields_after p kept = flat_map (in_place p kept) kept ++ flat_map (added p kept) known_codes
 
--- the message has exactly these parts beside what it keeps: no other field, and a body that the
--- bytes at its place spell
-pub record HasParts (b : List ℕ) (kept : List FieldTree) (p : PlacedParts) (m : MessageTree) : Type 0 where
-  pub inside : (code : ℕ) → IsInside b (place_of code p)
+-- the message has exactly these parts beside what it keeps: no other field, and a body that these
+-- bytes spell
+pub record HasParts (kept : List FieldTree) (p : Draft) (m : MessageTree) : Type 0 where
   pub numbers : (m.kind ≡ p.kind) × (m.flags ≡ p.flags) × (m.serial ≡ p.serial)
-  pub fields : m.fields ≡ fields_after b p kept
-  pub body : body_bytes p.order m ≡ text_at b p.body
+  pub fields : m.fields ≡ fields_after p kept
+  pub body : body_bytes p.order m ≡ p.body.now
 
 -- The header fields that a message keeps of another one.
 -- D-Bus Specification, "Header Fields".

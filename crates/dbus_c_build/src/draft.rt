@@ -1,4 +1,4 @@
-//! The parts of a message to be built, whose texts and body are among the caller's bytes.
+//! The parts of a message to be built, whose texts and body are the caller's bytes.
 #![tactic(auto)]
 
 ghost use Rattle.std.specs.Prelude.{◌≡◌};
@@ -11,18 +11,9 @@ use dbus_value_model::Order;
 /// What stands for the body among the codes of the fields.
 pub(crate) const BODY: u8 = 0;
 
-/// A place among bytes: where a text or a body is.
-#[derive(Clone, Copy, Debug, Drop)]
-pub struct ByteRange {
-    /// Its offset, in bytes from the first.
-    pub start: usize,
-    /// Its number of bytes.
-    pub length: usize,
-}
-
 /// The parts of a message. D-Bus Specification, "Message Format" and "Header Fields".
 #[derive(Drop)]
-pub struct PlacedParts {
+pub struct Draft<'a> {
     /// The byte order: that of the body, and so of the message.
     pub order: Order,
     /// The message type.
@@ -36,30 +27,30 @@ pub struct PlacedParts {
     /// The number of the UNIX_FDS field, or 0 for no such field.
     pub unix_fds: u32,
     /// The PATH.
-    pub path: Option<ByteRange>,
+    pub path: Option<&'a [u8]>,
     /// The INTERFACE.
-    pub interface: Option<ByteRange>,
+    pub interface: Option<&'a [u8]>,
     /// The MEMBER.
-    pub member: Option<ByteRange>,
+    pub member: Option<&'a [u8]>,
     /// The ERROR_NAME.
-    pub error_name: Option<ByteRange>,
+    pub error_name: Option<&'a [u8]>,
     /// The DESTINATION.
-    pub destination: Option<ByteRange>,
+    pub destination: Option<&'a [u8]>,
     /// The SENDER.
-    pub sender: Option<ByteRange>,
+    pub sender: Option<&'a [u8]>,
     /// The SIGNATURE: the types of the values in the body.
-    pub signature: Option<ByteRange>,
+    pub signature: Option<&'a [u8]>,
     /// The bytes of the body, spelled as they are in a message, where a body begins at a multiple
     /// of 8.
-    pub body: ByteRange,
+    pub body: &'a [u8],
 }
 
-impl PlacedParts {
-    ghost use Rattle.dbus_c_build.specs.Placed.{number_of, place_of};
+impl<'a> Draft<'a> {
+    ghost use Rattle.dbus_c_build.specs.Drafts.{number_of, text_of};
 
-    /// The place of the text of a field by its code, or of the body.
-    pub(crate) fn place(&self, code: u8) -> Option<ByteRange>
-        ensures { result ≡ place_of code self.now }
+    /// The text of a field by its code, or the body.
+    pub(crate) fn text(&self, code: u8) -> Option<&'a [u8]>
+        ensures { result ≡ text_of code self.now }
     {
         match code {
             BODY => Some(self.body),

@@ -1,0 +1,62 @@
+/* Is the service org.example.Load on the bus at a Unix socket, `service SOCKET`: its method Get
+ * returns the load of this machine, and any other is an error. It ends if a step fails. Of the
+ * handshake it reads a byte at a time, since messages follow it. */
+#include <dbus_wire.h>
+#include <stdlib.h>
+#include <sys/socket.h>
+#include <sys/un.h>
+#define BUS "org.freedesktop.DBus"
+#define TEXT dbus_wire_text_of
+#define PUT(call, ...) must(dbus_wire_put_##call(body, sizeof body, &spelled, __VA_ARGS__) == DBUS_WIRE_OK)
+static uint8_t in[1 << 20], out[1 << 16], body[1 << 10];
+static struct dbus_wire_writer spelled = {0, 'l', 0}; /* of `body` */
+static struct dbus_wire_checked told;
+static int bus;
+
+static void must(int holds) { if (!holds) exit(1); }
+static void send_out(size_t count) { must(send(bus, out, count, MSG_NOSIGNAL) == (ssize_t)count); }
+static void receive(size_t at, size_t end) {
+    must(at <= end && end <= sizeof in && (at == end || recv(bus, in + at, end - at, MSG_WAITALL) == (ssize_t)(end - at)));
+}
+
+static void call_bus(uint32_t serial, const char *member, const char *signature) {
+    struct dbus_wire_draft call = {.order = 'l', .kind = DBUS_WIRE_TYPE_METHOD_CALL, .serial = serial, .path = TEXT("/org/freedesktop/DBus"),
+                                   .interface = TEXT(BUS), .member = TEXT(member), .destination = TEXT(BUS), .signature = TEXT(signature),
+                                   .body = body, .body_length = spelled.length};
+    must(dbus_wire_build(&call, NULL, out, sizeof out, &told) == DBUS_WIRE_OK), send_out(told.length);
+}
+
+static void answer(const struct dbus_wire_parts *call, uint32_t serial) {
+    int is_get = call->member.length == 3 && memcmp(in + call->member.offset, "Get", 3) == 0;
+    union { double number; uint64_t bits; } load;
+    spelled = (struct dbus_wire_writer){0, call->order, 0}, must(getloadavg(&load.number, 1) == 1);
+    is_get ? PUT(number, 8, load.bits) : PUT(text, "try Get", 7);
+    struct dbus_wire_draft reply = {.serial = serial, .signature = TEXT(is_get ? "d" : "s"), .body = body, .body_length = spelled.length};
+    if (!is_get) reply.error_name = TEXT(BUS ".Error.UnknownMethod");
+    must(dbus_wire_reply_to(in, call->length, NULL, &reply, out, sizeof out, &told) == DBUS_WIRE_OK), send_out(told.length);
+}
+
+int main(int count, char **words) {
+    struct sockaddr_un address = {.sun_family = AF_UNIX};
+    struct dbus_wire_mechanisms mechanisms = {DBUS_WIRE_EXTERNAL_AS_REPORTED, 0, 0, 0};
+    struct dbus_wire_handshake client = {0};
+    struct dbus_wire_handshake_step step;
+    struct dbus_wire_parts call;
+    must(count == 2 && strlen(words[1]) < sizeof address.sun_path && (bus = socket(AF_UNIX, SOCK_STREAM, 0)) >= 0);
+    strcpy(address.sun_path, words[1]);
+    must(connect(bus, (struct sockaddr *)&address, sizeof address) == 0 && dbus_wire_client_new(&mechanisms, NULL, 0, &client) == DBUS_WIRE_OK);
+    for (uint32_t length = 0, found = DBUS_WIRE_PARTIAL; found == DBUS_WIRE_PARTIAL; length = 1) {
+        receive(0, length);
+        must((found = dbus_wire_handshake_take(&client, in, length, out, sizeof out, &step)) <= DBUS_WIRE_PARTIAL);
+        send_out(step.reply);
+    }
+    dbus_wire_handshake_free(&client);
+    call_bus(1, "Hello", "");
+    PUT(text, "org.example.Load", 16), PUT(number, 4, 0);
+    call_bus(2, "RequestName", "su");
+    for (uint32_t serial = 3;; serial++) {
+        receive(0, 16), receive(16, dbus_wire_wanted(in, 16, NULL));
+        must(dbus_wire_parts_of(in, sizeof in, NULL, &call, NULL) == DBUS_WIRE_WHOLE);
+        if (call.kind == DBUS_WIRE_TYPE_METHOD_CALL && !(call.flags & DBUS_WIRE_FLAG_NO_REPLY_EXPECTED)) answer(&call, serial);
+    }
+}
