@@ -1,4 +1,5 @@
--- A message built of a draft, or changed by it: what each answer says, and which parts have it. D-Bus Specification, "Message Format" and "Header Fields".
+-- A message built of a draft, or changed by it: what each answer says, and which parts have it.
+-- D-Bus Specification, "Message Format" and "Header Fields".
 use Rattle.std.specs.Prelude.{◌≡◌, ◌⊎◌, ℕ, ◌<◌, ◌≤◌, List, [], ◌++◌, length, take, drop, Option, Some, None, MatchOption, nat_eq, if◌then◌else◌}
 use Rattle.std.specs.Borrow.{Bor}
 use Rattle.dbus_value_model.specs.declared.fault.Reason.{Reason}

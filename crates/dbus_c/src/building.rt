@@ -32,9 +32,9 @@ use std::alloc::Global;
 /// the bytes that the draft spells; or `Overrun` if a number over 255 stands for a byte;
 /// `MessageTooLong` or `Signature` if a text is too long for any message; `ByteOrder` if no order is
 /// named. Of several faults the first is reported: the order, the numbers, the body, each field in
-/// the order of the codes, all fields, the bytes. [`NO_MEMORY`] if memory runs out, of which it takes
-/// one block for a header of up to 512 bytes. In these three cases `out` stays as it was. D-Bus
-/// Specification, "Message Format" and "Header Fields".
+/// the order of the codes, all fields, the bytes. [`NO_MEMORY`] if memory runs out, of which it
+/// takes one block for a header of up to 512 bytes. In these three cases `out` stays as it was.
+/// D-Bus Specification, "Message Format" and "Header Fields".
 #[unsafe(no_mangle)]
 pub extern "C" fn dbus_wire_build(
     alloc: Global,

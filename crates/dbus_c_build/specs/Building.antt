@@ -55,7 +55,8 @@ abbrev pub IsShort : ℕ → Option (Bor (List ℕ)) → Type 0
 IsShort code None = Unit {0}
 IsShort code (Some t) = length t.now ≤ most_of code
 
--- the texts of the fields of all codes, or of those below one, and under 0 the body, are not too long
+-- the texts of the fields of all codes, or of those below one, and under 0 the body, are not too
+-- long
 abbrev pub AreShort : Draft → Type 0
 AreShort p = (code : ℕ) → IsShort code (text_of code p)
 
