@@ -318,9 +318,10 @@ class Messages(unittest.TestCase):
             signal = build(MessageType.SIGNAL, 7, "s", "hi", order=order, path="/a", interface="b.c", member="D")
             fields, data = signal.header_fields, signal.data
             self.assertEqual(whole_fields(data[:-1] + b"\1"), fields)
-            # The 0 after each field's text, and what is whole before it.
-            ends = [at for at in range(16, len(data)) if whole_fields(data[:at] + b"\xff" + data[at + 1 :]) is not None]
-            found = [whole_fields(data[:at] + b"\xff" + data[at + 1 :]) for at in ends]
+            changed = (data[:at] + b"\xff" + data[at + 1 :] for at in range(16, len(data)))
+            # What comes before the changed byte is as it was.
+            at_it = [it for it in changed if (found := explain(it)) and data[: found.fault.at] == it[: found.fault.at]]
+            found = [whole_fields(it) for it in at_it]
             self.assertEqual([it for it in found if it != fields[: len(it)]], [])
             self.assertEqual({len(it) for it in found}, set(range(len(fields) + 1)))
         self.assertEqual(whole_fields(b"l\0"), [])

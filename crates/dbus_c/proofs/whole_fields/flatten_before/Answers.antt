@@ -1,4 +1,4 @@
-use Rattle.std.proofs.Common.{List, [], map, subst}
+use Rattle.std.proofs.Common.{[], map, subst}
 use Rattle.dbus_value_model.specs.Values.{value_trees}
 use Rattle.dbus_value_model.specs.declared.order.Order.{Order}
 use Rattle.dbus_message_model.specs.Messages.{field_struct}
