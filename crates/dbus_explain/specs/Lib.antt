@@ -12,3 +12,4 @@ pub mod EscapingLaws
 pub mod Heads
 pub mod Members
 pub mod Laws
+pub mod FirstFields

@@ -2,6 +2,7 @@
 //! definitions, and it does nothing when it runs.
 #![tactic(auto)]
 
+ghost use Rattle.dbus_explain.specs.FirstFields.{FirstFields};
 ghost use Rattle.dbus_explain.specs.Laws.{OneExplanation, OneRefusal};
 
 /// A message that is refused is explained in one way, by its bytes as far as they were read, its
@@ -15,4 +16,10 @@ pub fn one_explanation()
 /// fault has a DOUBLE, which may be written by any digits that read back as its bits.
 pub fn one_refusal()
     ensures { OneRefusal }
+{}
+
+/// The header fields that are whole before the place of a fault are the first ones of each message
+/// that has the same bytes up to the end of the last of them. D-Bus Specification, "Header Fields".
+pub fn first_fields()
+    ensures { FirstFields }
 {}
