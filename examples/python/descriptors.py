@@ -26,10 +26,8 @@ class Incoming:
         return data
 
 
-bus, serial = socket.socket(socket.AF_UNIX), itertools.count(1)
-bus.connect(sys.argv[1])
-client = Client(user=os.getuid(), descriptors=True)
-client.shake_hands(bus)
+client, serial = Client(user=os.getuid(), descriptors=True), itertools.count(1)
+bus = client.connect(sys.argv[1])
 if not client.agreed:
     sys.exit("the bus passes no descriptors")
 for member, *body in ("Hello",), ("RequestName", "su", "org.example.Echo", 0):

@@ -1,24 +1,18 @@
 #!/usr/bin/env python3
-"""Is the service org.example.Load on the bus at a Unix socket, `service.py SOCKET`: its method Get
-returns the load of this machine, and any other is an error."""
+"""Is the service org.example.Load on the bus at a Unix socket: Get returns this machine's load."""
 
-import itertools
 import os
-import socket
 import sys
 
 from dbus_wire import Client, MessageType, Variant, build, error_to, messages, reply_to
 
 BUS = "org.freedesktop.DBus"
 TO_BUS = {"destination": BUS, "path": "/org/freedesktop/DBus", "interface": BUS}
-bus, serial = socket.socket(socket.AF_UNIX), itertools.count(1)
-bus.connect(sys.argv[1])
-Client(user=os.getuid()).shake_hands(bus)
-for member, *body in ("Hello",), ("RequestName", "su", "org.example.Load", 0):
-    bus.sendall(bytes(build(MessageType.METHOD_CALL, next(serial), *body, member=member, **TO_BUS)))
-for call in filter(lambda message: message.wants_reply, messages(bus.makefile("rb"))):
-    if call.member == "Get":
-        reply = reply_to(call, next(serial), "a{sv}", {"Load": Variant("d", os.getloadavg()[0])})
-    else:
-        reply = error_to(call, next(serial), f"{BUS}.Error.UnknownMethod", "s", "try Get")
-    bus.sendall(bytes(reply))
+bus = Client(user=os.getuid()).connect(sys.argv[1])
+bus.sendall(bytes(build(MessageType.METHOD_CALL, 1, member="Hello", **TO_BUS)))
+bus.sendall(bytes(build(MessageType.METHOD_CALL, 2, "su", "org.example.Load", 0, member="RequestName", **TO_BUS)))
+for serial, call in enumerate(messages(bus.makefile("rb")), 3):
+    if call.wants_reply and call.member == "Get":
+        bus.sendall(bytes(reply_to(call, serial, "a{sv}", {"Load": Variant("d", os.getloadavg()[0])})))
+    elif call.wants_reply:
+        bus.sendall(bytes(error_to(call, serial, f"{BUS}.Error.UnknownMethod", "s", "try Get")))

@@ -130,9 +130,7 @@ class Client(_Handshake):
     """A client's end of the handshake. It may be shared by threads, whose calls wait for each
     other.
 
-        bus = socket.socket(socket.AF_UNIX)
-        bus.connect("/run/user/1000/bus")
-        Client(user=os.getuid()).shake_hands(bus)
+        bus = Client(user=os.getuid()).connect("/run/user/1000/bus")
     """
 
     __slots__ = ()
@@ -153,6 +151,18 @@ class Client(_Handshake):
         if answer == REFUSED:
             raise ValueError("the trace has more than 255 bytes")
         self._keep(handle)
+
+    def connect(self, path: str) -> socket.socket:
+        """A connection to the Unix socket at this path, on which the client shook hands. Raises what
+        `shake_hands` raises; then the connection is closed."""
+        connection = socket.socket(socket.AF_UNIX)
+        try:
+            connection.connect(path)
+            self.shake_hands(connection)
+        except BaseException:
+            connection.close()
+            raise
+        return connection
 
     @property
     def guid(self) -> str | None:

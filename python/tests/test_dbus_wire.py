@@ -9,6 +9,7 @@ import os
 import pickle
 import re
 import socket
+import tempfile
 import unittest
 from concurrent.futures import ThreadPoolExecutor
 from unittest import mock
@@ -636,6 +637,32 @@ class Handshakes(unittest.TestCase):
                 there.shutdown(socket.SHUT_WR)
                 self.assertRaisesRegex(ConnectionError, text, client.shake_hands, here)
                 self.assertEqual(there.recv(100), b"\0AUTH EXTERNAL 37\r\n")
+
+    def test_connections(self):
+        with tempfile.TemporaryDirectory() as folder, socket.socket(socket.AF_UNIX) as listening:
+            path = f"{folder}/bus"
+            self.assertRaises(FileNotFoundError, Client(user=7).connect, path)
+            listening.bind(path)
+            listening.listen()
+            for user, error in ((7, None), (8, ConnectionError)):
+                with ThreadPoolExecutor(1) as pool, Client(user=7) as client, Server(self.GUID, user) as server:
+                    serving = pool.submit(lambda: self.serve_one(listening, server))
+                    if error:
+                        self.assertRaises(error, client.connect, path)
+                    else:
+                        with client.connect(path) as connection:
+                            connection.sendall(SESSION)
+                    self.assertEqual(serving.result(20), b"" if error else SESSION)
+
+    def serve_one(self, listening, server):
+        """What a client sends after its handshake."""
+        there, _ = listening.accept()
+        with there, there.makefile("rb") as file:
+            try:
+                server.shake_hands(there)
+            except ConnectionError:
+                return b""
+            return file.read()
 
     def test_ends_that_fail(self):
         with Client(user=1) as client:

@@ -142,12 +142,32 @@ impl Body {
     /// If no type has the alignment.
     pub fn array(&mut self, alignment: u32, elements: impl FnOnce(&mut Self) -> Result<(), TooLong>) -> Result<(), TooLong> {
         assert!(matches!(alignment, 1 | 2 | 4 | 8), "no type has the alignment {alignment}");
+        let array = self.open_array(alignment)?;
+        elements(self)?;
+        self.close_array(&array)
+    }
+
+    /// Puts the length of an array, as 0 until it is closed, and the padding to its first element,
+    /// whose alignment is given.
+    pub(crate) fn open_array(&mut self, alignment: u32) -> Result<sys::dbus_wire_array, TooLong> {
         let mut array = sys::dbus_wire_array::default();
         // SAFETY: a mutable slice and two references, as `sys` says.
         self.put(|out, writer| unsafe { sys::dbus_wire_open_array(out.as_mut_ptr(), out.len(), writer, alignment, &mut array) })?;
-        elements(self)?;
+        Ok(array)
+    }
+
+    /// Puts the length of an array, whose elements end here.
+    pub(crate) fn close_array(&mut self, array: &sys::dbus_wire_array) -> Result<(), TooLong> {
         // SAFETY: a mutable slice and two references, as `sys` says.
-        self.put(|out, writer| unsafe { sys::dbus_wire_close_array(out.as_mut_ptr(), out.len(), writer, &array) })
+        self.put(|out, writer| unsafe { sys::dbus_wire_close_array(out.as_mut_ptr(), out.len(), writer, array) })
+    }
+
+    /// Puts the elements of an array of BYTE.
+    pub(crate) fn bytes_of_array(&mut self, bytes: &[u8]) {
+        let length = self.bytes().len();
+        self.room.truncate(length);
+        self.room.extend(bytes);
+        self.writer.length = self.room.len() as u64;
     }
 
     fn number(&mut self, width: u32, bits: u64) {

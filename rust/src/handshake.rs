@@ -2,6 +2,7 @@
 
 use std::error::Error;
 use std::fmt;
+use std::io::{self, ErrorKind, Read, Write};
 use std::ptr;
 
 use crate::{sys, OutOfMemory};
@@ -88,6 +89,25 @@ impl Handshake {
         Ok(Step { count: told.count as usize, reply: &self.room[..told.reply as usize], status })
     }
 
+    fn shake_hands(&mut self, mut connection: impl Read + Write) -> io::Result<()> {
+        let mut byte = [0];
+        let mut piece = &byte[..0];
+        loop {
+            let step = self.take(piece).map_err(|_| ErrorKind::OutOfMemory)?;
+            // After BEGIN a client may be gone, to which nothing can be sent, no bytes either.
+            if !step.reply.is_empty() {
+                connection.write_all(step.reply)?;
+            }
+            match step.status {
+                // A byte at a time: the last line may have the first message behind it.
+                Status::Talking => connection.read_exact(&mut byte)?,
+                Status::Begun => return Ok(()),
+                Status::Closed => return Err(io::Error::new(ErrorKind::ConnectionRefused, "the handshake failed")),
+            }
+            piece = &byte;
+        }
+    }
+
     fn agreed(&mut self) -> bool {
         // SAFETY: a reference, as `sys` says; only calls write `raw`.
         unsafe { sys::dbus_wire_handshake_agreed(&mut self.raw) == sys::DBUS_WIRE_OK }
@@ -168,6 +188,15 @@ impl Server {
         self.0.take(piece)
     }
 
+    /// Shakes hands with the other end of a connection that blocks, from the first byte on. It
+    /// reads no byte of what follows, which [`messages`](crate::messages) reads.
+    ///
+    /// If the handshake fails, the error is `ConnectionRefused`, and if memory runs out
+    /// `OutOfMemory`. Others are those of the connection.
+    pub fn shake_hands(&mut self, connection: impl Read + Write) -> io::Result<()> {
+        self.0.shake_hands(connection)
+    }
+
     /// Whether both ends agreed to pass Unix file descriptors, once the handshake succeeded.
     pub fn agreed(&mut self) -> bool {
         self.0.agreed()
@@ -246,6 +275,15 @@ impl Client {
     /// piece again.
     pub fn take(&mut self, piece: &[u8]) -> Result<Step<'_>, OutOfMemory> {
         self.0.take(piece)
+    }
+
+    /// Shakes hands with the other end of a connection that blocks, from the first byte on. It
+    /// reads no byte of what follows, which [`messages`](crate::messages) reads.
+    ///
+    /// If the handshake fails, the error is `ConnectionRefused`, and if memory runs out
+    /// `OutOfMemory`. Others are those of the connection.
+    pub fn shake_hands(&mut self, connection: impl Read + Write) -> io::Result<()> {
+        self.0.shake_hands(connection)
     }
 
     /// Whether both ends agreed to pass Unix file descriptors, once the handshake succeeded.

@@ -49,6 +49,7 @@
 //!
 //! [D-Bus Specification]: https://dbus.freedesktop.org/doc/dbus-specification.html
 
+mod bad_value;
 mod body;
 mod build;
 mod check;
@@ -59,13 +60,16 @@ mod handshake;
 mod limits;
 mod line;
 mod message;
+mod messages;
 mod rule;
 mod swap;
 pub mod sys;
 mod text;
+mod typed;
 mod value;
 mod watch;
 
+pub use bad_value::BadValue;
 pub use body::{Body, TooLong};
 pub use build::{build, rebuild, reply_to, BuildError, Parts};
 pub use check::{check, wanted, Answer, Order};
@@ -75,11 +79,13 @@ pub use fault::{Fault, ParseError, Reason, RuleReason};
 pub use handshake::{Client, External, HandshakeError, Server, Status, Step};
 pub use limits::{Descriptors, Limits};
 pub use line::{client_line, server_line, Command, Line, LineFault};
-pub use message::{Flags, Kind, Message};
+pub use message::{Flags, Kind, Message, OwnedMessage};
+pub use messages::{messages, Messages, ReadError};
 pub use rule::{OwnerError, Rule, RuleError, RuleFault, RuleId, RuleSet, SharedRules};
 pub use swap::{byteswap, SwapError};
 pub use sys::dbus_wire_flat_item as FlatItem;
 pub use text::{check_text, TextFault, TextKind};
+pub use typed::{spell, AnyVariant, FromValue, MakeError, ObjectPath, Signature, Spelled, ToValue, Typed, UnixFd, VariantOf};
 pub use value::{Array, Entry, Fields, Value, Values, Variant};
 pub use watch::{NotPassed, Passage, Watch};
 

@@ -1,7 +1,11 @@
 //! A message that borrows its bytes.
 
+mod owned;
+
 use std::fmt;
 use std::num::NonZeroU32;
+
+pub use owned::OwnedMessage;
 
 use crate::value::{body_items, items_written, text_at};
 use crate::{byteswap, sys, Answer, Fields, FlatItem, Limits, Order, ParseError, Parts, Values};

@@ -75,7 +75,7 @@ fn within(item: &FlatItem) -> usize {
 }
 
 // How many bytes a number of this type has; none if it is no type of numbers.
-fn width(code: u8) -> Option<usize> {
+pub(crate) fn width(code: u8) -> Option<usize> {
     match code {
         b'y' => Some(1),
         b'n' | b'q' => Some(2),
@@ -86,7 +86,7 @@ fn width(code: u8) -> Option<usize> {
 }
 
 // The first type of a signature, and those after it.
-fn split_type(types: &str) -> (&str, &str) {
+pub(crate) fn split_type(types: &str) -> (&str, &str) {
     let (mut open, mut end) = (0, 0);
     for code in types.bytes() {
         end += 1;
@@ -149,6 +149,31 @@ impl<'a> Value<'a> {
             Value::String(text) | Value::ObjectPath(text) | Value::Signature(text) => Some(text),
             _ => None,
         }
+    }
+
+    /// Its type, as a signature of one complete type. That of a dict entry is none: no signature has
+    /// it alone.
+    pub fn signature(&self) -> String {
+        let code = match self {
+            Value::Array(array) => return format!("a{}", array.element_type()),
+            Value::Struct(fields) => return format!("({})", fields.types()),
+            Value::Entry(entry) => return format!("{{{}}}", entry.0.types()),
+            Value::Byte(_) => 'y',
+            Value::Boolean(_) => 'b',
+            Value::Int16(_) => 'n',
+            Value::Uint16(_) => 'q',
+            Value::Int32(_) => 'i',
+            Value::Uint32(_) => 'u',
+            Value::Int64(_) => 'x',
+            Value::Uint64(_) => 't',
+            Value::Double(_) => 'd',
+            Value::UnixFd(_) => 'h',
+            Value::String(_) => 's',
+            Value::ObjectPath(_) => 'o',
+            Value::Signature(_) => 'g',
+            Value::Variant(_) => 'v',
+        };
+        code.into()
     }
 
     // The number of an item, or of so many bytes of an array.
