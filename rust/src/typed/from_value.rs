@@ -44,8 +44,8 @@ impl<'a> Message<'a> {
     /// The body as a value of Rust: a tuple of its values, or the one value that it has. Texts and
     /// arrays of BYTE may borrow from the message. As an `Option` a body without values is `None`.
     ///
-    /// A body of other types than [`Typed`] says is refused before any value is taken, by their
-    /// names.
+    /// A body of other types than this stands for is refused before any value is taken: the error
+    /// has the first type that differs, and the one that is wanted.
     ///
     /// ```
     /// use std::collections::HashMap;
@@ -70,8 +70,8 @@ impl<'a> Message<'a> {
 }
 
 impl<'a> Value<'a> {
-    /// The value as one of Rust: what [`TryFrom`] makes of it. A value of another type than
-    /// [`Typed`] says is refused before any part of it is taken.
+    /// The value as one of Rust: what [`TryFrom`] makes of it. A value of another type than this
+    /// stands for is refused before any part of it is taken.
     ///
     /// ```
     /// use dbus_wire::Value;
