@@ -155,7 +155,7 @@ fn read_array<A: Allocator + Copy>(
     let Json::Array(items) = json else {
         return Err(Unread::Unspelled);
     };
-    let mut values = Vec::new(alloc);
+    let mut values = Vec::with_capacity(alloc, items.len())?;
     for item in items {
         values.push(read_value(alloc, element, item, depth - 1)?)?;
     }
@@ -210,7 +210,7 @@ pub fn read_values<A: Allocator + Copy>(
     if items.len() != types.len() {
         return Err(Unread::Unspelled);
     }
-    let mut values = Vec::new(alloc);
+    let mut values = Vec::with_capacity(alloc, items.len())?;
     for (i, item) in items.iter().enumerate() {
         values.push(read_value(alloc, &types[i], item, depth)?)?;
     }

@@ -41,7 +41,7 @@ read_array-returns-in_default g t c = record {
 }
 
 pub read_array-loop-item-init : goal.read_array-loop-item-init
-read_array-loop-item-init g t c = (begins_at _ _ _ c.new-values.ensures.items, keeps_none _ c.new-values.ensures.items)
+read_array-loop-item-init g t c = (begins_at _ _ _ c.in_ok-values.ensures.items, keeps_none _ c.in_ok-values.ensures.items)
 
 pub read_array-read_value-requires : goal.read_array-read_value-requires
 read_array-read_value-requires g t c κs within =
@@ -127,7 +127,7 @@ read_values-returns-then-items-types-clause-refused g t c = λ e js xs is h.
     c.if-items-types.true (one_each _ c.args.types.now xs c.as_slice-items.result.now (subst (λ ks. AreRead c.args.depth (type_trees_of c.args.types.now) xs ks) items h))
 
 pub read_values-loop-i-init : goal.read_values-loop-i-init
-read_values-loop-i-init g t c = (begins_at _ _ _ c.new-values.ensures.items, keeps_none _ c.new-values.ensures.items)
+read_values-loop-i-init g t c = (begins_at _ _ _ c.in_ok-values.ensures.items, keeps_none _ c.in_ok-values.ensures.items)
 
 pub read_values-read_value-requires : goal.read_values-read_value-requires
 read_values-read_value-requires g t c κs within =
@@ -139,7 +139,7 @@ pub read_values-returns-in_err-read_value-clause-refused : goal.read_values-retu
 read_values-returns-in_err-read_value-clause-refused g t c = λ e js xs is h.
     let l = c.as_slice-items.result.now in
     let seen = array_seen c.args.json.now c.in-Array.items l c.in-Array.is c.as_slice-items.ensures.value in
-    let same = failed c.from_residual.result c.in_err-read_value.field-0.0 c.from_residual.ensures.1 e in
+    let same = failed c.from_residual-in_err-read_value.result c.in_err-read_value.field-0.0 c.from_residual-in_err-read_value.ensures.1 e in
     let items = arrays_same _ _ (sym is ∙ seen) in
     no_value _ c.args.types.now l c.loop-i.i c.loop-i.values.items c.loop-i.invariant.0 c.if-items-types.false c.index-items-i.result c.index-types-i.result c.loop-i-test.true c.index-items-i.is c.index-types-i.is (λ w one. c.in_err-read_value.ensures.refused same w one) xs (subst (λ ks. AreRead c.args.depth (type_trees_of c.args.types.now) xs ks) items h)
 
