@@ -6,10 +6,10 @@ use Rattle.std.specs.List.{flat_map}
 use Rattle.json.specs.Word.{is_space}
 use Rattle.dbus_message_model.specs.Messages.{message_bytes}
 use Rattle.dbus_json_lines.specs.JsonLines.{IsBlank, IsLineOf}
-use Rattle.dbus_json_laws.proofs.KeptLines.{line_kept, one_message_of}
-use Rattle.cli_encode.specs.Outcomes.{Outcome, Written, Passed, Refused, Encodes, IsOutcome, AreOutcomes, all_bytes, any_refused, next_serial, order_in, serial_after}
+use Rattle.dbus_json_laws.proofs.KeptLines.{line_kept}
+use Rattle.cli_encode.specs.Outcomes.{Outcome, Written, Encodes, IsOutcome, AreOutcomes, all_bytes, any_refused, next_serial, order_in, serial_after}
 use Rattle.cli_encode.specs.declared.encoding.Encoding.{Encoding}
-use Rattle.cli_encode.specs.declared.reason.LineReason.TheVariants.{TooLong, Unspelled}
+use Rattle.cli_encode_laws.proofs.Outcomes.{one_outcome}
 use Rattle.cli_encode_laws.specs.Inverse.{PlacedMessage, IsItsLine, AreTheirLines, IsEachWritten, IsInverse, all_written, bytes_of}
 
 -- a line that begins with a brace
@@ -35,17 +35,11 @@ module _ (encoding : Encoding) (kept : encoding.order ≡ None) where
   is_written serial m line h = (h.short, not_blank m line h, encodes serial m line h)
 
   only_written : (serial : ℕ) (m : PlacedMessage) (line : List ℕ) (o : Outcome) → IsItsLine encoding m line → IsOutcome encoding serial line o → o ≡ Written (bytes_of m)
-  only_written serial m line (Written bytes) h is =
-      let e = is.2 in
-      let same = one_message_of encoding.limits encoding.limits serial e.order m.order e.message m.message line e.spelled (spelled serial m line h) in
-      ap Written (e.encoded ∙ ap (λ o. message_bytes (order_in o e.order) e.message) kept ∙ ap₂ message_bytes same.0 same.1)
-  only_written serial m line Passed h is = absurd (not_blank m line h is.1)
-  only_written serial m line (Refused TooLong) h is = absurd (let short = h.short in omega (arith, short, is))
-  only_written serial m line (Refused Unspelled) h is = absurd (is.2 (bytes_of m) (encodes serial m line h))
+  only_written serial m line o h is = one_outcome encoding serial line o (Written (bytes_of m)) is (is_written serial m line h)
 
   -- ---- all lines
 
-  are_written : (serial : ℕ) (ms : List PlacedMessage) (lines : List (List ℕ)) → AreTheirLines encoding ms lines → AreOutcomes encoding serial lines (all_written ms)
+  pub are_written : (serial : ℕ) (ms : List PlacedMessage) (lines : List (List ℕ)) → AreTheirLines encoding ms lines → AreOutcomes encoding serial lines (all_written ms)
   are_written serial [] [] h = tt
   are_written serial [] (line ∷ lines) h = absurd h
   are_written serial (m ∷ ms) [] h = absurd h
@@ -62,11 +56,11 @@ module _ (encoding : Encoding) (kept : encoding.order ≡ None) where
 
 -- ---- what is written
 
-bytes_written : (ms : List PlacedMessage) → all_bytes (all_written ms) ≡ flat_map bytes_of ms
+pub bytes_written : (ms : List PlacedMessage) → all_bytes (all_written ms) ≡ flat_map bytes_of ms
 bytes_written [] = refl
 bytes_written (m ∷ ms) = ap (λ (l : List ℕ). bytes_of m ++ l) (bytes_written ms)
 
-none_refused : (ms : List PlacedMessage) → any_refused (all_written ms) ≡ false
+pub none_refused : (ms : List PlacedMessage) → any_refused (all_written ms) ≡ false
 none_refused [] = refl
 none_refused (m ∷ ms) = none_refused ms
 

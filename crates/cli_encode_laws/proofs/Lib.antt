@@ -1,1 +1,3 @@
-mod Inverse
+pub mod Outcomes
+pub mod Inverse
+pub mod OneEncoding

@@ -2,6 +2,7 @@
 #![tactic(auto)]
 
 ghost use Rattle.cli_encode_laws.specs.Inverse.{IsEachWritten, IsInverse};
+ghost use Rattle.cli_encode_laws.specs.OneEncoding.{OneEncoding};
 
 /// Each line that `json` writes of a valid message, no longer than a line may be, is written as that
 /// message, and nothing else becomes of it, if no other byte order is wanted.
@@ -13,4 +14,10 @@ pub fn lines_written()
 /// bytes of these messages, and none is refused, if no other byte order is wanted.
 pub fn messages_back()
     ensures { IsInverse }
+{}
+
+/// Two runs that encode lines in the same way, neither of which failed, and read the same input end
+/// with the same status, and their writers got the same bytes.
+pub fn one_encoding<R, S, W, V, E, F>()
+    ensures { OneEncoding R S W V E F }
 {}

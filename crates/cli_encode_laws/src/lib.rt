@@ -1,7 +1,7 @@
 //! Laws of lines of JSON that are encoded.
 //!
-//! `json` and then `encode` gives the messages back. No program needs this crate, since its
-//! functions do nothing when they run.
+//! Lines have one encoding, and `json` and then `encode` gives the input back. The functions do
+//! nothing when they run.
 #![tactic(auto)]
 
 pub mod laws;

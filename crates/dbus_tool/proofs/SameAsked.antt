@@ -25,7 +25,7 @@ use Rattle.dbus_match.specs.Matching.{Ownership, ownership, ownerships}
 use Rattle.dbus_rule.specs.RuleViews.{rule_pairs}
 use Rattle.cli_options.specs.CommandLine.{wire_app}
 use Rattle.cli_options.specs.Limiting.{HasLimits, HasWindow, IsGivenNumber, IsNumberOf, IsRuleOf, fds_word}
-use Rattle.cli_options.specs.Named.{AreRulesOf, HasSettings, HasWanted, IsNamedBy, IsSelectionGiven, Names, NamesCommand, order_word, rules_given, side_word, words_of}
+use Rattle.cli_options.specs.Named.{AreRulesOf, HasEncoding, HasSettings, HasWanted, IsNamedBy, IsSelectionGiven, Names, NamesCommand, order_word, rules_given, side_word, words_of}
 use Rattle.cli_options.specs.Owners.{AreOwnersOf, IsOwnerWord}
 use Rattle.cli_options.specs.Selections.{AreSameCommand, AreSameSelection}
 use Rattle.cli_options.specs.declared.asked.Asked.{Asked}
@@ -37,6 +37,7 @@ use Rattle.cli_options.specs.declared.command.Command.TheVariants.{Show, Json, C
 use Rattle.cli_options.specs.declared.selection.Selection.{Selection}
 use Rattle.cli_options.specs.declared.settings.Settings.{Settings}
 use Rattle.cli_options.specs.declared.wanted_calls.WantedCalls.{WantedCalls}
+use Rattle.cli_options.specs.declared.wanted_encoding.WantedEncoding.{WantedEncoding}
 use Rattle.cli_options.specs.declared.window.Window.{Window}
 use Rattle.dbus_handshake_input.specs.Heard.{HeardLine, Reads, heard}
 use Rattle.dbus_handshake_input.specs.declared.fault.HandshakeFault.{HandshakeFault}
@@ -58,7 +59,7 @@ AreSameAsked (Messages c s) (Messages d t) = AreSameCommand c d × (s ≡ t)
 AreSameAsked (Count s) (Count t) = s ≡ t
 AreSameAsked (Listing s a) (Listing t b) = (s ≡ t) × AreSameSelection a.selection b.selection × (a.width ≡ b.width)
 AreSameAsked (Calls s f) (Calls t g) = (s ≡ t) × (f ≡ g)
-AreSameAsked (Encode a) (Encode b) = Unit {0}
+AreSameAsked (Encode a) (Encode b) = a ≡ b
 AreSameAsked (Handshake a) (Handshake b) = a ≡ b
 AreSameAsked a b = ⊥
 
@@ -225,6 +226,12 @@ same_order_word Big Big e = refl
 same_order_word Little Big e = let bad : ◌≡◌ {A = ℕ} 108 66 = ap (λ t. slice_index t 0) e in absurd (omega arith)
 same_order_word Big Little e = let bad : ◌≡◌ {A = ℕ} 66 108 = ap (λ t. slice_index t 0) e in absurd (omega arith)
 
+same_order : (a b : Option Order) → option_map order_word a ≡ option_map order_word b → a ≡ b
+same_order None None e = refl
+same_order None (Some b) e = absurd cc
+same_order (Some a) None e = absurd cc
+same_order (Some a) (Some b) e = ap Some (same_order_word a b (some_is (order_word a) (order_word b) e))
+
 -- the first two bytes of a name tell it from the others
 abbrev pub mark : Text → ℕ
 mark t = slice_index t 0 * 256 + slice_index t 1
@@ -267,6 +274,14 @@ same_wanted rows a b p q =
     let slower = same_given _ a.slower b.slower p.slower q.slower in
     λ i. record { by_member = by_member i; unanswered = unanswered i; errors = errors i; slower = slower i }
 
+same_encoding : (rows : List Row) (a b : WantedEncoding) → HasEncoding rows a → HasEncoding rows b → a ≡ b
+same_encoding rows a b p q =
+    let limits = same_limits rows a.limits b.limits p.limits q.limits in
+    let order = same_order a.order b.order (sym p.order ∙ q.order) in
+    let keeps_going = same_flag a.keeps_going b.keeps_going p.keeps_going q.keeps_going in
+    let max_line = same_number _ _ a.max_line b.max_line p.max_line.0 q.max_line.0 in
+    λ i. record { limits = limits i; order = order i; keeps_going = keeps_going i; max_line = max_line i }
+
 no_count : (name : Text) (rows : List Row) (command : Command) → NamesCommand name rows command → name ≡ codes "count" → ⊥
 no_count name rows (Show times escapes) p e = omega (arith, ap mark p.0, ap mark e)
 no_count name rows (Json times) p e = omega (arith, ap mark p.0, ap mark e)
@@ -308,7 +323,7 @@ same_named (Some sub) (Messages c s) (Messages d t) p q = (same_command sub.0 su
 same_named (Some sub) (Count s) (Count t) p q = same_settings sub.1 s t p.1 q.1
 same_named (Some sub) (Calls s f) (Calls t g) p q = (same_settings sub.1 s t p.1 q.1, same_wanted sub.1 f g p.2 q.2)
 same_named (Some sub) (Handshake x) (Handshake y) p q = same_side_word x y (some_is (side_word x) (side_word y) (sym p.1 ∙ q.1))
-same_named (Some sub) (Encode a) (Encode b) p q = tt
+same_named (Some sub) (Encode a) (Encode b) p q = same_encoding sub.1 a b p.1 q.1
 same_named (Some sub) (Messages c s) (Encode b) p q = no_encode sub.0 sub.1 c p.0 q.0
 same_named (Some sub) (Encode a) (Messages d t) p q = no_encode sub.0 sub.1 d q.0 p.0
 same_named (Some sub) (Count s) (Encode b) p q = absurd (let e = sym (ap mark p.0) ∙ ap mark q.0 in omega (arith, e))

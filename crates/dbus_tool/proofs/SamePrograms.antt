@@ -38,6 +38,7 @@ use Rattle.cli_options.specs.declared.command.Command.TheVariants.{Filter}
 use Rattle.cli_options.specs.declared.selection.Selection.{Selection}
 use Rattle.cli_options.specs.declared.settings.Settings.{Settings}
 use Rattle.cli_options.specs.declared.wanted_calls.WantedCalls.{WantedCalls}
+use Rattle.cli_options.specs.declared.wanted_encoding.WantedEncoding.{WantedEncoding}
 use Rattle.cli_options.specs.declared.usage_fault.RefusedRule.{RefusedRule}
 use Rattle.cli_options.specs.declared.usage_fault.UsageFault.{UsageFault}
 use Rattle.cli_options.specs.declared.usage_fault.UsageFault.TheVariants.{Memory, Help, Version, Usage, Rule as BadRule}
@@ -52,9 +53,10 @@ use Rattle.cli_run.specs.Output.{AreAlike, IsExact, form_of}
 use Rattle.cli_run.proofs.SameOutputs.{acts_as}
 use Rattle.cli_run.specs.VisitorLaws.{wrote_nothing}
 use Rattle.cli_run.proofs.SameRuns.{one_calls, one_count, one_run, one_sums}
+use Rattle.cli_encode_laws.proofs.OneEncoding.{one_encoding}
 use Rattle.dbus_tool.specs.Alike.{AskAlike, IsOneWay, NameOneWay, OneProgram, RunAlike, TellsOneWay}
 use Rattle.dbus_tool.specs.Handshaking.{TakesHandshake, TellsHandshake, ahead, handshake_line, EndsList, IsListed, Lengthens, Lists, WritesLines, last_line}
-use Rattle.dbus_tool.specs.Words.{Does, DoesBy, DoesCalls, DoesTask, Notes, RunsNoted, calls_wanted, table_form}
+use Rattle.dbus_tool.specs.Words.{Does, DoesBy, DoesCalls, DoesTask, Notes, RunsNoted, calls_wanted, encoding_wanted, table_form}
 use Rattle.dbus_tool.specs.declared.words.Task.{Task}
 use Rattle.dbus_tool.specs.declared.words.Task.TheVariants.{Run, CountAll, ListAll}
 use Rattle.dbus_tool.proofs.SameAsked.{AreSameAsked, mark, mark_of, marked, same_asked}
@@ -113,7 +115,12 @@ one_way_too end (Count s) (Count t) h one = subst (λ (x : Settings). TellsOneWa
 one_way_too end (Calls s f) (Calls t g) h one = subst (λ (x : Settings). TellsOneWay x end) h.0 one
 one_way_too end (Handshake a) (Handshake b) h one = tt
 one_way_too end (Listing s a) b h one = absurd one
-one_way_too end (Encode a) b h one = absurd one
+one_way_too end (Encode a) (Encode b) h one = tt
+one_way_too end (Encode a) (Messages d t) h one = absurd h
+one_way_too end (Encode a) (Count t) h one = absurd h
+one_way_too end (Encode a) (Listing t b) h one = absurd h
+one_way_too end (Encode a) (Calls t g) h one = absurd h
+one_way_too end (Encode a) (Handshake b) h one = absurd h
 one_way_too end (Messages c s) (Encode b) h one = absurd h
 one_way_too end (Count s) (Encode b) h one = absurd h
 one_way_too end (Calls s f) (Encode b) h one = absurd h
@@ -345,7 +352,14 @@ module _ {R S W V E F : Type 0} (one_table : OneTable) (left : R → Option (Lis
   alike (Handshake side) (Handshake b) same one told does doing =
       listed_alike side does (subst (λ (x : Side). Does other_left other_calls other_failures other_packets other_packet s0 s1 v f (Ok (Handshake x)) other) (sym same) doing)
   alike (Listing t a) b same one told does doing = absurd one
-  alike (Encode a) b same one told does doing = absurd one
+  alike (Encode a) (Encode b) same one told does doing =
+      one_encoding (ReadAhead R) (ReadAhead S) W V E F (ahead left calls failures packets packet r0 r1) (ahead other_left other_calls other_failures other_packets other_packet s0 s1) w v e f (encoding_wanted a) _ _ end other input done other_done does
+      (subst (λ (x : WantedEncoding). Does other_left other_calls other_failures other_packets other_packet s0 s1 v f (Ok (Encode x)) other) (sym same) doing)
+  alike (Encode a) (Messages d u) same one told does doing = absurd same
+  alike (Encode a) (Count u) same one told does doing = absurd same
+  alike (Encode a) (Listing u b) same one told does doing = absurd same
+  alike (Encode a) (Calls u k) same one told does doing = absurd same
+  alike (Encode a) (Handshake b) same one told does doing = absurd same
   alike (Messages c t) (Encode b) same one told does doing = absurd same
   alike (Count t) (Encode b) same one told does doing = absurd same
   alike (Calls t g) (Encode b) same one told does doing = absurd same

@@ -25,14 +25,14 @@ use Rattle.dbus_tool.specs.Words.{RunsWords}
 abbrev pub TellsOneWay : Settings → (end : ExitStatus) → Type 0
 TellsOneWay settings end = (settings.explains ≡ false) × ((settings.as_json ≡ false) ⊎ (end ≡ status.Done))
 
--- what is asked for is done in one way: it is neither `json` nor `list` nor `encode`, and no `show`
--- with times, and so is what is told
+-- what is asked for is done in one way: it is neither `json` nor `list`, and no `show` with times,
+-- and so is what is told
 abbrev pub IsOneWay : (end : ExitStatus) → Asked → Type 0
 IsOneWay end (Messages command settings) = IsExact command × TellsOneWay settings end
 IsOneWay end (Count settings) = TellsOneWay settings end
 IsOneWay end (Listing settings wanted) = ⊥
 IsOneWay end (Calls settings wanted) = TellsOneWay settings end
-IsOneWay end (Encode wanted) = ⊥
+IsOneWay end (Encode wanted) = Unit {0}
 IsOneWay end (Handshake side) = Unit {0}
 
 -- words in which clap finds no fault name this
@@ -65,7 +65,7 @@ module _ {R S : Type 0} (left : R → Option (List ℕ)) (calls failures : R →
   AskAlike (Count settings) = SamePackets
   AskAlike (Listing settings wanted) = SamePackets
   AskAlike (Calls settings wanted) = SamePackets
-  AskAlike (Encode wanted) = ⊥
+  AskAlike (Encode wanted) = Unit {0}
   AskAlike (Handshake side) = Unit {0}
 
 -- two runs of the program by such words that read the same input, and did not fail, end alike
