@@ -1,3 +1,4 @@
 pub mod Outcomes
 pub mod Inverse
 pub mod OneEncoding
+pub mod InputBack

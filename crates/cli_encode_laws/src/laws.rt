@@ -1,6 +1,7 @@
 //! Laws of encoded lines. A function's contract is its law; it does nothing when it runs.
 #![tactic(auto)]
 
+ghost use Rattle.cli_encode_laws.specs.InputBack.{IsInputBack};
 ghost use Rattle.cli_encode_laws.specs.Inverse.{IsEachWritten, IsInverse};
 ghost use Rattle.cli_encode_laws.specs.OneEncoding.{OneEncoding};
 
@@ -14,6 +15,14 @@ pub fn lines_written()
 /// bytes of these messages, and none is refused, if no other byte order is wanted.
 pub fn messages_back()
     ensures { IsInverse }
+{}
+
+/// What a run of `json` writes of an input of fewer than 2^64 bytes, in which it refuses nothing, is
+/// encoded under the same limits to that input, byte for byte, and the run that encodes it is
+/// `Done`: if that does not fail, no other byte order is wanted, and no line is longer than a line
+/// may be.
+pub fn input_back<R, S, W, V, E, F>()
+    ensures { IsInputBack R S W V E F }
 {}
 
 /// Two runs that encode lines in the same way, neither of which failed, and read the same input end
