@@ -1,2 +1,3 @@
 pub mod SameAsked
 pub mod SamePrograms
+pub mod InputBack

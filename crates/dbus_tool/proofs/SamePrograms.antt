@@ -5,6 +5,7 @@ use Rattle.std.specs.Io.KnownBytes.{Appends}
 use Rattle.std.specs.declared.alloc.Global.{Global}
 use Rattle.clap.specs.Words.{Row, Text, subcommand_of}
 use Rattle.clap.specs.Kinds.{IsAmong}
+use Rattle.clap.specs.Faults.{fault_of}
 use Rattle.clap.specs.declared.error.kind.ErrorKind.TheVariants.{DisplayHelp, DisplayVersion}
 use Rattle.dbus_device.specs.Device.{Wrote}
 use Rattle.dbus_device.specs.Packets.{Packets, PacketsAfter}
@@ -54,7 +55,7 @@ use Rattle.cli_run.proofs.SameOutputs.{acts_as}
 use Rattle.cli_run.specs.VisitorLaws.{wrote_nothing}
 use Rattle.cli_run.proofs.SameRuns.{one_calls, one_count, one_run, one_sums}
 use Rattle.cli_encode_laws.proofs.OneEncoding.{one_encoding}
-use Rattle.dbus_tool.specs.Alike.{AskAlike, IsOneWay, NameOneWay, OneProgram, RunAlike, TellsOneWay}
+use Rattle.dbus_tool.specs.Alike.{AskAlike, IsOneWay, OneProgram, RunAlike, TellsOneWay}
 use Rattle.dbus_tool.specs.Handshaking.{TakesHandshake, TellsHandshake, ahead, handshake_line, EndsList, IsListed, Lengthens, Lists, WritesLines, last_line}
 use Rattle.dbus_tool.specs.Words.{Does, DoesBy, DoesCalls, DoesTask, Notes, RunsNoted, calls_wanted, encoding_wanted, table_form}
 use Rattle.dbus_tool.specs.declared.words.Task.{Task}
@@ -91,18 +92,18 @@ no_fault (Some sub) (Calls settings wanted) refused p h = takes_none sub.0 sub.1
 no_fault (Some sub) (Encode wanted) refused p h = takes_none sub.0 sub.1 (mark (codes "encode")) (ap mark p.0) (λ e. omega (arith, e)) (λ e. omega (arith, e)) h.0.named
 no_fault (Some sub) (Handshake side) refused p h = takes_none sub.0 sub.1 (mark (codes "handshake")) (ap mark p.0) (λ e. omega (arith, e)) (λ e. omega (arith, e)) h.0.named
 
-module _ {R W E : Type 0} (left : R → Option (List ℕ)) (calls failures : R → ℕ) (packets : R → Option Packets) (packet : R → Option Packet) (old new : ReadAhead R) (w : Writing W) (e : Writing E) (words : List Text) {due : ExitStatus} (one : NameOneWay words due) (end : ExitStatus) (done : end ≢ status.Failed) where
-  answer_is : (answer : Result Asked UsageFault) → IfOk answer (IsNamedBy words) → TellsFault words answer → Does left calls failures packets packet old new w e answer end
+module _ {R W E : Type 0} (left : R → Option (List ℕ)) (calls failures : R → ℕ) (packets : R → Option Packets) (packet : R → Option Packet) (old new : ReadAhead R) (w : Writing W) (e : Writing E) (words : List Text) (named_one : Asked) (named_is : IsNamedBy words named_one) (faultless : fault_of wire_app words ≡ []) (end : ExitStatus) (done : end ≢ status.Failed) where
+  pub answer_is : (answer : Result Asked UsageFault) → IfOk answer (IsNamedBy words) → TellsFault words answer → Does left calls failures packets packet old new w e answer end
       → (asked : Asked) × IsNamedBy words asked × Does left calls failures packets packet old new w e (Ok asked) end
   answer_is (Ok asked) named told does = (asked, named, does)
   answer_is (Err Memory) named told does = absurd (done does.2.0)
-  answer_is (Err (Help text)) named told does = absurd (subst (λ l. IsAmong DisplayHelp l) one.faultless told)
-  answer_is (Err (Version text)) named told does = absurd (subst (λ l. IsAmong DisplayVersion l) one.faultless told)
+  answer_is (Err (Help text)) named told does = absurd (subst (λ l. IsAmong DisplayHelp l) faultless told)
+  answer_is (Err (Version text)) named told does = absurd (subst (λ l. IsAmong DisplayVersion l) faultless told)
   answer_is (Err (Usage text)) named told does = elim told [
-    | inl fault ↦ absurd (subst (λ l. IsAmong fault.kind l) one.faultless fault.found)
-    | inr none ↦ absurd (none.1.none_asked one.asked one.named)
+    | inl fault ↦ absurd (subst (λ l. IsAmong fault.kind l) faultless fault.found)
+    | inr none ↦ absurd (none.1.none_asked named_one named_is)
   ]
-  answer_is (Err (BadRule refused)) named told does = absurd (no_fault (subcommand_of wire_app words) one.asked refused one.named told.1)
+  answer_is (Err (BadRule refused)) named told does = absurd (no_fault (subcommand_of wire_app words) named_one refused named_is told.1)
 
 -- ---- what is done in one way
 
@@ -144,7 +145,7 @@ one_way_too end (Count s) (Handshake b) h one = absurd h
 
 -- without a note
 module _ {R W E : Type 0} (left : R → Option (List ℕ)) (calls failures : R → ℕ) (packets : R → Option Packets) (packet : R → Option Packet) (old new : ReadAhead R) (w : Writing W) (e : Writing E) (settings : Settings) where
-  unnoted : (c : Command) (end : ExitStatus) → end ≢ status.Failed → settings.explains ≡ false → RunsNoted left calls failures packets packet old new w e settings (lacks_owner c) (Run c) end
+  pub unnoted : (c : Command) (end : ExitStatus) → end ≢ status.Failed → settings.explains ≡ false → RunsNoted left calls failures packets packet old new w e settings (lacks_owner c) (Run c) end
       → DoesTask left calls failures packets packet old new w e settings (Run c) end
   unnoted c end done off does = elim does [
     | inl h ↦ (
@@ -383,7 +384,7 @@ module _ {R S W V E F : Type 0} (one_table : OneTable) (left : R → Option (Lis
 
 pub one_program : (R S W V E F : Type 0) → OneTable → OneProgram R S W V E F
 one_program R S W V E F one_table left calls failures packets packet other_left other_calls other_failures other_packets other_packet r0 r1 s0 s1 w v e f words end other one input told done other_done runs ran =
-    let a = answer_is left calls failures packets packet r0 r1 w e words one end done runs.answer runs.named runs.told runs.does in
-    let b = answer_is other_left other_calls other_failures other_packets other_packet s0 s1 v f words one other other_done ran.answer ran.named ran.told ran.does in
+    let a = answer_is left calls failures packets packet r0 r1 w e words one.asked one.named one.faultless end done runs.answer runs.named runs.told runs.does in
+    let b = answer_is other_left other_calls other_failures other_packets other_packet s0 s1 v f words one.asked one.named one.faultless other other_done ran.answer ran.named ran.told ran.does in
     alike one_table left calls failures packets packet other_left other_calls other_failures other_packets other_packet r0 r1 s0 s1 w v e f end other input done other_done a.0 b.0 (same_asked words a.0 b.0 a.1 b.1)
     (one_way_too end one.asked a.0 (same_asked words one.asked a.0 one.named a.1) one.one_way) (told a.0 a.1) a.2 b.2

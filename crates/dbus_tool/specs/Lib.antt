@@ -1,3 +1,4 @@
 pub mod Handshaking
 pub mod Words
 pub mod Alike
+pub mod InputBack

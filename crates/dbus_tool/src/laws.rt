@@ -1,7 +1,8 @@
-//! One law for the program. Its function does nothing when it runs: its contract is the law.
+//! Laws of the program. A function's contract is its law; it does nothing when it runs.
 #![tactic(auto)]
 
 ghost use Rattle.dbus_tool.specs.Alike.{OneProgram};
+ghost use Rattle.dbus_tool.specs.InputBack.{ProgramBack};
 
 use dbus_count::laws::one_table;
 
@@ -19,3 +20,12 @@ pub fn one_program<R, S, W, V, E, F>()
 {
     one_table();
 }
+
+/// What `dbus-wire json` writes of an input in which it refuses nothing, `dbus-wire encode` writes
+/// as that input, byte for byte, and is `Done`, if it does not fail: by words that name both with
+/// the same limits, and no other option but whether times are written, how long a line may be and
+/// whether `encode` goes on. The input has fewer than 2^64 bytes, and no line is longer than one may
+/// be.
+pub fn input_back<R, S, W, V, E, F>()
+    ensures { ProgramBack R S W V E F }
+{}
