@@ -5,8 +5,8 @@ ghost use Rattle.cli_encode_laws.specs.InputBack.{IsInputBack};
 ghost use Rattle.cli_encode_laws.specs.Inverse.{IsEachWritten, IsInverse};
 ghost use Rattle.cli_encode_laws.specs.OneEncoding.{OneEncoding};
 
-/// Each line that `json` writes of a valid message, no longer than a line may be, is written as that
-/// message, and nothing else becomes of it, if no other byte order is wanted.
+/// Each line that `json` writes of a valid message, no longer than a line may be, is written as
+/// that message, and nothing else becomes of it, if no other byte order is wanted.
 pub fn lines_written()
     ensures { IsEachWritten }
 {}
@@ -17,8 +17,8 @@ pub fn messages_back()
     ensures { IsInverse }
 {}
 
-/// What a run of `json` writes of an input of fewer than 2^64 bytes, in which it refuses nothing, is
-/// encoded under the same limits to that input, byte for byte, and the run that encodes it is
+/// What a run of `json` writes of an input of fewer than 2^64 bytes, in which it refuses nothing,
+/// is encoded under the same limits to that input, byte for byte, and the run that encodes it is
 /// `Done`: if that does not fail, no other byte order is wanted, and no line is longer than a line
 /// may be.
 pub fn input_back<R, S, W, V, E, F>()
