@@ -1,5 +1,5 @@
 -- What follows the dots of a name.
-use Rattle.std.proofs.Common.{◌≡◌, ◌≢◌, ℕ, suc, ◌<◌, ◌≤◌, nat_eq, nat_le, codes, List, [], ◌∷◌, ◌++◌, length, get_or, false, nat_lt, refl, sym, ap, ◌∙◌, arith}
+use Rattle.std.proofs.Common.{◌≡◌, ◌≢◌, ℕ, suc, ◌<◌, ◌≤◌, nat_eq, nat_le, codes, List, [], ◌∷◌, ◌++◌, length, length-append, get_or, Bool, true, false, if◌then◌else◌, nat_lt, refl, sym, ap, ◌∙◌, arith}
 use Rattle.std.proofs.lemmas.Bool.Decides.{nat_tests}
 use Rattle.dbus_list.specs.Columns.{ends, first_short, short}
 use Rattle.dbus_list.proofs.CutTexts.{passed, taken}
@@ -39,3 +39,24 @@ module _ (most : ℕ) (rest front end looked_for : List ℕ) (parts : rest ≡ f
 -- no part follows
 pub short_last : (most : ℕ) (rest looked_for : List ℕ) → ((i : ℕ) → i < length rest → get_or rest i 0 ≢ 46) → first_short most rest (ends rest) ≡ looked_for → rest ≡ looked_for
 short_last most rest looked_for none is = ap (λ (es : List (List ℕ)). first_short most rest es) (sym (ends_none rest none)) ∙ is
+
+-- What follows the first dot of the last bytes, if these are so many, or all, is looked for: what
+-- follows an earlier one has too many.
+module _ (most : ℕ) (tail front end : List ℕ) (parts : tail ≡ front ++ 46 ∷ end) (none : (i : ℕ) → i < length front → get_or front i 0 ≢ 46) (few : length end < most) where
+  within_tail : (last : List ℕ) → first_short most last (ends tail) ≡ end
+  within_tail last =
+      ap (λ (es : List (List ℕ)). first_short most last es) (ap ends parts ∙ ends_after front end none)
+      ∙ taken (nat_lt (length end) most) end (first_short most end (ends end)) (grind (arith, nat_tests))
+
+  pub end_of_last : (before last : List ℕ) → (0 < length before → most ≤ length tail) → first_short most last (ends (before ++ tail)) ≡ end
+  end_of_last [] last long = within_tail last
+  end_of_last (b ∷ before) last long =
+      let rest = before ++ tail in
+      let many : most ≤ length tail = long (omega arith) in
+      let over : nat_lt (length rest) most ≡ false = (let size = length-append before tail in grind (arith, nat_tests)) in
+      let step : (d : Bool) → first_short most last (if d then rest ∷ ends rest else ends rest) ≡ end =
+      elim [
+        | true ↦ passed (nat_lt (length rest) most) rest (first_short most rest (ends rest)) over ∙ end_of_last before rest (λ _. many)
+        | false ↦ end_of_last before last (λ _. many)
+      ] in
+      step (nat_eq b 46)

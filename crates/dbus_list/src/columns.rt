@@ -1,7 +1,7 @@
 //! The columns of a line, and names that fit one. D-Bus Specification, "Valid Names".
 #![tactic(auto)]
 
-ghost use Rattle.std.specs.Prelude.{◌≡◌, decimal, length, nat_le, replicate};
+ghost use Rattle.std.specs.Prelude.{◌≡◌, IfSome, decimal, length, nat_le, replicate};
 ghost use Rattle.dbus_list.specs.Columns.{clock, ends, first_short, name_cells, right, short};
 
 use dbus_json::digit_at;
@@ -50,9 +50,29 @@ pub(crate) fn name_cells(line: u16) -> usize
     usize::from(line / 5).saturating_sub(4).min(30).max(6)
 }
 
+/// What follows a dot of a name and has fewer than so many bytes, the longest there is, if its last
+/// bytes, so many, have a dot.
+fn end_within(name: &str, most: usize) -> Option<&str>
+    ensures { IfSome result (λ end. end.now ≡ first_short most name.now (ends name.now)) }
+{
+    let (_, last) = name.split_at_checked(name.len().saturating_sub(most))?;
+    let (_, end) = last.split_once('.')?;
+    Some(end)
+}
+
 /// What follows a dot of a name and has fewer than so many bytes, the longest there is; or if
 /// nothing has, what follows its last dot.
 fn short_end(name: &str, most: usize) -> &str
+    ensures { result.now ≡ first_short most name.now (ends name.now) }
+{
+    match end_within(name, most) {
+        Some(end) => end,
+        None => end_by_dots(name, most),
+    }
+}
+
+/// The same, dot by dot.
+fn end_by_dots(name: &str, most: usize) -> &str
     ensures { result.now ≡ first_short most name.now (ends name.now) }
 {
     let mut rest = name;

@@ -2,7 +2,7 @@ use Rattle.std.proofs.Common.{rules, arith}
 use Rattle.std.proofs.lemmas.Str.Pattern.{split_parts}
 use Rattle.dbus_list.specs.Columns.{ends, first_short}
 use Rattle.dbus_list.proofs.Ends.{short_here, short_last, short_later}
-use Rattle.dbus_list.proofs.columns.short_end.Goals as goal
+use Rattle.dbus_list.proofs.columns.end_by_dots.Goals as goal
 
 pub returns-then-rest-most : goal.returns-then-rest-most
 returns-then-rest-most c =
