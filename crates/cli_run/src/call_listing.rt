@@ -23,6 +23,7 @@ use crate::visitor::{MessageVisitor, write_text};
 use cli_options::Settings;
 use cli_report::{Cause, ExitStatus, OutputBuffer, Page, Unwritten, give_up, write_out};
 use dbus_call_lines::{CallList, Lines, Place, Wanted};
+use dbus_calls::EventView;
 use dbus_names::Names;
 use dbus_rule_set::Owners;
 use dbus_stream::{MOST_READS, Sink, Source};
@@ -124,7 +125,8 @@ fn list_message<W: Sink>(
         (gathered_bytes gathered.old) (gathered_bytes gathered.new) result }
 {
     let view = MessageView::of_validated(lent.bytes, lent.limits, lent.validated);
-    let Ok(_) = learn_names(&view, names) else {
+    let message = EventView::of(&view);
+    let Ok(_) = learn_names(&message, names) else {
         return Err(Cause::Memory);
     };
     let mut lines = Lines {
@@ -138,7 +140,7 @@ fn list_message<W: Sink>(
         number: lent.place.number,
         time: lent.place.time,
     };
-    match list.take(&mut lines, place, known_names(&view, names), &view) {
+    match list.take(&mut lines, place, known_names(&view, names), &message) {
         Ok(()) => {
             if lines.draft.failed {
                 Err(Cause::WriteFailed)

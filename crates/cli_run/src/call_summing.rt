@@ -21,6 +21,7 @@ use cli_options::Settings;
 use cli_report::{Cause, ExitStatus, Unwritten, give_up};
 use dbus_call_lines::{CallList, CallNames, Form, Place, Wanted};
 use dbus_call_members::MemberSums;
+use dbus_calls::EventView;
 use dbus_stream::{MOST_READS, Sink, Source, WrittenOnly, write_all};
 use dbus_view::MessageView;
 use std::alloc::{AllocError, Global};
@@ -110,7 +111,8 @@ fn sum_message(
         number: lent.place.number,
         time: lent.place.time,
     };
-    list.take(sums, place, NO_NAMES, &view)?;
+    let message = EventView::of(&view);
+    list.take(sums, place, NO_NAMES, &message)?;
     if sums.is_short() {
         return Err(AllocError);
     }

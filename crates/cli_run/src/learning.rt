@@ -8,7 +8,7 @@ ghost use Rattle.dbus_names.specs.Kept.{state_of};
 ghost use Rattle.cli_run.specs.Learning.{ask_sender, known_after, name_sender};
 
 use cli_options::Selection;
-use dbus_calls::is_ownable;
+use dbus_calls::{EventView, is_ownable};
 use dbus_match::Rule;
 use dbus_names::{NameFilter, Names};
 use dbus_view::MessageView;
@@ -30,7 +30,8 @@ pub(crate) fn learn(
     let asked = AskedNames {
         rules: &selection.rules,
     };
-    names.take(view, &asked)
+    let message = EventView::of(view);
+    names.take(&message, &asked)
 }
 
 // The names beside unique ones that a rule's `sender` is: so no more are kept than the rules have.

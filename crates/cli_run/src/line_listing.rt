@@ -24,6 +24,7 @@ use crate::window::{is_spent, lets_through};
 use cli_options::{Settings, WantedLines, Window};
 use cli_report::{Cause, ExitStatus, OutputBuffer, Page, Unwritten, give_up, write_out};
 use dbus_call_lines::Place;
+use dbus_calls::EventView;
 use dbus_list::{Beside, CallTable, write_line};
 use dbus_names::Names;
 use dbus_stream::{MOST_READS, Sink, Source};
@@ -130,11 +131,12 @@ fn list_one<W: Sink>(
         number: lent.place.number,
         time: lent.place.time,
     };
-    let Ok(answered) = carried.calls.take(place, &view) else {
+    let message = EventView::of(&view);
+    let Ok(answered) = carried.calls.take(place, &message) else {
         return Err(Cause::Memory);
     };
     let selected = selector.selects(&view, &carried.names);
-    let Ok(_) = learn_names(&view, &mut carried.names) else {
+    let Ok(_) = learn_names(&message, &mut carried.names) else {
         return Err(Cause::Memory);
     };
     if !selected {

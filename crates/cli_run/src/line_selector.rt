@@ -16,6 +16,7 @@ use crate::filtering::owners_of;
 use crate::selector::Selector;
 use cli_options::WantedLines;
 use dbus_call_lines::CallNames;
+use dbus_calls::EventView;
 use dbus_list::{AnsweredCall, Beside, KnownCall};
 use dbus_names::{Names, WellKnownNames};
 use dbus_rule_set::Owners;
@@ -84,14 +85,14 @@ pub(crate) fn first_names(alloc: Global, wanted: &WantedLines) -> Result<Names, 
     Ok(Names::new(alloc, owners_of(alloc, &wanted.selection.owners)?))
 }
 
-/// Learns what the message of the view tells of names.
+/// Learns what the message tells of names.
 ///
 /// `AllocError`: an allocation failed. Then the names are not to be used again.
-pub(crate) fn learn_names(view: &MessageView, names: &mut Names) -> Result<(), AllocError>
-    ensures { (order : Order) (m : MessageTree) → Views view.now order m →
+pub(crate) fn learn_names(message: &EventView, names: &mut Names) -> Result<(), AllocError>
+    ensures { (order : Order) (m : MessageTree) → Views message.now order m →
         OnOk result (state_of names.new ≡ names_after (state_of names.old) m) }
 {
-    names.take(view, &WellKnownNames)
+    names.take(message, &WellKnownNames)
 }
 
 /// What the line of the message of the view tells beside it, which has this time: the call that it

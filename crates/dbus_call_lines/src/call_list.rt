@@ -26,7 +26,7 @@ use crate::place::Place;
 use crate::sink::CallSink;
 use crate::waiting_call::{CallParts, WaitingCall};
 use crate::wanted::Wanted;
-use dbus_calls::{CallSeen, CallerCalls, Event, OpenCalls, ReplySeen, event_of};
+use dbus_calls::{CallSeen, CallerCalls, Event, EventView, OpenCalls, ReplySeen};
 use dbus_show::StringDraft;
 use dbus_view::MessageView;
 use std::alloc::{AllocError, Global};
@@ -88,8 +88,7 @@ impl CallList {
         self.stray
     }
 
-    /// Takes the message of the view, which is at this place, and whose connections are known by
-    /// these names, and adds the calls to the sink that are due then: those that it ends, in the
+    /// Takes the message, which is at this place, and whose connections are known by these names, and adds the calls to the sink that are due then: those that it ends, in the
     /// order of their numbers, and itself, if it is a call that wants no reply. Of these it adds the
     /// ones that are wanted. A call is listed with the names of its own message. D-Bus
     /// Specification, "Message Types" ("Method Calls"). Numbers rise from message to message.
@@ -101,25 +100,25 @@ impl CallList {
         sink: &mut S,
         place: Place,
         names: CallNames<'_>,
-        view: &MessageView,
+        message: &EventView,
     ) -> Result<(), AllocError>
-        ensures takes { (order : Order) (m : MessageTree) → Views view.now order m →
+        ensures takes { (order : Order) (m : MessageTree) → Views message.now order m →
             (wanted : Wanted) (before : List Numbered) → Keeps S.texts wanted before self.old →
             AreRising (before ++ named_nth place (names_seen names.entry) m ∷ []) → OnOk result
             (TakesNext S.texts S.gains wanted before (named_nth place (names_seen names.entry) m) self.new sink.old sink.new) }
         ensures unadded { OnErr result (sink.new ≡ sink.old) }
     {
-        match event_of(view) {
-            Event::Call(call) => self.take_call(sink, place, names, call, view),
+        match message.event() {
+            Event::Call(call) => self.take_call(sink, place, names, call, message.view()),
             Event::Reply(reply) => {
-                self.take_reply(sink, place, reply, view);
+                self.take_reply(sink, place, reply, message.view());
                 Ok(())
             }
             Event::Departure(name) => match self.open.close_all(name) {
                 Some(calls) => self.add_all(sink, &calls, Outcome::Left),
                 None => Ok(()),
             },
-            Event::Other => Ok(()),
+            Event::Other(_) => Ok(()),
         }
     }
 

@@ -1,16 +1,19 @@
 -- What a message is to the calls that wait for a reply. D-Bus Specification, "Message Types",
 -- "Message Format" (serials, NO_REPLY_EXPECTED), "Header Fields" (REPLY_SERIAL, DESTINATION,
 -- SENDER) and "Message Bus Messages" ("org.freedesktop.DBus.NameOwnerChanged").
-use Rattle.std.specs.Prelude.{ℕ, List, [], Bool, ◌||◌, ◌==◌, bit_and, Option, None, Some, option_map, unwrap_or, if◌then◌else◌}
+use Rattle.std.specs.Prelude.{◌≡◌, ℕ, List, [], Bool, ◌||◌, ◌==◌, bit_and, Option, None, Some, option_map, unwrap_or, if◌then◌else◌}
 use Rattle.dbus_texts.specs.Types.{UINT32}
 use Rattle.dbus_value_model.specs.Values.{ValueTree, NumberValue}
+use Rattle.dbus_value_model.specs.declared.order.Order.{Order}
 use Rattle.dbus_message_model.specs.Messages.{MessageTree}
 use Rattle.dbus_message_model.specs.KnownFields.{field_value}
 use Rattle.dbus_message_model.specs.declared.field_code.TheConstants as field
 use Rattle.dbus_message_model.specs.declared.flag.TheConstants as flag
 use Rattle.dbus_message_model.specs.declared.message_type.TheConstants as message
 use Rattle.dbus_match.specs.Matching.{text_of}
+use Rattle.dbus_view.specs.Views.{ViewState, Views}
 use Rattle.dbus_calls.specs.Answering.{is_unique}
+use Rattle.dbus_calls.specs.Changes.{change_seen}
 use Rattle.dbus_calls.specs.OwnerChanges.{Change, change_of}
 use Rattle.dbus_calls.specs.OwnerChanges.Change.{Free}
 use Rattle.dbus_calls.specs.declared.event.Event.{Event as EventSeen}
@@ -75,4 +78,15 @@ abbrev pub event_seen : EventSeen → Event
 event_seen (seen.Call c) = Calls c.caller.now c.serial c.wants_reply
 event_seen (seen.Reply r) = Replies r.caller.now r.serial (option_map (λ s. s.now) r.sender)
 event_seen (seen.Departure name) = Leaves name.now
-event_seen seen.Other = Passes
+event_seen (seen.Other change) = Passes
+
+-- what it says of the owner of a name
+abbrev pub change_in : EventSeen → Option Change
+change_in (seen.Departure name) = Some (Free name.now)
+change_in (seen.Other change) = option_map change_seen change
+change_in event = None
+
+-- it is that of the message that a view is of
+pub record IsEventOf (e : EventSeen) (v : ViewState) : Type 0 where
+  pub event : (order : Order) (m : MessageTree) → Views v order m → event_seen e ≡ event_of m
+  pub change : (order : Order) (m : MessageTree) → Views v order m → change_in e ≡ change_of m

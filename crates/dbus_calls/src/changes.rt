@@ -56,7 +56,7 @@ impl<'a> OwnerChange<'a> {
 /// empty if it has none; or `NameAcquired` or `NameLost` with one, the name, to the connection that
 /// has it now, or that had it. An owner that has no unique name is none. It allocates nothing. D-Bus
 /// Specification, "Message Bus Messages" and "Message Bus Names".
-pub fn owner_change<'a>(view: &MessageView<'a>) -> Option<OwnerChange<'a>>
+pub(crate) fn owner_change<'a>(view: &MessageView<'a>) -> Option<OwnerChange<'a>>
     ensures { (order : Order) (m : MessageTree) → Views view.now order m →
         option_map change_seen result ≡ change_of m }
 {

@@ -5,7 +5,9 @@ ghost use Rattle.std.specs.Prelude.{◌≡◌, option_map};
 ghost use Rattle.dbus_value_model.specs.declared.order.Order.{Order};
 ghost use Rattle.dbus_message_model.specs.Messages.{MessageTree};
 ghost use Rattle.dbus_view.specs.Views.{Views};
-ghost use Rattle.dbus_calls.specs.Events.{caller_of, event_of, event_seen, replied_to, reply_serial_of, sender_of, wants_reply};
+ghost use Rattle.dbus_calls.specs.Changes.{change_seen};
+ghost use Rattle.dbus_calls.specs.Events.{caller_of, change_in, event_of, event_seen, replied_to, reply_serial_of, sender_of, wants_reply};
+ghost use Rattle.dbus_calls.specs.OwnerChanges.{change_of};
 
 use crate::answering::is_unique;
 use crate::changes::{OwnerChange, owner_change};
@@ -44,33 +46,36 @@ pub enum Event<'a> {
     Reply(ReplySeen<'a>),
     /// The bus says that nobody has this unique name any more: its connection is gone.
     Departure(&'a str),
-    /// Any other message.
-    Other,
+    /// Any other message, and what the bus says by it of the owner of a name, if it says that.
+    Other(Option<OwnerChange<'a>>),
 }
 
-/// What the message of the view is to the calls that wait for a reply. It allocates nothing. D-Bus
-/// Specification, "Message Types", "Header Fields" and "Message Bus Messages"
-/// ("org.freedesktop.DBus.NameOwnerChanged").
-///
-/// ```rust
-/// use dbus_calls::{Event, event_of};
-/// use dbus_message::MessageView;
-///
-/// match event_of(&MessageView::of(bytes)?) {
-///     Event::Call(call) => println!(rt; "call {} of {}", call.serial, call.caller)?,
-///     Event::Reply(reply) => println!(rt; "reply to call {}", reply.serial)?,
-///     _ => println!(rt; "neither a call nor a reply")?,
-/// }
-/// ```
-pub fn event_of<'a>(view: &MessageView<'a>) -> Event<'a>
-    ensures { (order : Order) (m : MessageTree) → Views view.now order m → event_seen result ≡ event_of m }
+impl<'a> Event<'a> {
+    /// What the bus says of the owner of a name, if it says that.
+    pub fn change(&self) -> Option<OwnerChange<'a>>
+        ensures { option_map change_seen result ≡ change_in self.now }
+    {
+        match self {
+            Event::Departure(name) => Some(OwnerChange::Free(name)),
+            Event::Other(change) => *change,
+            _ => None,
+        }
+    }
+}
+
+/// What the message of the view is to the calls that wait for a reply, and what it says of the owner
+/// of a name. It allocates nothing. D-Bus Specification, "Message Types", "Header Fields" and
+/// "Message Bus Messages" ("org.freedesktop.DBus.NameOwnerChanged").
+pub(crate) fn event_of<'a>(view: &MessageView<'a>) -> Event<'a>
+    ensures event { (order : Order) (m : MessageTree) → Views view.now order m → event_seen result ≡ event_of m }
+    ensures change { (order : Order) (m : MessageTree) → Views view.now order m → change_in result ≡ change_of m }
 {
     match view.kind() {
         METHOD_CALL => Event::Call(call_seen(view)),
         METHOD_RETURN | ERROR => Event::Reply(reply_seen(view)),
         _ => match owner_change(view) {
             Some(OwnerChange::Free(name)) if is_unique(name) => Event::Departure(name),
-            _ => Event::Other,
+            change => Event::Other(change),
         },
     }
 }

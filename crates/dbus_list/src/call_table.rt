@@ -13,7 +13,7 @@ ghost use Rattle.dbus_list.specs.Pairs.{KeepsCalls, TellsCall, kept, kept_of, to
 use crate::known_call::{CallParts, KnownCall};
 use crate::names::member_of;
 use dbus_call_lines::Place;
-use dbus_calls::{CallSeen, Event, OpenCalls, event_of};
+use dbus_calls::{CallSeen, Event, EventView, OpenCalls};
 use dbus_view::MessageView;
 use std::alloc::{AllocError, Global};
 
@@ -39,25 +39,25 @@ impl CallTable {
         }
     }
 
-    /// Takes the message of the view, which is at this place, and returns the call that it answers,
-    /// if it is a reply to one that waits.
+    /// Takes the message, which is at this place, and returns the call that it answers, if it is a
+    /// reply to one that waits.
     ///
     /// `AllocError`: an allocation failed. Then the table is not to be used again.
     pub fn take(
         &mut self,
         place: Place,
-        view: &MessageView,
+        message: &EventView,
     ) -> Result<Option<KnownCall>, AllocError>
-        ensures keeps { (order : Order) (m : MessageTree) → Views view.now order m →
+        ensures keeps { (order : Order) (m : MessageTree) → Views message.now order m →
             (before : List Numbered) → KeepsCalls before self.old →
             OnOk result (KeepsCalls (before ++ nth place m ∷ []) self.new) }
-        ensures answered { (order : Order) (m : MessageTree) → Views view.now order m →
+        ensures answered { (order : Order) (m : MessageTree) → Views message.now order m →
             (before : List Numbered) → KeepsCalls before self.old →
             IfOk result (λ call. TellsCall before (nth place m) (option_map (told place.time) call)) }
     {
-        match event_of(view) {
+        match message.event() {
             Event::Call(call) => {
-                self.take_call(place, call, view)?;
+                self.take_call(place, call, message.view())?;
                 Ok(None)
             }
             Event::Reply(reply) => Ok(self.open.answer(reply.caller, reply.serial, reply.sender)),
@@ -65,7 +65,7 @@ impl CallTable {
                 self.open.close_all(name);
                 Ok(None)
             }
-            Event::Other => Ok(None),
+            Event::Other(_) => Ok(None),
         }
     }
 

@@ -5,12 +5,10 @@ use Rattle.std.specs.Option.{is_none, option_or}
 use Rattle.std.specs.Str.{bytes_eq}
 use Rattle.std.proofs.lemmas.Bool.{cond-true, false≢true}
 use Rattle.std.proofs.lemmas.Slice.Eq.{bytes_eq-Decides}
-use Rattle.dbus_rule_set.specs.Owners.{OwnerSet, owned_anew, without_owner, without_owners}
-use Rattle.dbus_rule_set.proofs.OwnerSets.{contains_anew, contains_less, contains_lost, pair}
-use Rattle.dbus_calls.specs.Events.{Event}
-use Rattle.dbus_calls.specs.Events.Event.{Calls, Replies, Leaves, Passes}
+use Rattle.dbus_rule_set.specs.Owners.{OwnerSet, owned_anew, without_owner, without_owners, without_unique}
+use Rattle.dbus_rule_set.proofs.OwnerSets.{contains_anew, contains_left, contains_less, contains_lost, pair}
 use Rattle.dbus_calls.specs.OwnerChanges.{Change, name_of}
-use Rattle.dbus_names.specs.NameStates.{KnownNames, if_had, name_said, names_left, wanted_change}
+use Rattle.dbus_names.specs.NameStates.{if_had, name_said, wanted_change}
 
 abbrev had : OwnerSet → (unique name : List ℕ) → Bool
 had os u n = contains os (pair n u)
@@ -117,12 +115,15 @@ same_no_more os u n has = has
 
 -- ---- a connection that is gone
 
-gone_had : (os : OwnerSet) (u : List ℕ) (b : Bool) (x : Option (List ℕ)) → if_had os u (if b then None else x) ≡ (if b then None else if_had os u x)
-gone_had os u true x = refl
-gone_had os u false x = refl
+module _ (os : OwnerSet) (name u : List ℕ) where
+  -- another one still has its names
+  others_had : (x : Option (List ℕ)) → bytes_eq name u ≡ false → if_had (without_unique name os) u x ≡ if_had os u x
+  others_had None other = refl
+  others_had (Some n) other = ap (λ b. if b then Some n else None) (let is = contains_left os name n u in grind arith)
 
-pub left_had : (os : OwnerSet) (e : Event) (first : KnownNames) (u : List ℕ) → if_had os u (names_left e first u) ≡ names_left e (λ v. if_had os v (first v)) u
-left_had os (Calls c s w) first u = refl
-left_had os (Replies c s sender) first u = refl
-left_had os (Leaves name) first u = gone_had os u (bytes_eq name u) (first u)
-left_had os Passes first u = refl
+  pub left_had : (x : Option (List ℕ)) → if_had (without_unique name os) u (if bytes_eq name u then None else x) ≡ (if bytes_eq name u then None else if_had os u x)
+  left_had x = by (bytes_eq name u) refl
+    where
+      by : (b : Bool) → bytes_eq name u ≡ b → if_had (without_unique name os) u (if b then None else x) ≡ (if b then None else if_had os u x)
+      by true is = refl
+      by false is = others_had x is

@@ -22,10 +22,10 @@ use Rattle.dbus_names.specs.NameStates.{NameState, asked_by, calls_after, known_
 use Rattle.dbus_names.specs.declared.name_call.Holder.{Holder}
 use Rattle.dbus_names.specs.declared.name_call.Holder.TheVariants.{Caller, Value, Sender}
 
-none_some : {A : Type 0} (x : A) → ◌≡◌ {A = Option A} None (Some x) → ⊥
+pub none_some : {A : Type 0} (x : A) → ◌≡◌ {A = Option A} None (Some x) → ⊥
 none_some x is = grind arith
 
-one_some : {A : Type 0} (x y : A) → ◌≡◌ {A = Option A} (Some x) (Some y) → x ≡ y
+pub one_some : {A : Type 0} (x y : A) → ◌≡◌ {A = Option A} (Some x) (Some y) → x ≡ y
 one_some x y is = cc
 
 -- ---- to whom such a call was sent
@@ -77,10 +77,10 @@ sent wants m asked is =
 -- ---- one message
 
 module _ (wants : List ℕ → Bool) where
-  abbrev asked_in : Option MessageTree → Option NameCall
+  abbrev pub asked_in : Option MessageTree → Option NameCall
   asked_in call = option_and_then (asked_by wants) call
 
-  abbrev AreAsked : Waiting NameCall → Waiting MessageTree → Type 0
+  abbrev pub AreAsked : Waiting NameCall → Waiting MessageTree → Type 0
   AreAsked v w = (caller : List ℕ) (serial : ℕ) → v caller serial ≡ asked_in (w caller serial)
 
   either_asked : (b : Bool) (x y : Option NameCall) (p q : Option MessageTree) → x ≡ asked_in p → y ≡ asked_in q → (if b then x else y) ≡ asked_in (if b then p else q)
@@ -124,7 +124,7 @@ module _ (wants : List ℕ → Bool) where
       replied None at = are
       replied (Some call) at = asks call (asked_by wants call) at refl
 
-  one_asked : (v : Waiting NameCall) (w : Waiting MessageTree) → AreAsked v w → (m : MessageTree) (e : Event) → AreAsked (calls_after v e (asked_by wants m)) (stepped destination_of w e m)
+  pub one_asked : (v : Waiting NameCall) (w : Waiting MessageTree) → AreAsked v w → (m : MessageTree) (e : Event) → AreAsked (calls_after v e (asked_by wants m)) (stepped destination_of w e m)
   one_asked v w are m (Calls c s true) = with_asked v w are c s m (asked_by wants m) refl
   one_asked v w are m (Calls c s false) = without_asked v w are c s
   one_asked v w are m (Replies c s sender) = λ d t.

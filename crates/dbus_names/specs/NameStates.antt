@@ -4,14 +4,14 @@ use Rattle.std.specs.FinSet.{contains}
 use Rattle.std.specs.Option.{option_or}
 use Rattle.std.specs.Str.{bytes_eq}
 use Rattle.dbus_message_model.specs.Messages.{MessageTree}
-use Rattle.dbus_rule_set.specs.Owners.{OwnerSet, owned_anew, without_owner, without_owners}
+use Rattle.dbus_rule_set.specs.Owners.{OwnerSet, owned_anew, without_owner, without_owners, without_unique}
 use Rattle.dbus_calls.specs.Events.{Event, event_of}
 use Rattle.dbus_calls.specs.Events.Event.{Calls, Replies, Leaves, Passes}
-use Rattle.dbus_calls.specs.OwnerChanges.{Change, name_of}
+use Rattle.dbus_calls.specs.OwnerChanges.{Change, change_of, name_of}
 use Rattle.dbus_calls.specs.OwnerChanges.Change.{Owned, Free, Lost}
 use Rattle.dbus_calls.specs.Waiting.{Waiting, after_reply, answered, with_call, without_call, without_caller, no_calls}
 use Rattle.dbus_names.specs.NameCalls.{NameCall, name_call_of, receiver_of}
-use Rattle.dbus_names.specs.Telling.{told_by}
+use Rattle.dbus_names.specs.Telling.{reply_told}
 
 -- the name by which each connection is known, of which this is the unique name
 abbrev pub KnownNames : Type 0
@@ -63,23 +63,28 @@ abbrev pub name_said : Option Change → (unique : List ℕ) → Option (List �
 name_said (Some (Owned o)) unique = if bytes_eq o.unique unique then Some o.name else None
 name_said change unique = None
 
+-- the owners after what is said, if anything is
+abbrev pub owners_after : Option Change → OwnerSet → OwnerSet
+owners_after None os = os
+owners_after (Some change) os = owners_by change os
+
 -- after what is said, with these owners: it keeps its name as long as it has it, or else it is known
 -- by the one that it is said to have
 abbrev pub named_by : Option Change → OwnerSet → KnownNames → KnownNames
 named_by said os names unique = option_or (if_had os unique (names unique)) (if_had os unique (name_said said unique))
 
--- a connection that is gone is known by none
+-- a connection that is gone has no name any more
+abbrev pub owners_left : Event → OwnerSet → OwnerSet
+owners_left (Leaves name) os = without_unique name os
+owners_left event os = os
+
+-- and is known by none
 abbrev pub names_left : Event → KnownNames → KnownNames
 names_left (Leaves name) names unique = if bytes_eq name unique then None else names unique
 names_left event names unique = names unique
 
 -- Of the names that are wanted.
 module _ (wants : List ℕ → Bool) where
-  -- the owners after what is said, if it is of such a name
-  abbrev pub owners_after : Option Change → OwnerSet → OwnerSet
-  owners_after None os = os
-  owners_after (Some change) os = if wants (name_of change) then owners_by change os else os
-
   abbrev pub wanted_change : Option Change → Option Change
   wanted_change None = None
   wanted_change (Some change) = if wants (name_of change) then Some change else None
@@ -92,13 +97,20 @@ module _ (wants : List ℕ → Bool) where
   abbrev pub asked_by : MessageTree → Option NameCall
   asked_by m = wanted_call (name_call_of m)
 
+  -- what a message says of such a name, if it answers this call, or none. A call whose name is not
+  -- wanted is not kept
+  abbrev pub told_by : (answered : Option NameCall) → MessageTree → Option Change
+  told_by None m = wanted_change (change_of m)
+  told_by (Some call) m = reply_told call m
+
   -- what is known after a message that says this
   abbrev pub known_by : (said : Option Change) → NameState → MessageTree → NameState
   known_by said state m =
+      let owners = owners_after said state.owners in
       record {
-        owners = owners_after said state.owners;
+        owners = owners_left (event_of m) owners;
         calls = calls_after state.calls (event_of m) (asked_by m);
-        names = named_by (wanted_change said) (owners_after said state.owners) (names_left (event_of m) state.names);
+        names = names_left (event_of m) (named_by said owners state.names);
       }
 
   -- what is known after a message

@@ -11,7 +11,7 @@ use Rattle.dbus_message_model.specs.declared.message_type.TheConstants as messag
 use Rattle.dbus_match.specs.Matching.{string_of}
 use Rattle.dbus_calls.specs.Answering.{is_unique}
 use Rattle.dbus_calls.specs.Events.{destination_of, sender_of}
-use Rattle.dbus_calls.specs.OwnerChanges.{Change, change_of}
+use Rattle.dbus_calls.specs.OwnerChanges.{Change}
 use Rattle.dbus_calls.specs.OwnerChanges.Change.{Owned}
 use Rattle.dbus_names.specs.NameCalls.{NameCall}
 use Rattle.dbus_names.specs.declared.name_call.Holder.{Holder}
@@ -41,8 +41,3 @@ holder_told holder reply = if reply.kind == message.METHOD_RETURN then of_unique
 -- what the reply to a call says
 abbrev pub reply_told : NameCall → (reply : MessageTree) → Option Change
 reply_told call reply = option_map (λ unique. Owned (record { name = call.name; unique = unique })) (holder_told call.holder reply)
-
--- what a message says, if it answers this call, or none
-abbrev pub told_by : (answered : Option NameCall) → MessageTree → Option Change
-told_by None m = change_of m
-told_by (Some call) m = reply_told call m

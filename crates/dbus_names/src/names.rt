@@ -6,10 +6,10 @@ ghost use Rattle.dbus_value_model.specs.declared.order.Order.{Order};
 ghost use Rattle.dbus_message_model.specs.Messages.{MessageTree};
 ghost use Rattle.dbus_view.specs.Views.{Views};
 ghost use Rattle.dbus_calls.specs.Changes.{change_seen, owner_seen};
-ghost use Rattle.dbus_calls.specs.Events.{event_of};
+ghost use Rattle.dbus_calls.specs.Events.{event_of, event_seen};
 ghost use Rattle.dbus_calls.specs.Events.Event.{Calls};
-ghost use Rattle.dbus_names.specs.Kept.{call_kept, call_seen, calls_of, first_of, kept_names, state_of};
-ghost use Rattle.dbus_names.specs.NameStates.{answered_by, asked_by, calls_after, known_after, known_first, named_by, names_left, owners_after, owners_by, wanted_change};
+ghost use Rattle.dbus_names.specs.Kept.{call_kept, call_seen, calls_of, kept_names, state_of};
+ghost use Rattle.dbus_names.specs.NameStates.{answered_by, asked_by, calls_after, known_after, known_first, named_by, names_left, owners_after, owners_by, owners_left, told_by, wanted_change};
 ghost use Rattle.dbus_names.specs.Telling.{reply_told};
 ghost use Rattle.dbus_calls.specs.OwnerChanges.{change_of};
 ghost use Rattle.dbus_calls.specs.OwnerChanges.Change.{Owned};
@@ -20,25 +20,27 @@ use crate::first_names::FirstNames;
 use crate::kept_call::KeptCall;
 use crate::name_call::{NameCall, name_call_of};
 use crate::telling::holder_told;
-use dbus_calls::{CallSeen, Event, NameOwner, OpenCalls, OwnerChange, event_of, owner_change};
+use dbus_calls::{CallSeen, Event, EventView, NameOwner, OpenCalls, OwnerChange};
 use dbus_rule_set::Owners;
 use dbus_view::MessageView;
 use std::alloc::{AllocError, Global};
 
 /// Who has which name, as messages tell it one after the other, in the order of their input.
 ///
-/// It holds memory for the owners of names that are wanted, for one name of each connection that is
-/// not gone, and for the open calls whose replies tell more. A message takes time for its own
-/// header and the logarithm of the number of names and open calls; if a caller is gone, for each of
-/// its calls.
+/// It holds memory for the names that are wanted of each connection that is not gone, once more for
+/// one of them, and for the open calls whose replies tell more. A message takes time for its own
+/// header and the logarithm of the number of names and open calls; if a connection is gone, for
+/// each of its calls and names.
 ///
 /// ```rust
+/// use dbus_calls::EventView;
 /// use dbus_names::{Names, WellKnownNames};
 /// use dbus_message::MessageView;
 /// use dbus_rule_set::Owners;
 ///
+/// let view = MessageView::of(bytes)?;
 /// let mut names = Names::new(alloc, Owners::new(alloc));
-/// names.take(&MessageView::of(bytes)?, &WellKnownNames)?;
+/// names.take(&EventView::of(&view), &WellKnownNames)?;
 /// println!(rt; "{}", names.owners().of(":1.7").is_some())?;
 /// ```
 #[derive(Drop)]
@@ -86,35 +88,40 @@ impl Names {
     /// `AllocError`: an allocation failed. Then the owners are those from before, and it may have
     /// lost the call that the message answers.
     #[tactic(auto, unfolding(crate::specs::Kept::state_of))]
-    pub fn take<F: NameFilter>(&mut self, view: &MessageView, filter: &F) -> Result<(), AllocError>
-        ensures learns { (order : Order) (m : MessageTree) → Views view.now order m →
+    pub fn take<F: NameFilter>(&mut self, message: &EventView, filter: &F) -> Result<(), AllocError>
+        ensures learns { (order : Order) (m : MessageTree) → Views message.now order m →
             OnOk result (state_of self.new ≡ known_after (F.wanted filter.now) (state_of self.old) m) }
         ensures unchanged { OnErr result ((state_of self.new).owners ≡ (state_of self.old).owners) }
     {
-        match self.pair(view, filter)? {
-            Some(call) => note_reply(view, &call, filter, &mut self.owners, &mut self.first),
-            None => note_signal(view, filter, &mut self.owners, &mut self.first),
-        }
+        let answered = self.pair(message, filter)?;
+        note_told(
+            message,
+            &answered,
+            filter,
+            &mut self.owners,
+            &mut self.first,
+        )?;
+        let_go(message.event(), &mut self.owners, &mut self.first);
+        Ok(())
     }
 
     // Opens and closes calls by the message. Returns the one that it answers.
     fn pair<F: NameFilter>(
         &mut self,
-        view: &MessageView,
+        message: &EventView,
         filter: &F,
     ) -> Result<Option<KeptCall>, AllocError>
         ensures owners { self.new.owners ≡ self.old.owners }
-        ensures names { (order : Order) (m : MessageTree) → Views view.now order m →
-            OnOk result ((u : List ℕ) → first_of self.new.first u ≡ names_left (event_of m) (first_of self.old.first) u) }
-        ensures calls { (order : Order) (m : MessageTree) → Views view.now order m →
+        ensures names { self.new.first ≡ self.old.first }
+        ensures calls { (order : Order) (m : MessageTree) → Views message.now order m →
             OnOk result ((c : List ℕ) (s : ℕ) → calls_of self.new c s ≡
             calls_after (calls_of self.old) (event_of m) (asked_by (F.wanted filter.now) m) c s) }
-        ensures answered { (order : Order) (m : MessageTree) → Views view.now order m →
+        ensures answered { (order : Order) (m : MessageTree) → Views message.now order m →
             IfOk result (λ call. option_map call_kept call ≡ answered_by (calls_of self.old) (event_of m)) }
     {
-        match event_of(view) {
+        match message.event() {
             Event::Call(call) => {
-                self.take_call(call, asked_by(view, filter))?;
+                self.take_call(call, asked_by(message.view(), filter))?;
                 Ok(None)
             }
             Event::Reply(reply) => {
@@ -122,10 +129,9 @@ impl Names {
             }
             Event::Departure(name) => {
                 self.calls.close_all(name);
-                self.first.forget(name);
                 Ok(None)
             }
-            Event::Other => Ok(None),
+            Event::Other(_) => Ok(None),
         }
     }
 
@@ -170,47 +176,64 @@ pub fn asked_by<'a, F: NameFilter>(view: &MessageView<'a>, filter: &F) -> Option
     }
 }
 
-// Changes the owners and the names of connections by the message as the reply to a call.
-fn note_reply<F: NameFilter>(
-    view: &MessageView,
-    call: &KeptCall,
+// Changes the owners and the names of connections by the message, which answers this call, or none.
+fn note_told<F: NameFilter>(
+    message: &EventView,
+    answered: &Option<KeptCall>,
     filter: &F,
     owners: &mut Owners,
     first: &mut FirstNames,
 ) -> Result<(), AllocError>
+    ensures noted { (order : Order) (m : MessageTree) → Views message.now order m →
+        OnOk result (owners.new ≡ owners_after (told_by (F.wanted filter.now) (option_map call_kept answered.now) m) owners.old) }
+    ensures named { (order : Order) (m : MessageTree) → Views message.now order m →
+        OnOk result ((u : List ℕ) → kept_names first.new owners.new u ≡
+        named_by (told_by (F.wanted filter.now) (option_map call_kept answered.now) m) owners.new (kept_names first.old owners.old) u) }
+    ensures unchanged { OnErr result (owners.new ≡ owners.old) }
+{
+    match answered {
+        Some(call) => note_reply(message.view(), call, owners, first),
+        None => note_signal(message, filter, owners, first),
+    }
+}
+
+// Changes the owners and the names of connections by the message as the reply to a call, which was
+// kept since its name is wanted.
+fn note_reply(
+    view: &MessageView,
+    call: &KeptCall,
+    owners: &mut Owners,
+    first: &mut FirstNames,
+) -> Result<(), AllocError>
     ensures noted { (order : Order) (m : MessageTree) → Views view.now order m →
-        OnOk result (owners.new ≡ owners_after (F.wanted filter.now) (reply_told (call_kept call.now) m) owners.old) }
+        OnOk result (owners.new ≡ owners_after (reply_told (call_kept call.now) m) owners.old) }
     ensures named { (order : Order) (m : MessageTree) → Views view.now order m →
         OnOk result ((u : List ℕ) → kept_names first.new owners.new u ≡
-        named_by (wanted_change (F.wanted filter.now) (reply_told (call_kept call.now) m)) owners.new (kept_names first.old owners.old) u) }
+        named_by (reply_told (call_kept call.now) m) owners.new (kept_names first.old owners.old) u) }
     ensures unchanged { OnErr result (owners.new ≡ owners.old) }
 {
     let Some(unique) = holder_told(view, call.holder) else {
         return Ok(());
     };
     let name = call.name.as_str();
-    if filter.wants(name) {
-        note_owner(NameOwner { name, unique }, owners, first)
-    } else {
-        Ok(())
-    }
+    note_owner(NameOwner { name, unique }, owners, first)
 }
 
 // Changes the owners and the names of connections by the message as a signal of the bus.
 fn note_signal<F: NameFilter>(
-    view: &MessageView,
+    message: &EventView,
     filter: &F,
     owners: &mut Owners,
     first: &mut FirstNames,
 ) -> Result<(), AllocError>
-    ensures noted { (order : Order) (m : MessageTree) → Views view.now order m →
-        OnOk result (owners.new ≡ owners_after (F.wanted filter.now) (change_of m) owners.old) }
-    ensures named { (order : Order) (m : MessageTree) → Views view.now order m →
+    ensures noted { (order : Order) (m : MessageTree) → Views message.now order m →
+        OnOk result (owners.new ≡ owners_after (wanted_change (F.wanted filter.now) (change_of m)) owners.old) }
+    ensures named { (order : Order) (m : MessageTree) → Views message.now order m →
         OnOk result ((u : List ℕ) → kept_names first.new owners.new u ≡
         named_by (wanted_change (F.wanted filter.now) (change_of m)) owners.new (kept_names first.old owners.old) u) }
     ensures unchanged { OnErr result (owners.new ≡ owners.old) }
 {
-    let Some(change) = owner_change(view) else {
+    let Some(change) = message.event().change() else {
         return Ok(());
     };
     if filter.wants(change.name()) {
@@ -241,6 +264,18 @@ fn note(
             owners.lose(owner.name, owner.unique);
             Ok(())
         }
+    }
+}
+
+// Forgets the names of a connection that is gone.
+fn let_go(event: Event<'_>, owners: &mut Owners, first: &mut FirstNames)
+    ensures owners { owners.new ≡ owners_left (event_seen event.entry) owners.old }
+    ensures names { (u : List ℕ) → kept_names first.new owners.new u ≡
+        names_left (event_seen event.entry) (kept_names first.old owners.old) u }
+{
+    if let Event::Departure(name) = event {
+        owners.forget(name);
+        first.forget(name);
     }
 }
 

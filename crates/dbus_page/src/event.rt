@@ -19,7 +19,7 @@ ghost use Rattle.dbus_page.specs.Written.{IsNoText, IsWritten};
 
 use crate::answers::NO_TEXT;
 use crate::room::end;
-use dbus_calls::{Event, OwnerChange, event_of, owner_change};
+use dbus_calls::{Event, EventView, OwnerChange};
 use dbus_names::{Holder, NameFilter, WellKnownNames, asked_by, holder_told};
 use dbus_room::Room;
 use dbus_show::Draft;
@@ -126,12 +126,12 @@ struct Told<'a> {
     holders: Holders<'a>,
 }
 
-// What the message of the view is to the calls that wait.
-fn event_told<'a>(view: &MessageView<'a>) -> EventTold<'a>
-    ensures { (order : Order) (m : MessageTree) → Views view.now order m →
+// What the message is to the calls that wait.
+fn event_told<'a>(message: &EventView<'_, 'a>) -> EventTold<'a>
+    ensures { (order : Order) (m : MessageTree) → Views message.now order m →
         IsEvent result.event result.serial result.caller.now result.sender.now (event_of m) }
 {
-    event_numbered(event_of(view))
+    event_numbered(message.event())
 }
 
 // The same, of an event.
@@ -161,7 +161,7 @@ fn event_numbered(event: Event<'_>) -> EventTold<'_>
             caller: name,
             sender: "",
         },
-        Event::Other => EventTold {
+        Event::Other(_) => EventTold {
             event: OTHER,
             serial: 0,
             caller: "",
@@ -171,11 +171,11 @@ fn event_numbered(event: Event<'_>) -> EventTold<'_>
 }
 
 // What it says of the owner of a name that is wanted.
-fn wanted_change<'a>(view: &MessageView<'a>) -> Option<OwnerChange<'a>>
-    ensures { (order : Order) (m : MessageTree) → Views view.now order m →
+fn wanted_change<'a>(message: &EventView<'_, 'a>) -> Option<OwnerChange<'a>>
+    ensures { (order : Order) (m : MessageTree) → Views message.now order m →
         option_map change_seen result ≡ wanted_change is_well_known (change_of m) }
 {
-    let change = owner_change(view)?;
+    let change = message.event().change()?;
     if WellKnownNames.wants(change.name()) {
         Some(change)
     } else {
@@ -184,14 +184,14 @@ fn wanted_change<'a>(view: &MessageView<'a>) -> Option<OwnerChange<'a>>
 }
 
 // What it says of a name, or asks.
-fn said_by<'a>(view: &MessageView<'a>) -> Said<'a>
-    ensures { (order : Order) (m : MessageTree) → Views view.now order m →
+fn said_by<'a>(message: &EventView<'_, 'a>) -> Said<'a>
+    ensures { (order : Order) (m : MessageTree) → Views message.now order m →
         IsSaid result.says result.name.now result.unique.now
         (wanted_change is_well_known (change_of m)) (asked_by is_well_known m) }
 {
-    match wanted_change(view) {
+    match wanted_change(message) {
         Some(change) => change_said(change),
-        None => asked(view),
+        None => asked(message.view()),
     }
 }
 
@@ -329,9 +329,10 @@ pub extern "C" fn dbus_page_event(
         *count = 0;
         return NO_TEXT;
     };
+    let message = EventView::of(&view);
     let told = Told {
-        event: event_told(&view),
-        said: said_by(&view),
+        event: event_told(&message),
+        said: said_by(&message),
         holders: holders_told(&view),
     };
     *event = page_event(&told);

@@ -24,7 +24,7 @@ use Rattle.std.proofs.lemmas.Slice.Eq.{bytes_eq-Decides}
 use Rattle.dbus_match.specs.Matching.{IsOwned, Ownership}
 use Rattle.dbus_rule_set.proofs.GroupedTexts.{flip}
 use Rattle.dbus_rule_set.specs.Groups.{Groups, has, owned, owners_by}
-use Rattle.dbus_rule_set.specs.Owners.{OwnerSet, owned_anew, owner_cmp, owners_in, without_owner, without_owners}
+use Rattle.dbus_rule_set.specs.Owners.{OwnerSet, owned_anew, owner_cmp, owners_in, without_owner, without_owners, without_unique}
 
 -- ---- the order
 
@@ -115,6 +115,9 @@ contains_lost s name unique n u =
 
 pub contains_less : (s : OwnerSet) (name n u : List ℕ) → contains (without_owners name s) (pair n u) ≡ (contains s (pair n u) && not (bytes_eq name n))
 contains_less s name n u = contains-retain s (λ o. not (bytes_eq name o.name)) (pair n u) (λ x e. ap (λ o. not (bytes_eq name o.name)) (sym (owner_same (pair n u) x e)))
+
+pub contains_left : (s : OwnerSet) (unique n u : List ℕ) → contains (without_unique unique s) (pair n u) ≡ (contains s (pair n u) && not (bytes_eq unique u))
+contains_left s unique n u = contains-retain s (λ o. not (bytes_eq unique o.unique)) (pair n u) (λ x e. ap (λ o. not (bytes_eq unique o.unique)) (sym (owner_same (pair n u) x e)))
 
 pub contains_anew : (s : OwnerSet) (name unique n u : List ℕ) → bytes_eq unique [] ≡ false → contains (owned_anew name unique s) (pair n u) ≡ cond (bytes_eq name n) (bytes_eq unique u) (contains s (pair n u))
 contains_anew s name unique n u some =

@@ -33,6 +33,10 @@ without_owners name s = set.retain s (λ o. not (bytes_eq name o.name))
 abbrev pub without_owner : (name unique : List ℕ) → OwnerSet → OwnerSet
 without_owner name unique s = set.remove s (record { name = name; unique = unique })
 
+-- the owner has no name any more
+abbrev pub without_unique : List ℕ → OwnerSet → OwnerSet
+without_unique unique s = set.retain s (λ o. not (bytes_eq unique o.unique))
+
 -- the name has this owner alone, or none if that is empty; other names keep theirs
 abbrev pub owned_anew : (name unique : List ℕ) → OwnerSet → OwnerSet
 owned_anew name unique s = if bytes_eq unique [] then without_owners name s else set.insert (without_owners name s) (record { name = name; unique = unique })

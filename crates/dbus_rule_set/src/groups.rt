@@ -77,8 +77,9 @@ pub(crate) fn leave(groups: &mut Groups, first: &str, second: &str)
 
 /// None of the first texts has the second any more.
 pub(crate) fn leave_each(groups: &mut Groups, firsts: &BTreeSet<String>, second: &str)
-    ensures { (n u : List ℕ) → has groups.new n u ≡
+    ensures left { (n u : List ℕ) → has groups.new n u ≡
         (not (contains_text firsts.now n && bytes_eq second.now u) && has groups.old n u) }
+    ensures ordered { IsOrdered string_cmp groups.old → IsOrdered string_cmp groups.new }
 {
     for first in firsts {
         leave(groups, first.as_str(), second);

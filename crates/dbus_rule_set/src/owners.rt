@@ -55,7 +55,7 @@ impl Owners {
     ghost use Rattle.std.specs.FinSet.{contains, empty, insert};
     ghost use Rattle.std.specs.Option.{option_map_or};
     ghost use Rattle.dbus_match.specs.Matching.{IsOwned};
-    ghost use Rattle.dbus_rule_set.specs.Owners.{owned_anew, owners_in, without_owner, without_owners};
+    ghost use Rattle.dbus_rule_set.specs.Owners.{owned_anew, owners_in, without_owner, without_owners, without_unique};
 
     /// No name has an owner. It allocates nothing.
     pub fn new(alloc: Global) -> Owners
@@ -136,6 +136,16 @@ impl Owners {
     {
         leave(&mut self.by_name, name, unique);
         leave(&mut self.by_unique, unique, name);
+    }
+
+    /// Takes this owner's names away, if it has any: it is gone. Their other owners stay. It allocates
+    /// nothing.
+    pub fn forget(&mut self, unique: &str)
+        ensures { self.new ≡ without_unique unique.now self.old }
+    {
+        if let Some(names) = self.by_unique.remove(unique) {
+            leave_each(&mut self.by_name, &names, unique);
+        }
     }
 
     /// The names that the unique name owns, in the order of their bytes; `None` if it owns none.

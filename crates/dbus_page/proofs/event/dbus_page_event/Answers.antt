@@ -5,7 +5,7 @@ use Rattle.dbus_header.specs.MessageOutcomes.{IsWhole}
 use Rattle.dbus_names.specs.Filters.{is_well_known}
 use Rattle.dbus_names.specs.NameStates.{asked_by, wanted_change}
 use Rattle.dbus_value_model.specs.declared.limits.Limits.{Limits}
-use Rattle.dbus_view.specs.Views.{Views}
+use Rattle.dbus_view.specs.Views.{ViewState, Views}
 use Rattle.dbus_page.specs.Events.{IsEvent, IsSaid, Tells, texts}
 use Rattle.dbus_page.proofs.Ending.{ended}
 use Rattle.dbus_page.proofs.event.dbus_page_event.Goals as goal
@@ -17,6 +17,7 @@ returns-clause-told c = λ order m here.
     let viewed = c.in-Ok.ensures.viewed in
     let limited = subst (λ (l : Limits). IsWhole l b order m (length b)) (sym viewed.0) here in
     let views : Views view order m = subst (λ (x : List ℕ). IsWhole view.limits x order m (length x)) (sym viewed.1) limited in
+    let seen : Views c.of-message.result order m = subst (λ (v : ViewState). Views v order m) (sym c.of-message.ensures) views in
     let event = c.event_told.result in
     let said = c.said_by.result in
     let holders = c.holders_told.result in
@@ -36,8 +37,8 @@ returns-clause-told c = λ order m here.
       name_lengths = numbers.name_lengths;
       holder_lengths = numbers.holder_lengths;
       event = subst (λ (n : ℕ). IsEvent n page.serial event.caller.now event.sender.now (event_of m)) (sym numbers.event.0)
-          (subst (λ (n : ℕ). IsEvent event.event n event.caller.now event.sender.now (event_of m)) (sym numbers.event.1) (c.event_told.ensures order m views));
-      said = subst (λ (n : ℕ). IsSaid n said.name.now said.unique.now (wanted_change is_well_known (change_of m)) (asked_by is_well_known m)) (sym numbers.says) (c.said_by.ensures order m views);
+          (subst (λ (n : ℕ). IsEvent event.event n event.caller.now event.sender.now (event_of m)) (sym numbers.event.1) (c.event_told.ensures order m seen));
+      said = subst (λ (n : ℕ). IsSaid n said.name.now said.unique.now (wanted_change is_well_known (change_of m)) (asked_by is_well_known m)) (sym numbers.says) (c.said_by.ensures order m seen);
       holders = c.holders_told.ensures order m views;
     } in
     let back : c.write_texts.new.draft.bytes.now ≡ c.room-1.given.0 = search rules in (

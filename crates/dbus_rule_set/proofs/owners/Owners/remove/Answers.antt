@@ -19,7 +19,7 @@ invariant_of-self c =
           let owned : contains_text c.in-Some.owners u ≡ has before name u = grind (arith, text_keys) in
           went
           ∙ (sym (all_gone (has before) name n u (contains_text c.in-Some.owners u) owned)
-          ∙ (ap (λ b. not (contains_text c.in-Some.owners u && bytes_eq name n) && b) (c.self.invariant.converse n u) ∙ sym (c.leave_each.ensures u n)));
+          ∙ (ap (λ b. not (contains_text c.in-Some.owners u && bytes_eq name n) && b) (c.self.invariant.converse n u) ∙ sym (c.leave_each.ensures.left u n)));
     }
 
 pub returns-in-Some : goal.returns-in-Some

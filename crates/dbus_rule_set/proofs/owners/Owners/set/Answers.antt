@@ -64,7 +64,7 @@ invariant_of-self-in-Ok-Some c =
           went
           ∙ (sym (one_anew (has before) name n u q o left)
           ∙ ((λ i. not (o && bytes_eq name n) && (q && bytes_eq name n || c.self.invariant.converse n u i))
-          ∙ (ap (λ b. not (o && bytes_eq name n) && b) (sym (c.in_ok-join.ensures.joined u n)) ∙ sym (c.leave_each.ensures u n))));
+          ∙ (ap (λ b. not (o && bytes_eq name n) && b) (sym (c.in_ok-join.ensures.joined u n)) ∙ sym (c.leave_each.ensures.left u n))));
     }
 
 pub returns-in-Ok-Some-clause-set : goal.returns-in-Ok-Some-clause-set
