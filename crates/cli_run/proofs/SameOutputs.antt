@@ -100,7 +100,7 @@ are_passed packets settings n offset (PassedOver kept fault by size ∷ parts) t
 prefix_one : (w kept also : List ℕ) → IsPrefixTo kept w → IsPrefixTo also w → length kept ≡ length also → kept ≡ also
 prefix_one w kept also x y same =
     let n = length kept in
-    sym (take_at kept x.0 n refl) ∙ (ap (λ (l : List ℕ). take n l) (sym x.1 ∙ y.1) ∙ take_at also y.0 n same)
+    sym (take_at kept x.0 n refl) ∙ (ap (λ (l : List ℕ). take n l) (sym x.1 ∙ y.1) ∙ take_at also y.0 n (sym same))
 
 kept_one : (limits : Limits) (w kept also : List ℕ) (outcome : CutOutcome) → IsKeptOf limits outcome kept w → IsKeptOf limits outcome also w → length kept ≡ length also → kept ≡ also
 kept_one limits w kept also (Refused fault) x y same = prefix_one w kept also x.0 y.0 same
@@ -183,8 +183,8 @@ module _ (settings : Settings) where
           let there = subst (λ k. BeginWithParts settings.limits (drop k bytes) others last) (sym long) y.1 in
           let told = subst (λ k. AreTold (Some all) settings (n + 1) (offset + k) others q.1) (sym long) q.4 in
           let packet = one_packet settings.limits all offset bytes kept also fault other p.3.2.0 q.3.2.0 x.0.0 y.0.0 x.0.1 y.0.1 p.3.2.1 q.3.2.1 in
-          let line : p.0 ≡ q.0 = one_text n n offset offset fault other p.3.2.0 q.3.2.0 kept also p.0 q.0 refl refl one packet (prefix_one bytes kept also x.0.0 y.0.0) (show_first _ _ _ _ shows) p.3.2.2 q.3.2.2 in
-          p.2 ∙ ((λ i. line i ++ same_told (n + 1) (offset + size) (drop size bytes) parts others rest last p.1 q.1 more (show_others _ _ _ _ shows) x.1 there p.4 told i) ∙ sym q.2)
+          let line : p.0 ≡ q.0 = one_text n n offset offset fault other p.3.2.0 q.3.2.0 kept also p.0 q.0 refl refl one packet (prefix_one bytes kept also x.0.0 y.0.0) (show_first (record { kept = kept; fault = fault }) (record { kept = also; fault = other }) (passed_of parts) (passed_of others) shows) p.3.2.2 q.3.2.2 in
+          p.2 ∙ ((λ i. line i ++ same_told (n + 1) (offset + size) (drop size bytes) parts others rest last p.1 q.1 more (show_others (record { kept = kept; fault = fault }) (record { kept = also; fault = other }) (passed_of parts) (passed_of others) shows) x.1 there p.4 told i) ∙ sym q.2)
 
       -- and the rest after them
       pub same_last : (n offset : ℕ) (w kept also : List ℕ) (outcome : CutOutcome) (fault : Option Fault) (a b : List ℕ) → IsKeptOf settings.limits outcome kept w → IsKeptOf settings.limits outcome also w

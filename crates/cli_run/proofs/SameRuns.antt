@@ -21,6 +21,8 @@ use Rattle.dbus_call_members.proofs.OneTable.{one_table as one_member_table}
 use Rattle.dbus_stream.specs.Cut.{IsOutcome, BeginWith, CutMessage, CutOutcome, Refused, IsCut}
 use Rattle.dbus_stream.specs.CutEnds.{fault_at_end, sizes}
 use Rattle.dbus_stream.proofs.CutLaws.{IsCut-one, BeginWith-more}
+use Rattle.cli_options.specs.Selections.{AreSameCommand}
+use Rattle.cli_options.specs.declared.command.Command.{Command}
 use Rattle.cli_options.specs.declared.settings.Settings.{Settings}
 use Rattle.cli_report.specs.Devices.{Reading, Taken, Writing, taken, writing}
 use Rattle.cli_report.specs.declared.ending.Cause.{Cause}
@@ -202,7 +204,7 @@ module _ (settings : Settings) (is_check : Bool) (input : List ℕ) (bytes : IsB
         λ i. first i ++ last i
 
     told_is : g.told ++ g.text ≡ h.told ++ h.text
-    told_is = elim by_bytes settings end (shown_through g) (shown_through h) explains [
+    told_is = elim (by_bytes settings end (shown_through g) (shown_through h) explains) [
       | inl done ↦ none_is done
       | inr tells ↦ elim alike [ inl packets ↦ line_is tells.0 tells.1 packets.0 packets.1 packets.2 | inr done ↦ none_is done ]
     ]
@@ -254,7 +256,7 @@ module _ (settings : Settings) (is_check : Bool) (input : List ℕ) (bytes : IsB
           same_told settings all 1 0 input g.parts h.parts _ _ g.told h.told far_same.0 passed (far_begins g known).1 (far_begins h known_too).1 parts parts_too
 
       far_told : g.told ≡ h.told
-      far_told = elim by_bytes settings end (shown_far g) (shown_far h) explains [
+      far_told = elim (by_bytes settings end (shown_far g) (shown_far h) explains) [
         | inl done ↦ far_none done
         | inr tells ↦ elim alike [ inl packets ↦ far_lines tells.0 packets.0 packets.1 packets.2 | inr done ↦ far_none done ]
       ]
@@ -298,6 +300,7 @@ module _ (settings : Settings) (is_check : Bool) (input : List ℕ) (bytes : IsB
 
 -- ---- the laws
 
+-- two runs that tell alike end alike
 one_ending : {R S W V E F : Type 0} (r : Reading R) (s : Reading S) (w : Writing W) (v : Writing V) (e : Writing E) (f : Writing F) (settings : Settings) (most more : ℕ) (command copy : Command) (end other : ExitStatus) → AreSameCommand command copy
     → ReadAlike r s → AreToldAlike r s end → (g : Goes (taken r) settings most (is_check command) (IsFilledBy command settings.window) (IsReadFor r) (Writes w e settings command) end)
     → (h : Goes (taken s) settings more (is_check copy) (IsFilledBy copy settings.window) (IsReadFor s) (Writes v f settings copy) other) → TellsAlike settings end (shown_of g) (shown_of h) → RunAlike r s w v e f settings command copy end other
@@ -338,9 +341,9 @@ one_run R S W V E F r s w v e f settings most more command copy end other same i
 ]
 
 pub one_telling : (R S W V E F : Type 0) → OneTelling R S W V E F
-one_telling R S W V E F r s w v e f settings most more command copy end other same input told (inl g) (inl h) tells = one_ending r s w v e f settings most more command copy end other same input told g h (inr tells)
-one_telling R S W V E F r s w v e f settings most more command copy end other same input told (inl g) (inr gave_up) tells = absurd tells
-one_telling R S W V E F r s w v e f settings most more command copy end other same input told (inr gave_up) ran tells = absurd tells
+one_telling R S W V E F r s w v e f settings most more command copy end other alike input told (inl g) (inl h) tells = one_ending r s w v e f settings most more command copy end other alike input told g h (inr tells)
+one_telling R S W V E F r s w v e f settings most more command copy end other alike input told (inl g) (inr gave_up) tells = absurd tells
+one_telling R S W V E F r s w v e f settings most more command copy end other alike input told (inr gave_up) ran tells = absurd tells
 
 -- what is due was written
 ended : {E : Type 0} (Writes : Result (Unit {0}) Cause → Type 0) (e : Writing E) (due end : ExitStatus) → (end ≡ status.Failed → ⊥) → EndsBy Writes e due end → Writes (Ok tt) × (e.new ≡ e.old) × (end ≡ due)

@@ -1,7 +1,8 @@
 -- The laws over what a command writes: of all messages and the fault after them there is an output,
 -- and of each command but `json` exactly one. And what a command does by its settings is what it
 -- does under limits alone, if they ask for no more.
-use Rattle.std.specs.Prelude.{◌≡◌, ℕ, Bool, true, false, List, [], ◌∷◌, ◌++◌, Option, ◌≢◌, ◌⊎◌, inl, inr, Some}
+use Rattle.std.specs.Prelude.{◌≡◌, ℕ, Bool, true, false, List, [], ◌∷◌, ◌++◌, Option, ◌≢◌, ◌⊎◌, Some}
+use mathlib.Core.Logic.{inl, inr}
 use Rattle.std.specs.List.{AllByRecursion}
 use Rattle.dbus_value_model.specs.declared.fault.Fault.{Fault}
 use Rattle.dbus_stream.specs.Cut.{CutMessage}

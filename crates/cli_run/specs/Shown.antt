@@ -1,6 +1,7 @@
 -- What a run has told of messages that are refused: of which bytes. What is shown of a message are
 -- those that happened to be read.
-use Rattle.std.specs.Prelude.{◌≡◌, ◌×◌, ◌⊎◌, inl, inr, ℕ, Bool, true, List, [], ◌∷◌, Option, None, Some, length}
+use Rattle.std.specs.Prelude.{◌≡◌, ℕ, Bool, true, List, [], ◌∷◌, Option, None, Some, length}
+use mathlib.Core.Logic.{inl, inr}
 use Rattle.dbus_value_model.specs.declared.fault.Fault.{Fault}
 use Rattle.dbus_explain.specs.Laws.{HeaderHasNoDouble}
 use Rattle.cli_options.specs.declared.settings.Settings.{Settings}
