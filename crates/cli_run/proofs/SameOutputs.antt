@@ -160,38 +160,38 @@ module _ (settings : Settings) where
   ]
 
   module _ (all : Packets) where
-      -- parts of the same bytes are told alike
-      pub same_told : (n offset : ℕ) (bytes : List ℕ) (parts others : List Part) (rest last a b : List ℕ) → AreSame parts others → ShowAlike (passed_of parts) (passed_of others) → BeginWithParts settings.limits bytes parts rest
-          → BeginWithParts settings.limits bytes others last → AreTold (Some all) settings n offset parts a → AreTold (Some all) settings n offset others b → a ≡ b
-      same_told n offset bytes [] [] rest last a b same shows x y p q = p ∙ sym q
-      same_told n offset bytes [] (Whole item ∷ others) rest last a b same shows x y p q = absurd cc
-      same_told n offset bytes [] (PassedOver kept fault by size ∷ others) rest last a b same shows x y p q = absurd cc
-      same_told n offset bytes (Whole item ∷ parts) [] rest last a b same shows x y p q = absurd cc
-      same_told n offset bytes (PassedOver kept fault by size ∷ parts) [] rest last a b same shows x y p q = absurd cc
-      same_told n offset bytes (Whole item ∷ parts) (PassedOver kept fault by size ∷ others) rest last a b same shows x y p q = absurd cc
-      same_told n offset bytes (PassedOver kept fault by size ∷ parts) (Whole item ∷ others) rest last a b same shows x y p q = absurd cc
-      same_told n offset bytes (Whole item ∷ parts) (Whole other ∷ others) rest last a b same shows x y p q =
-          let one : item ≡ other = cc in
-          let more : AreSame parts others = cc in
-          let there = subst (λ (i : CutMessage). BeginWithParts settings.limits (drop i.size bytes) others last) (sym one) y.1 in
-          let told = subst (λ (i : CutMessage). AreTold (Some all) settings (n + 1) (offset + i.size) others q.1) (sym one) q.4 in
-          p.2 ∙ ((λ i. (p.3 ∙ sym q.3) i ++ same_told (n + 1) (offset + item.size) (drop item.size bytes) parts others rest last p.1 q.1 more shows x.1 there p.4 told i) ∙ sym q.2)
-      same_told n offset bytes (PassedOver kept fault by size ∷ parts) (PassedOver also other with wide ∷ others) rest last a b same shows x y p q =
-          let one : fault ≡ other = cc in
-          let long : size ≡ wide = cc in
-          let more : AreSame parts others = cc in
-          let there = subst (λ k. BeginWithParts settings.limits (drop k bytes) others last) (sym long) y.1 in
-          let told = subst (λ k. AreTold (Some all) settings (n + 1) (offset + k) others q.1) (sym long) q.4 in
-          let packet = one_packet settings.limits all offset bytes kept also fault other p.3.2.0 q.3.2.0 x.0.0 y.0.0 x.0.1 y.0.1 p.3.2.1 q.3.2.1 in
-          let line : p.0 ≡ q.0 = one_text n n offset offset fault other p.3.2.0 q.3.2.0 kept also p.0 q.0 refl refl one packet (prefix_one bytes kept also x.0.0 y.0.0) (show_first (record { kept = kept; fault = fault }) (record { kept = also; fault = other }) (passed_of parts) (passed_of others) shows) p.3.2.2 q.3.2.2 in
-          p.2 ∙ ((λ i. line i ++ same_told (n + 1) (offset + size) (drop size bytes) parts others rest last p.1 q.1 more (show_others (record { kept = kept; fault = fault }) (record { kept = also; fault = other }) (passed_of parts) (passed_of others) shows) x.1 there p.4 told i) ∙ sym q.2)
+    -- parts of the same bytes are told alike
+    pub same_told : (n offset : ℕ) (bytes : List ℕ) (parts others : List Part) (rest last a b : List ℕ) → AreSame parts others → ShowAlike (passed_of parts) (passed_of others) → BeginWithParts settings.limits bytes parts rest
+        → BeginWithParts settings.limits bytes others last → AreTold (Some all) settings n offset parts a → AreTold (Some all) settings n offset others b → a ≡ b
+    same_told n offset bytes [] [] rest last a b same shows x y p q = p ∙ sym q
+    same_told n offset bytes [] (Whole item ∷ others) rest last a b same shows x y p q = absurd cc
+    same_told n offset bytes [] (PassedOver kept fault by size ∷ others) rest last a b same shows x y p q = absurd cc
+    same_told n offset bytes (Whole item ∷ parts) [] rest last a b same shows x y p q = absurd cc
+    same_told n offset bytes (PassedOver kept fault by size ∷ parts) [] rest last a b same shows x y p q = absurd cc
+    same_told n offset bytes (Whole item ∷ parts) (PassedOver kept fault by size ∷ others) rest last a b same shows x y p q = absurd cc
+    same_told n offset bytes (PassedOver kept fault by size ∷ parts) (Whole item ∷ others) rest last a b same shows x y p q = absurd cc
+    same_told n offset bytes (Whole item ∷ parts) (Whole other ∷ others) rest last a b same shows x y p q =
+        let one : item ≡ other = cc in
+        let more : AreSame parts others = cc in
+        let there = subst (λ (i : CutMessage). BeginWithParts settings.limits (drop i.size bytes) others last) (sym one) y.1 in
+        let told = subst (λ (i : CutMessage). AreTold (Some all) settings (n + 1) (offset + i.size) others q.1) (sym one) q.4 in
+        p.2 ∙ ((λ i. (p.3 ∙ sym q.3) i ++ same_told (n + 1) (offset + item.size) (drop item.size bytes) parts others rest last p.1 q.1 more shows x.1 there p.4 told i) ∙ sym q.2)
+    same_told n offset bytes (PassedOver kept fault by size ∷ parts) (PassedOver also other with wide ∷ others) rest last a b same shows x y p q =
+        let one : fault ≡ other = cc in
+        let long : size ≡ wide = cc in
+        let more : AreSame parts others = cc in
+        let there = subst (λ k. BeginWithParts settings.limits (drop k bytes) others last) (sym long) y.1 in
+        let told = subst (λ k. AreTold (Some all) settings (n + 1) (offset + k) others q.1) (sym long) q.4 in
+        let packet = one_packet settings.limits all offset bytes kept also fault other p.3.2.0 q.3.2.0 x.0.0 y.0.0 x.0.1 y.0.1 p.3.2.1 q.3.2.1 in
+        let line : p.0 ≡ q.0 = one_text n n offset offset fault other p.3.2.0 q.3.2.0 kept also p.0 q.0 refl refl one packet (prefix_one bytes kept also x.0.0 y.0.0) (show_first (record { kept = kept; fault = fault }) (record { kept = also; fault = other }) (passed_of parts) (passed_of others) shows) p.3.2.2 q.3.2.2 in
+        p.2 ∙ ((λ i. line i ++ same_told (n + 1) (offset + size) (drop size bytes) parts others rest last p.1 q.1 more (show_others (record { kept = kept; fault = fault }) (record { kept = also; fault = other }) (passed_of parts) (passed_of others) shows) x.1 there p.4 told i) ∙ sym q.2)
 
-      -- and the rest after them
-      pub same_last : (n offset : ℕ) (w kept also : List ℕ) (outcome : CutOutcome) (fault : Option Fault) (a b : List ℕ) → IsKeptOf settings.limits outcome kept w → IsKeptOf settings.limits outcome also w
-          → ShowAlike (last_of kept fault) (last_of also fault) → IsToldLast (Some all) settings n offset kept fault a → IsToldLast (Some all) settings n offset also fault b → a ≡ b
-      same_last n offset w kept also outcome None a b x y shows p q = p ∙ sym q
-      same_last n offset w kept also outcome (Some fault) a b x y shows p q =
-          one_text n n offset offset fault fault p.0 q.0 kept also a b refl refl refl (packet_by settings.limits all offset w kept also outcome p.0 q.0 x y p.1 q.1) (kept_one settings.limits w kept also outcome x y) shows p.2 q.2
+    -- and the rest after them
+    pub same_last : (n offset : ℕ) (w kept also : List ℕ) (outcome : CutOutcome) (fault : Option Fault) (a b : List ℕ) → IsKeptOf settings.limits outcome kept w → IsKeptOf settings.limits outcome also w
+        → ShowAlike (last_of kept fault) (last_of also fault) → IsToldLast (Some all) settings n offset kept fault a → IsToldLast (Some all) settings n offset also fault b → a ≡ b
+    same_last n offset w kept also outcome None a b x y shows p q = p ∙ sym q
+    same_last n offset w kept also outcome (Some fault) a b x y shows p q =
+        one_text n n offset offset fault fault p.0 q.0 kept also a b refl refl refl (packet_by settings.limits all offset w kept also outcome p.0 q.0 x y p.1 q.1) (kept_one settings.limits w kept also outcome x y) shows p.2 q.2
 
   -- nothing is told where nothing is refused
   module _ (packets : Option Packets) where

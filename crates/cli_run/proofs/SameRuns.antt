@@ -32,7 +32,7 @@ use Rattle.cli_run.specs.Laws.{AreToldAlike, ExplainsNone, GotAlike, OneCalls, O
 use Rattle.cli_run.specs.ByName.{EndsBy, WritesTables, counting, span_of}
 use Rattle.cli_run.specs.CallListing.{EndsNoted, IsNote, WritesCalls, all_named, lack_times, notes, numbered}
 use Rattle.cli_run.specs.CallSumming.{WritesSums}
-use Rattle.cli_run.specs.Going.{AreTold, Goes, GoesFar, GoesThrough, IsThrough, IsToldLast, ShowsNone, closing_line, cut_tally, passed_count, status_at, tally_of, tally_with}
+use Rattle.cli_run.specs.Going.{AreTold, Goes, GoesFar, GoesThrough, IsThrough, IsToldLast, closing_line, cut_tally, passed_count, status_at, tally_of, tally_with}
 use Rattle.cli_run.specs.Inputs.{ArePlaced, BeginWithParts, Part, Placed, size_of, sizes_of, wholes}
 use Rattle.cli_run.specs.Needed.{IsReadFor}
 use Rattle.cli_run.specs.Output.{IsFilledBy, is_check, check_line, fault_line, form_of, header_before, last_line, output_of, second_output, status_of, written}
@@ -305,31 +305,31 @@ one_ending : {R S W V E F : Type 0} (r : Reading R) (s : Reading S) (w : Writing
     → ReadAlike r s → AreToldAlike r s end → (g : Goes (taken r) settings most (is_check command) (IsFilledBy command settings.window) (IsReadFor r) (Writes w e settings command) end)
     → (h : Goes (taken s) settings more (is_check copy) (IsFilledBy copy settings.window) (IsReadFor s) (Writes v f settings copy) other) → TellsAlike settings end (shown_of g) (shown_of h) → RunAlike r s w v e f settings command copy end other
 one_ending r s w v e f settings most more command copy end other same input told g h tells =
-        let acts = acts_as command copy same in
-        let checks = acts.checks in
-        let k = subst (λ c. (k : Goes (taken s) settings more c (IsFilledBy copy settings.window) (IsReadFor s) (Writes v f settings copy) other) × TellsAlike settings end (shown_of g) (shown_of k)) (sym checks) (h, tells) in
-        let all = ends_alike settings (is_check command) input.0 input.1 (filled_alike command copy acts settings.window) input.2 input.3 (taken_alike r s end end refl told) g k.0 k.1 in
-        let one = all.0 in
-        let other = all.1 in
-        let told = all.2 in (
-          λ packets.
-              let here = subst (λ (p : Option Packets). ArePlaced p 1 0 all.6 one) packets.one all.7 in
-              let there = subst (λ (p : Option Packets). ArePlaced p 1 0 all.6 other) packets.same all.8 in
-              let items = one_placed packets.all 1 0 all.6 one other here there in
-              record { status_is = all.5; items = one; told = told; one = all.3; same = subst (λ (l : List Placed). Writes v f settings copy l told) (sym items) all.4 },
-          λ exact alike.
-              let texts = same_outputs command copy acts exact (r.packets r.old) (s.packets s.old) alike all.6 one other all.3.texts all.4.texts all.7 all.8 all.3.made all.4.made in
-              let header : header_before (form_of command) false one ≡ header_before (form_of copy) false other
-              = header_one (form_of command) (r.packets r.old) (s.packets s.old) false 1 0 all.6 one other alike all.7 all.8 ∙ ap (λ (f : FileForm). header_before f false other) acts.form in
-              let first : first_of (is_check command) (output_of (form_of command) false settings.window one all.3.texts) told ≡ first_of (is_check copy) (output_of (form_of copy) false settings.window other all.4.texts) told
-              = λ i. first_of (checks i) (header i ++ written settings.window (texts i)) told in
-              let second : second_of (is_check command) told ≡ second_of (is_check copy) told = λ i. second_of (checks i) told in
-              record {
-                status_is = all.5;
-                first = (first_of (is_check command) (output_of (form_of command) false settings.window one all.3.texts) told, all.3.first, subst (λ l. Wrote v.held v.failures v.old l v.new) (sym first) all.4.first);
-                second = (second_of (is_check command) told, all.3.second, subst (λ l. Wrote f.held f.failures f.old l f.new) (sym second) all.4.second);
-              },
-        )
+    let acts = acts_as command copy same in
+    let checks = acts.checks in
+    let k = subst (λ c. (k : Goes (taken s) settings more c (IsFilledBy copy settings.window) (IsReadFor s) (Writes v f settings copy) other) × TellsAlike settings end (shown_of g) (shown_of k)) (sym checks) (h, tells) in
+    let all = ends_alike settings (is_check command) input.0 input.1 (filled_alike command copy acts settings.window) input.2 input.3 (taken_alike r s end end refl told) g k.0 k.1 in
+    let one = all.0 in
+    let other = all.1 in
+    let told = all.2 in (
+      λ packets.
+          let here = subst (λ (p : Option Packets). ArePlaced p 1 0 all.6 one) packets.one all.7 in
+          let there = subst (λ (p : Option Packets). ArePlaced p 1 0 all.6 other) packets.same all.8 in
+          let items = one_placed packets.all 1 0 all.6 one other here there in
+          record { status_is = all.5; items = one; told = told; one = all.3; same = subst (λ (l : List Placed). Writes v f settings copy l told) (sym items) all.4 },
+      λ exact alike.
+          let texts = same_outputs command copy acts exact (r.packets r.old) (s.packets s.old) alike all.6 one other all.3.texts all.4.texts all.7 all.8 all.3.made all.4.made in
+          let header : header_before (form_of command) false one ≡ header_before (form_of copy) false other
+          = header_one (form_of command) (r.packets r.old) (s.packets s.old) false 1 0 all.6 one other alike all.7 all.8 ∙ ap (λ (f : FileForm). header_before f false other) acts.form in
+          let first : first_of (is_check command) (output_of (form_of command) false settings.window one all.3.texts) told ≡ first_of (is_check copy) (output_of (form_of copy) false settings.window other all.4.texts) told
+          = λ i. first_of (checks i) (header i ++ written settings.window (texts i)) told in
+          let second : second_of (is_check command) told ≡ second_of (is_check copy) told = λ i. second_of (checks i) told in
+          record {
+            status_is = all.5;
+            first = (first_of (is_check command) (output_of (form_of command) false settings.window one all.3.texts) told, all.3.first, subst (λ l. Wrote v.held v.failures v.old l v.new) (sym first) all.4.first);
+            second = (second_of (is_check command) told, all.3.second, subst (λ l. Wrote f.held f.failures f.old l f.new) (sym second) all.4.second);
+          },
+    )
 
 pub one_run : (R S W V E F : Type 0) → OneRun R S W V E F
 one_run R S W V E F r s w v e f settings most more command copy end other same is runs ran = elim runs [

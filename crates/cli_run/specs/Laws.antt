@@ -2,7 +2,7 @@
 -- and of each command but `json` exactly one. And what a command does by its settings is what it
 -- does under limits alone, if they ask for no more.
 use Rattle.std.specs.Prelude.{◌≡◌, ℕ, Bool, true, false, List, [], ◌∷◌, ◌++◌, Option, ◌≢◌, ◌⊎◌, Some}
-use mathlib.Core.Logic.{inl, inr}
+use mathlib.Core.Logic.{inl}
 use Rattle.std.specs.List.{AllByRecursion}
 use Rattle.dbus_value_model.specs.declared.fault.Fault.{Fault}
 use Rattle.dbus_stream.specs.Cut.{CutMessage}
