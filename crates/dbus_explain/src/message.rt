@@ -44,10 +44,9 @@ pub struct Refused<'a> {
 /// and, if the first 16 bytes are whole, the serial, the flags, and the header fields that are;
 /// control characters of ASCII there are `\x1b` and hidden characters `\u{202e}`. The third has the
 /// bytes around the place in hexadecimal, and the one there between brackets, which are empty at
-/// the end of what was read.
-/// The last says what has to be there, and names the section of the D-Bus Specification; if the
-/// very first byte of the input is refused, it also says what that looks like, as a handshake, an
-/// ELF program, a gzip, xz or zstd file, or text, and what to do.
+/// the end of what was read. The last says what has to be there, and names the section of the D-Bus
+/// Specification; if the very first byte of the input is refused, it also says what that looks
+/// like, as a handshake, an ELF program, a gzip, xz or zstd file, or text, and what to do.
 ///
 /// ```text
 ///   message 2 at 96, byte 72: body[1][3].key
