@@ -1,8 +1,8 @@
 #!/usr/bin/env python3
 """gate.py [--all]: the gate. Runs `rt ci` over a copy of the repository. Over what that builds it meanwhile tries the wrong bodies of the crates that
 are due and those that are always tried; with --all, all of them (bench/trying.py). Then it asks the programs that answer questions on the cases, makes
-the runs that are stored in runs/ of programs, and has dbus-wire read captures, list messages and pass over damaged ones, as each of two compilers built
-these (cases/README.md).
+the runs that are stored in runs/ of programs, and has dbus-wire read captures, list messages, refuse lines and pass over damaged messages, as each of two
+compilers built these (cases/README.md).
 
 The last line says how many crates, programs of questions, stored runs, programs of these three and wrong bodies passed, and how many failed; the exit status
 is 1 if one did.
@@ -81,6 +81,13 @@ def compare_lines(copy, program):
     return is_well
 
 
+def compare_refusals(copy, program):
+    """Whether the program tells of refused lines what a second reader does."""
+    is_well = program.exists() and run_in(copy, "cases/refused_lines.py", str(program))[0] == 0
+    print(f"{program.name}: {'all refused lines right' if is_well else 'refused lines wrong, or it is not there'}", flush=True)
+    return is_well
+
+
 def save_messages(copy, program):
     """Whether a changed byte of a message loses that message at most."""
     is_well = program.exists() and run_in(copy, "cases/damaged.py", str(program))[0] == 0
@@ -103,6 +110,7 @@ def main(*words):
         answered += [make(program, run) for name, run in stored_runs() for program in built(copy, name)]
         answered += [read_captures(copy, program) for program in built(copy, "dbus_wire")]
         answered += [compare_lines(copy, program) for program in built(copy, "dbus_wire")]
+        answered += [compare_refusals(copy, program) for program in built(copy, "dbus_wire")]
         answered += [save_messages(copy, program) for program in built(copy, "dbus_wire")]
         missed = rounds.missed()
     passed += answered.count(True) + len(edits) - missed

@@ -6,6 +6,8 @@ use Rattle.cli_report.specs.Gathering.{Breaks, Passes, gathered_bytes}
 use Rattle.cli_report.specs.declared.ending.Cause.TheVariants.{Memory, ReadFailed, WriteFailed, TooManyReads}
 use Rattle.dbus_lines.specs.Gathering.{IsWithin}
 use Rattle.dbus_json_lines.specs.JsonLines.{IsBlank}
+use Rattle.dbus_json_lines.specs.LineFaults.{IsPlaceOf}
+use Rattle.dbus_json_lines.specs.declared.fault.LineFault.{LineFault}
 use Rattle.cli_encode.specs.Outcomes.{Outcome, Refused, Written, IsOutcome, bytes_of, is_refused, next_serial, refused_line, serial_after, text_of}
 use Rattle.cli_encode.specs.Running.{TellsLine}
 use Rattle.cli_encode.specs.Steps.{SameState, TakesLine}
@@ -13,12 +15,16 @@ use Rattle.cli_encode.specs.declared.encoder.Encoder.{Encoder}
 use Rattle.cli_encode.specs.declared.encoding.Encoding.{Encoding}
 use Rattle.cli_encode.specs.declared.ending.Stop.{Stop}
 use Rattle.cli_encode.specs.declared.ending.Stop.TheVariants.{Cause as ByCause, Untold}
-use Rattle.cli_encode.specs.declared.reason.LineReason.{LineReason}
+use Rattle.cli_encode.specs.declared.reason.Refusal.{Refusal}
 
 -- the line is within the limit
 pub within : (most : ℕ) (bytes : List ℕ) (line : Option (Bor (List ℕ))) (there : Bor (List ℕ)) → line ≡ Some there → IsWithin most bytes (option_map (λ l. l.now) line)
     → (there.now ≡ bytes) × (length bytes ≤ most)
 within most bytes line there e h = subst (λ (l : Option (Bor (List ℕ))). IsWithin most bytes (option_map (λ x. x.now) l)) e h
+
+-- where it is refused
+pub place_of : (line : List ℕ) (f : LineFault) → IsPlaceOf line f → IsPlaceOf line (record { reason = f.reason; at = f.at })
+place_of line f h = record { within = h.within; not_utf8 = h.not_utf8; not_json = h.not_json; token = h.token }
 
 -- it is not blank
 pub not_blank : (blank : Bool) (line bytes : List ℕ) → line ≡ bytes → blank ≡ false → IsTrue blank ↔ IsBlank line → IsBlank bytes → ⊥
@@ -39,7 +45,7 @@ newly false done e f = f
 
 module _ {A W E : Type 0} (held : W → Option (List ℕ)) (failures : W → ℕ) (second_held : E → Option (List ℕ)) (second_failures : E → ℕ) where
   -- a line is refused, and told
-  pub takes_refused : (line : List ℕ) (why : LineReason) (old new : Encoder A) (w0 w1 : W) (e0 e1 : E) (result : Result (Unit {0}) Stop) → IsOutcome old.encoding old.serial line (Refused why)
+  pub takes_refused : (line : List ℕ) (why : Refusal) (old new : Encoder A) (w0 w1 : W) (e0 e1 : E) (result : Result (Unit {0}) Stop) → IsOutcome old.encoding old.serial line (Refused why)
       → new.encoding ≡ old.encoding → new.number ≡ old.number + 1 → new.serial ≡ next_serial old.serial → new.refused ≡ true
       → Passes held failures [] (gathered_bytes old.gathered) (gathered_bytes new.gathered) w0 w1 → gathered_bytes new.gathered ≡ []
       → TellsLine second_held second_failures (refused_line new.number why) e0 e1 result → TakesLine held failures second_held second_failures line old new w0 w1 e0 e1 result

@@ -4,14 +4,17 @@ use Rattle.std.specs.Prelude.{◌≡◌, ◌<◌, ◌≤◌, ◌+◌, ℕ, Bool,
 use Rattle.dbus_value_model.specs.declared.order.Order.{Order}
 use Rattle.dbus_message_model.specs.Messages.{MessageTree, message_bytes}
 use Rattle.dbus_json_lines.specs.JsonLines.{IsBlank, IsLineOf}
+use Rattle.dbus_json_lines.specs.LineFaults.{IsPlaceOf}
 use Rattle.cli_encode.specs.declared.encoding.Encoding.{Encoding}
+use Rattle.dbus_json_reader.specs.JsonReasons.{json_reason_text}
 use Rattle.cli_encode.specs.declared.reason.LineReason.{LineReason}
 use Rattle.cli_encode.specs.declared.reason.LineReason.TheVariants.{TooLong, Unspelled}
+use Rattle.cli_encode.specs.declared.reason.Refusal.{Refusal}
 
 pub data Outcome : Type 0 where
   Written : List ℕ → Outcome
   Passed : Outcome
-  Refused : LineReason → Outcome
+  Refused : Refusal → Outcome
 
 -- the order that is wanted, or the one that the line names
 abbrev pub order_in : Option Order → Order → Order
@@ -26,12 +29,17 @@ module _ (encoding : Encoding) where
     pub spelled : IsLineOf encoding.limits serial line order message
     pub encoded : bytes ≡ message_bytes (order_in encoding.order order) message
 
+  -- it has more bytes than a line may have, and is refused at the first past those; or it spells no
+  -- message, and is refused where it shows that
+  abbrev pub IsRefused : (serial : ℕ) → (line : List ℕ) → LineReason → (at : ℕ) → Type 0
+  IsRefused serial line TooLong at = (encoding.most < length line) × (at ≡ encoding.most)
+  IsRefused serial line (Unspelled why) at = (length line ≤ encoding.most) × (IsBlank line → ⊥) × ((bytes : List ℕ) → Encodes serial line bytes → ⊥) × IsPlaceOf line (record { reason = why; at = at })
+
   -- what becomes of a line
   abbrev pub IsOutcome : (serial : ℕ) → (line : List ℕ) → Outcome → Type 0
   IsOutcome serial line (Written bytes) = (length line ≤ encoding.most) × (IsBlank line → ⊥) × Encodes serial line bytes
   IsOutcome serial line Passed = (length line ≤ encoding.most) × IsBlank line
-  IsOutcome serial line (Refused TooLong) = encoding.most < length line
-  IsOutcome serial line (Refused Unspelled) = (length line ≤ encoding.most) × (IsBlank line → ⊥) × ((bytes : List ℕ) → Encodes serial line bytes → ⊥)
+  IsOutcome serial line (Refused why) = IsRefused serial line why.reason why.at
 
 -- The serial of a message with none is the number of its line among those that are not blank, from
 -- 1 to the greatest number of 32 bits, and then from 1 again.
@@ -61,13 +69,13 @@ abbrev pub all_bytes : List Outcome → List ℕ
 all_bytes [] = []
 all_bytes (outcome ∷ outcomes) = bytes_of outcome ++ all_bytes outcomes
 
--- what is told of a refused line: its number, from 1, and the reason
+-- what is told of a refused line: its number and the column, both from 1, and the reason
 abbrev pub line_reason_text : LineReason → List ℕ
 line_reason_text TooLong = codes "TooLong"
-line_reason_text Unspelled = codes "Unspelled"
+line_reason_text (Unspelled why) = json_reason_text why
 
-abbrev pub refused_line : ℕ → LineReason → List ℕ
-refused_line number why = codes "refused at line " ++ (decimal number ++ (codes ": " ++ (line_reason_text why ++ codes "\n")))
+abbrev pub refused_line : ℕ → Refusal → List ℕ
+refused_line number why = codes "refused at line " ++ (decimal number ++ (codes ", column " ++ (decimal (why.at + 1) ++ (codes ": " ++ (line_reason_text why.reason ++ codes "\n")))))
 
 abbrev pub text_of : (number : ℕ) → Outcome → List ℕ
 text_of number (Written bytes) = []

@@ -9,11 +9,11 @@ ghost use Rattle.cli_encode.specs.Steps.{IsNewEncoder, SameState, TakesLine, out
 
 use crate::encoding::Encoding;
 use crate::ending::Stop;
-use crate::reason::LineReason;
+use crate::reason::{LineReason, Refusal};
 use crate::writing::{tell_refused, write_bytes};
 use cli_report::{Cause, OutputBuffer, Unwritten, write_out};
 use dbus_encode::encode_into;
-use dbus_json_lines::{Unread, is_blank, message_of_line};
+use dbus_json_lines::{NoMessage, is_blank, message_of_line};
 use dbus_stream::Sink;
 use dbus_value_model::Order;
 use json::Scratch;
@@ -27,7 +27,7 @@ pub(crate) enum Made {
     // Its message is made.
     Written,
     // It is refused.
-    Refused(LineReason),
+    Refused(Refusal),
 }
 
 // The order that is wanted, or the one that the line names.
@@ -62,7 +62,10 @@ fn make<A: Allocator + Copy>(
         IsOutcome encoding serial bytes (outcome_of made out.new.items)) }
 {
     let Some(line) = line else {
-        return Ok(Made::Refused(LineReason::TooLong));
+        return Ok(Made::Refused(Refusal {
+            reason: LineReason::TooLong,
+            at: encoding.most,
+        }));
     };
     if is_blank(line) {
         return Ok(Made::Passed);
@@ -72,8 +75,11 @@ fn make<A: Allocator + Copy>(
             encode_into(out, &message, order_in(encoding.order, order))?;
             Ok(Made::Written)
         }
-        Err(Unread::Unspelled) => Ok(Made::Refused(LineReason::Unspelled)),
-        Err(Unread::Memory) => Err(AllocError),
+        Err(NoMessage::Refused(fault)) => Ok(Made::Refused(Refusal {
+            reason: LineReason::Unspelled(fault.reason),
+            at: fault.at,
+        })),
+        Err(NoMessage::Memory) => Err(AllocError),
     }
 }
 
@@ -192,11 +198,11 @@ impl<A: Allocator + Copy> Encoder<A> {
                     Err(Unwritten) => Err(Stop::Cause(Cause::WriteFailed)),
                 }
             }
-            Made::Refused(reason) => {
+            Made::Refused(refusal) => {
                 self.serial = next_serial(self.serial);
                 self.refused = true;
                 match self.settle(first) {
-                    Ok(()) => tell_refused(alloc, self.number, reason, second),
+                    Ok(()) => tell_refused(alloc, self.number, refusal, second),
                     Err(Unwritten) => Err(Stop::Cause(Cause::WriteFailed)),
                 }
             }

@@ -146,9 +146,9 @@ fn encode_source<R: Source + Drop, A: Allocator + Copy, W: Sink, E: Sink>(
 /// not blank, from 1 to 2^32 - 1 and then from 1 again.
 ///
 /// A line that spells no message is refused, and one of more bytes than a line may have:
-/// `refused at line N: REASON` on the second writer, the number of the line from 1 among all, and
-/// the name of the [`crate::LineReason`]. What came before it is written first. The run ends there,
-/// unless it is to go on.
+/// `refused at line N, column C: REASON` on the second writer, the number of the line from 1 among
+/// all, the place of the [`crate::Refusal`] in bytes from 1, and the name of its reason. What came
+/// before it is written first. The run ends there, unless it is to go on.
 ///
 /// If the run fails, it stops at the first cause that it meets, and writes `read failed`, `write
 /// failed`, `too many reads` or `out of memory` on the second writer. Each line ends in LF. What is

@@ -13,4 +13,4 @@ mod writing;
 
 pub use encoding::Encoding;
 pub use going::encode_lines;
-pub use reason::LineReason;
+pub use reason::{LineReason, Refusal};

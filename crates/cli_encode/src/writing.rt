@@ -7,7 +7,7 @@ ghost use Rattle.cli_encode.specs.Outcomes.{refused_line};
 ghost use Rattle.cli_encode.specs.Running.{TellsLine};
 
 use crate::ending::Stop;
-use crate::reason::LineReason;
+use crate::reason::Refusal;
 use cli_report::{Cause, OutputBuffer, Page, Unwritten};
 use dbus_stream::{Sink, WrittenOnly, write_all};
 use std::alloc::{AllocError, Allocator};
@@ -34,23 +34,26 @@ pub(crate) fn write_bytes<W: Sink>(
 fn refused_line<A: Allocator + Copy>(
     alloc: A,
     number: u64,
-    reason: LineReason,
+    refusal: Refusal,
 ) -> Result<String<A>, AllocError>
-    ensures { IfOk result (λ line. string_bytes line ≡ refused_line number reason) }
+    ensures { IfOk result (λ line. string_bytes line ≡ refused_line number refusal) }
 {
-    format!(in alloc; "refused at line {number}: {reason}\n")
+    let column = refusal.at as u128 + 1;
+    let reason = refusal.reason;
+    format!(in alloc; "refused at line {number}, column {column}: {reason}\n")
 }
 
 /// Tells that the line of this number is refused.
 pub(crate) fn tell_refused<A: Allocator + Copy, E: Sink>(
     alloc: A,
     number: u64,
-    reason: LineReason,
+    refusal: Refusal,
     second: &mut E,
 ) -> Result<(), Stop>
-    ensures { TellsLine E.held E.failures (refused_line number reason) second.old second.new result }
+    ensures { TellsLine E.held E.failures (refused_line number refusal) second.old second.new
+        result }
 {
-    match refused_line(alloc, number, reason) {
+    match refused_line(alloc, number, refusal) {
         Ok(line) => match write_all(second, line.as_bytes()) {
             Ok(()) => Ok(()),
             Err(WrittenOnly(_)) => Err(Stop::Untold),

@@ -32,7 +32,7 @@ use Rattle.cli_encode_laws.specs.Inverse.{AreTheirLines, PlacedMessage, all_writ
 use Rattle.cli_encode_laws.specs.InputBack.{IsInputBack}
 use Rattle.cli_encode_laws.proofs.Inverse.{are_written, bytes_written, none_refused}
 use Rattle.cli_encode_laws.proofs.OneEncoding.{answered}
-use Rattle.cli_encode_laws.proofs.Outcomes.{left_over, of_input, or_false, same_outcomes}
+use Rattle.cli_encode_laws.proofs.Outcomes.{left_over, none_told, of_input, or_false, same_bytes, same_outcomes, same_refused}
 
 -- ---- the lines of messages
 
@@ -154,10 +154,6 @@ front_none (o ∷ before) last none =
 ends_none : (keeps_going : Bool) (os : List Outcome) → any_refused os ≡ false → EndsAtRefused keeps_going os
 ends_none keeps_going os none = λ stops before last e. front_none before last (ap any_refused (sym e) ∙ none)
 
-none_told : (n : ℕ) (ms : List PlacedMessage) → all_text n (all_written ms) ≡ []
-none_told n [] = refl
-none_told n (m ∷ ms) = none_told (n + 1) ms
-
 pub input_back : (R S W V E F : Type 0) → IsInputBack R S W V E F
 input_back R S W V E F r s w v e f times encoding most more input text end known small runs empty held given kept short done ran =
     let h = by_run r w e times encoding most input text known small empty held runs in
@@ -169,7 +165,7 @@ input_back R S W V E F r s w v e f times encoding most more input text end known
     let lines = one_list text (b.all.came.lines ++ y.more) (h.lines ++ []) y.cut whole in
     let same = same_outcomes encoding encoding.keeps_going b.all.came.lines h.lines y.more [] b.all.outcomes (all_written h.messages) lines b.all.came.are all y.over b.all.came.ends (inl refl) (ends_none encoding.keeps_going (all_written h.messages) none) in
     record {
-      done = b.status_is ∙ ap encoded_status (b.all.refused_is ∙ ap any_refused same ∙ none);
-      first = subst (λ (l : List ℕ). Wrote v.held v.failures v.old l v.new) (ap all_bytes same ∙ bytes_written h.messages ∙ h.bytes_are) b.all.first;
-      second = subst (λ (l : List ℕ). Wrote f.held f.failures f.old l f.new) (ap (all_text 1) same ∙ none_told 1 h.messages) b.all.second;
+      done = b.status_is ∙ ap encoded_status (b.all.refused_is ∙ same_refused b.all.outcomes (all_written h.messages) same ∙ none);
+      first = subst (λ (l : List ℕ). Wrote v.held v.failures v.old l v.new) (same_bytes b.all.outcomes (all_written h.messages) same ∙ bytes_written h.messages ∙ h.bytes_are) b.all.first;
+      second = subst (λ (l : List ℕ). Wrote f.held f.failures f.old l f.new) (none_told 1 b.all.outcomes (same_refused b.all.outcomes (all_written h.messages) same ∙ none)) b.all.second;
     }

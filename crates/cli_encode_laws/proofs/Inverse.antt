@@ -6,10 +6,11 @@ use Rattle.std.specs.List.{flat_map}
 use Rattle.json.specs.Word.{is_space}
 use Rattle.dbus_message_model.specs.Messages.{message_bytes}
 use Rattle.dbus_json_lines.specs.JsonLines.{IsBlank, IsLineOf}
-use Rattle.dbus_json_laws.proofs.KeptLines.{line_kept}
-use Rattle.cli_encode.specs.Outcomes.{Outcome, Written, Encodes, IsOutcome, AreOutcomes, all_bytes, any_refused, next_serial, order_in, serial_after}
+use Rattle.dbus_json_laws.proofs.KeptLines.{line_kept, one_message_of}
+use Rattle.cli_encode.specs.Outcomes.{Outcome, Written, Passed, Refused, Encodes, IsOutcome, IsRefused, AreOutcomes, all_bytes, any_refused, next_serial, order_in, serial_after}
 use Rattle.cli_encode.specs.declared.encoding.Encoding.{Encoding}
-use Rattle.cli_encode_laws.proofs.Outcomes.{one_outcome}
+use Rattle.cli_encode.specs.declared.reason.LineReason.{LineReason}
+use Rattle.cli_encode.specs.declared.reason.LineReason.TheVariants.{TooLong, Unspelled}
 use Rattle.cli_encode_laws.specs.Inverse.{PlacedMessage, IsItsLine, AreTheirLines, IsEachWritten, IsInverse, all_written, bytes_of}
 
 -- a line that begins with a brace
@@ -34,8 +35,17 @@ module _ (encoding : Encoding) (kept : encoding.order ≡ None) where
   is_written : (serial : ℕ) (m : PlacedMessage) (line : List ℕ) → IsItsLine encoding m line → IsOutcome encoding serial line (Written (bytes_of m))
   is_written serial m line h = (h.short, not_blank m line h, encodes serial m line h)
 
+  never_refused : (serial : ℕ) (m : PlacedMessage) (line : List ℕ) (reason : LineReason) (at : ℕ) → IsItsLine encoding m line → IsRefused encoding serial line reason at → ⊥
+  never_refused serial m line TooLong at h is = let short = h.short in let long = is.0 in omega (arith, short, long)
+  never_refused serial m line (Unspelled why) at h is = is.2 (bytes_of m) (encodes serial m line h)
+
   only_written : (serial : ℕ) (m : PlacedMessage) (line : List ℕ) (o : Outcome) → IsItsLine encoding m line → IsOutcome encoding serial line o → o ≡ Written (bytes_of m)
-  only_written serial m line o h is = one_outcome encoding serial line o (Written (bytes_of m)) is (is_written serial m line h)
+  only_written serial m line (Written bytes) h is =
+      let e = is.2 in
+      let same = one_message_of encoding.limits encoding.limits serial e.order m.order e.message m.message line e.spelled (spelled serial m line h) in
+      ap Written (e.encoded ∙ ap (λ o. message_bytes (order_in o e.order) e.message) kept ∙ ap₂ message_bytes same.0 same.1)
+  only_written serial m line Passed h is = absurd (not_blank m line h is.1)
+  only_written serial m line (Refused why) h is = absurd (never_refused serial m line why.reason why.at h is)
 
   -- ---- all lines
 

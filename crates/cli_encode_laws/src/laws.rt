@@ -26,7 +26,8 @@ pub fn input_back<R, S, W, V, E, F>()
 {}
 
 /// Two runs that encode lines in the same way, neither of which failed, and read the same input end
-/// with the same status, and their writers got the same bytes.
+/// with the same status, and their first writers got the same bytes; so did the second ones if no
+/// line is refused. Of a line that is, they may tell another reason and column.
 pub fn one_encoding<R, S, W, V, E, F>()
     ensures { OneEncoding R S W V E F }
 {}

@@ -321,10 +321,10 @@ pub(crate) const ENCODE_MORE: &str = "Input:
 
 Output:
   The messages, on standard output. A line that spells no message within the
-  limits is refused: `refused at line N: Unspelled` on standard error, counted
-  from 1 over all lines, or `TooLong` if it has more bytes than --max-line says.
-  The messages of the lines before it stay, and with --keep-going those of the
-  lines after it follow.
+  limits is refused: `refused at line N, column C: NAME` on standard error, with
+  the line counted from 1 over all lines, and the column in bytes from 1; the
+  manual page has the names. The messages of the lines before it stay, and with
+  --keep-going those of the lines after it follow.
 
 Exit status:
   0  each line is a message or blank, or help was asked for

@@ -1,1 +1,3 @@
 pub mod JsonLines
+pub mod LineFaults
+pub mod Places

@@ -4,7 +4,11 @@
 //! each other line. [`is_blank`] tells the lines that have only white space.
 #![tactic(auto)]
 
+mod broken;
+mod fault;
 mod line;
+mod places;
 
-pub use dbus_json_reader::Unread;
+pub use dbus_json_reader::JsonReason;
+pub use fault::{LineFault, NoMessage};
 pub use line::{is_blank, message_of_line};

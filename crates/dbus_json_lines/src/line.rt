@@ -1,18 +1,25 @@
 //! The message that a line spells.
 #![tactic(auto)]
 
-ghost use Rattle.std.specs.Prelude.{◌≡◌, ◌↔◌, None, Some, Err, IfOk, IsTrue};
+ghost use Rattle.std.specs.Prelude.{◌≡◌, ◌≤◌, ◌↔◌, Err, IfOk, IsTrue, length, option_map};
+ghost use Rattle.std.specs.Str.{IsUtf8};
+ghost use Rattle.std.specs.Str.Lossy.{utf8_valid_len};
 ghost use Rattle.json.specs.Value.{value_view};
 ghost use Rattle.dbus_value_model.specs.declared.order.Order.{Order as TheOrder};
 ghost use Rattle.dbus_message_model.specs.Messages.{MessageTree};
 ghost use Rattle.dbus_message_model.specs.MessageViews.{message_tree};
 ghost use Rattle.dbus_json_lines.specs.JsonLines.{IsBlank, IsLineOf, json_of};
+ghost use Rattle.dbus_json_lines.specs.LineFaults.{IsPlaceOf, IsPlaced};
+ghost use Rattle.dbus_json_lines.specs.declared.fault.LineFault.{LineFault as TheFault};
 
-use dbus_json_reader::{Unread, read_message};
+use crate::broken::broken_at;
+use crate::fault::{LineFault, NoMessage};
+use crate::places::offset_of;
+use dbus_json_reader::{JsonReason, Unread, read_message};
 use dbus_message_model::Message;
 use dbus_value_model::{Limits, Order};
 use json::{Error, Reader, Scratch, Value};
-use std::alloc::Allocator;
+use std::alloc::{AllocError, Allocator};
 
 /// How deep the arrays and objects of a line may nest.
 const LINE_DEPTH: usize = 130;
@@ -26,28 +33,71 @@ pub fn is_blank(line: &[u8]) -> bool
         .all(|byte| matches!(*byte, b' ' | b'\t' | b'\n' | b'\r'))
 }
 
-// The JSON value that a text is.
+// The JSON value that a text is, if it is one.
 fn json_of<'a, A: Allocator + Copy>(
     alloc: A,
     text: &'a str,
     scratch: &'a mut Scratch<A>,
-) -> Result<Value<'a, A>, Unread>
-    ensures ok { IfOk result (λ json. json_of text.now ≡ Some (value_view json)) }
-    ensures refused { result ≡ Err Unread.Unspelled → json_of text.now ≡ None }
+) -> Result<Option<Value<'a, A>>, AllocError>
+    ensures { IfOk result (λ json. json_of text.now ≡ option_map (λ v. value_view v) json) }
 {
     let mut reader = match Reader::new(text, scratch) {
         Ok(reader) => reader,
-        Err(_) => return Err(Unread::Memory),
+        Err(_) => return Err(AllocError),
     };
     let json = match Value::read(alloc, &mut reader, LINE_DEPTH) {
         Ok(json) => json,
-        Err(Error::OutOfMemory) => return Err(Unread::Memory),
-        Err(_) => return Err(Unread::Unspelled),
+        Err(Error::OutOfMemory) => return Err(AllocError),
+        Err(_) => return Ok(None),
     };
     if reader.next().is_some() {
-        return Err(Unread::Unspelled);
+        return Ok(None);
     }
-    Ok(json)
+    Ok(Some(json))
+}
+
+// Where a line is no UTF-8.
+fn not_utf8(line: &[u8]) -> LineFault
+    requires { IsUtf8 line.now → ⊥ }
+    ensures reason { result.reason ≡ JsonReason.NotUtf8 }
+    ensures place { result.at ≡ utf8_valid_len line.now }
+{
+    let at = match simdutf8::compat::from_utf8(line) {
+        Ok(_) => line.len(),
+        Err(fault) => fault.valid_up_to(),
+    };
+    LineFault {
+        reason: JsonReason::NotUtf8,
+        at,
+    }
+}
+
+// Where a text is no JSON.
+fn not_json<A: Allocator + Copy>(alloc: A, text: &str) -> NoMessage
+    ensures { (fault : TheFault) → result ≡ NoMessage.Refused fault →
+        (fault.reason ≡ JsonReason.NotJson) × (fault.at ≤ length text.now) }
+{
+    let mut scratch = Scratch::new(alloc);
+    match broken_at(alloc, text, LINE_DEPTH, &mut scratch) {
+        Ok(at) => NoMessage::Refused(LineFault {
+            reason: JsonReason::NotJson,
+            at,
+        }),
+        Err(AllocError) => NoMessage::Memory,
+    }
+}
+
+// Why a line's JSON spells no message, and where that is in the line.
+fn in_line(line: &[u8], why: Unread) -> NoMessage
+    ensures { IsPlaced line.now why result }
+{
+    match why {
+        Unread::Memory => NoMessage::Memory,
+        Unread::Unspelled(broken) => NoMessage::Refused(LineFault {
+            reason: broken.reason,
+            at: offset_of(line, broken.at),
+        }),
+    }
 }
 
 /// The message that a line spells, which has no line feed, and the byte order that it names. The
@@ -55,8 +105,13 @@ fn json_of<'a, A: Allocator + Copy>(
 /// as `json` writes it, with its members in any order. A message with no serial has this number as
 /// one. Room for texts with escapes is in the scratch, and is used again.
 ///
-/// `Unspelled` exactly if it spells no message that is valid within the limits; `Memory` if an
-/// allocation failed. D-Bus Specification, "Message Format".
+/// `Refused` exactly if it spells no message that is valid within the limits, with the reason and
+/// its place: `NotUtf8` at the byte where the line is no UTF-8, `NotJson` at the token that no JSON
+/// value has there, and any other at the token that shows it. Of several it is the first of: the
+/// object's form; `order`, `type`, `flags`, `serial`; the known fields in the order of their
+/// members; a name twice; `fields`; `body`; and the rules of whole messages in the order of
+/// `dbus_message::BuildFault`. `Memory` if an allocation failed. D-Bus Specification, "Message
+/// Format".
 ///
 /// ```rust
 /// use dbus_json_lines::message_of_line;
@@ -76,17 +131,23 @@ pub fn message_of_line<A: Allocator + Copy>(
     limits: Limits,
     number: u32,
     scratch: &mut Scratch<A>,
-) -> Result<(Order, Message<A>), Unread>
+) -> Result<(Order, Message<A>), NoMessage>
     ensures ok { IfOk result (λ r. IsLineOf limits number line.now r.0 (message_tree r.1)) }
-    ensures refused { result ≡ Err Unread.Unspelled → (order : TheOrder) (m : MessageTree) →
-        IsLineOf limits number line.now order m → ⊥ }
+    ensures refused { (fault : TheFault) → result ≡ Err (NoMessage.Refused fault) →
+        (order : TheOrder) (m : MessageTree) → IsLineOf limits number line.now order m → ⊥ }
+    ensures place { (fault : TheFault) → result ≡ Err (NoMessage.Refused fault) →
+        IsPlaceOf line.now fault }
 {
     let Ok(text) = simdutf8::basic::from_utf8(line) else {
-        return Err(Unread::Unspelled);
+        return Err(NoMessage::Refused(not_utf8(line)));
     };
     let json = match json_of(alloc, text, scratch) {
-        Ok(json) => json,
-        Err(why) => return Err(why),
+        Ok(Some(json)) => json,
+        Ok(None) => return Err(not_json(alloc, text)),
+        Err(AllocError) => return Err(NoMessage::Memory),
     };
-    read_message(alloc, &json, limits, number)
+    match read_message(alloc, &json, limits, number) {
+        Ok(read) => Ok(read),
+        Err(why) => Err(in_line(line, why)),
+    }
 }

@@ -15,3 +15,4 @@ pub mod KnownNames
 pub mod Merging
 pub mod Messages
 pub mod Placing
+mod TokenCounts

@@ -1,5 +1,5 @@
 -- What a value of each type is, and the JSON that spells it.
-use Rattle.std.proofs.Common.{◌≡◌, ℕ, zero, suc, ◌*◌, ◌^◌, ◌<◌, true, false, List, [], ◌∷◌, length, get_or, Vec, Result, Ok, Err, IsErrAnd, length-append, inl, inr, codes, refl, sym, ap, ◌∙◌, subst, arith, rules}
+use Rattle.std.proofs.Common.{◌≡◌, ℕ, zero, suc, ◌*◌, ◌^◌, ◌<◌, true, false, List, [], ◌∷◌, length, get_or, Vec, Result, Ok, Err, IsErrAnd, IfErr, length-append, inl, inr, codes, refl, sym, ap, ◌∙◌, subst, arith, rules}
 use Rattle.std.proofs.lemmas.Bool.{true≢false}
 use Rattle.std.proofs.lemmas.List.{append-nil}
 use Rattle.std.specs.Borrow.{Bor}
@@ -10,6 +10,8 @@ use Rattle.json.specs.Json.{Json, Items, no_items, item, Members, no_members, me
 use Rattle.json.specs.Tree.{json_tokens, items_tokens, members_tokens}
 use Rattle.json.specs.Value.{value_view, items_view, members_view}
 use Rattle.json.proofs.Trees.{view-Array, view-Object, item_smaller}
+use Rattle.dbus_json_reader.specs.JsonFaults.{IsUnspelled}
+use Rattle.dbus_json_reader.specs.declared.unread.Broken.{Broken}
 use Rattle.dbus_json_reader.specs.declared.unread.Unread.{Unread}
 use Rattle.dbus_json_reader.specs.declared.unread.Unread.TheVariants.{Unspelled}
 use Rattle.json.specs.declared.value.Value.{Value, Number, Array, Object, the_lemmas}
@@ -122,13 +124,26 @@ smaller_typed j i s ms seen pair =
     let less = typed_tokens s i ms pair in
     omega (arith, whole, less)
 
-pub failed : {T U : Type 0} (r : Result T Unread) (x : Unread) → IsErrAnd r (λ y. y ≡ x) → r ≡ Err Unspelled → ◌≡◌ {A = Result U Unread} (Err x) (Err Unspelled)
-failed (Ok v) x h e = absurd h
-failed {T} {U} (Err y) x h e =
-    let same : ◌≡◌ {A = Result T Unread} (Err y) (Err Unspelled) = e in
-    let is : x ≡ Unspelled = cc in
+pub failed : {T U : Type 0} (r : Result T Unread) (x : Unread) → IsErrAnd r (λ y. y ≡ x) → (b : Broken) → r ≡ Err (Unspelled b) → ◌≡◌ {A = Result U Unread} (Err x) (Err (Unspelled b))
+failed (Ok v) x h b e = absurd h
+failed {T} {U} (Err y) x h b e =
+    let same : ◌≡◌ {A = Result T Unread} (Err y) (Err (Unspelled b)) = e in
+    let is : x ≡ Unspelled b = cc in
     let err : Unread → Result U Unread = λ z. Err z in
     ap err is
+
+pub if_err : {T E : Type 0} (P : Type 0) (r : Result T E) → P → IfErr r (λ _. P)
+if_err P (Ok v) h = tt
+if_err P (Err e) h = h
+
+-- an error of a value is one of a value in it
+pub through : {T U P : Type 0} (why inner : Unread) → (IsUnspelled why → IsUnspelled inner) → (b : Broken) → ◌≡◌ {A = Result T Unread} (Err why) (Err (Unspelled b))
+    → ((c : Broken) → ◌≡◌ {A = Result U Unread} (Err inner) (Err (Unspelled c)) → P) → P
+through {T} {U} why inner same b e f =
+    let is : why ≡ Unspelled b = cc in
+    let c = same (b, is) in
+    let err : Unread → Result U Unread = λ z. Err z in
+    f c.0 (ap err c.1)
 
 -- ---- numbers and texts
 

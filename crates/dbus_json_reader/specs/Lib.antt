@@ -1,5 +1,7 @@
+pub mod JsonFaults
 pub mod JsonMembers
 pub mod JsonMessages
 pub mod JsonNumbers
 pub mod JsonParts
+pub mod JsonReasons
 pub mod JsonValues

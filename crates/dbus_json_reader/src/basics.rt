@@ -12,7 +12,9 @@ ghost use Rattle.dbus_value_model.specs.PackedBytes.{keeps_bytes};
 ghost use Rattle.dbus_value_model.specs.Values.{ValueTree};
 ghost use Rattle.dbus_value_model.specs.ValueViews.{value_tree};
 ghost use Rattle.dbus_json_reader.specs.JsonValues.{IsRead};
+ghost use Rattle.dbus_json_reader.specs.declared.unread.Broken.{Broken as TheBroken};
 
+use crate::blame::{no_number, no_text};
 use crate::doubles::double;
 use crate::numbers::{signed_16, signed_32, signed_64, unsigned, unsigned_64};
 use crate::texts::text;
@@ -54,12 +56,12 @@ fn copied<A: Allocator + Copy>(
 ) -> Result<String<A>, Unread>
     ensures ok { IfOk result (λ s. (value_view json.now ≡ string (string_bytes s))
         × IsKind kind (string_bytes s) × (length (string_bytes s) < 2 ^ 32)) }
-    ensures refused { result ≡ Err Unread.Unspelled → (t : List ℕ) → IsKind kind t →
+    ensures refused { (broken : TheBroken) → result ≡ Err (Unread.Unspelled broken) → (t : List ℕ) → IsKind kind t →
         length t < 2 ^ 32 → value_view json.now ≡ string t → ⊥ }
 {
     match text(json, kind) {
         Some(text) => Ok(String::from_str(alloc, text)?),
-        None => Err(Unread::Unspelled),
+        None => Err(Unread::here(no_text(json, kind))),
     }
 }
 
@@ -73,7 +75,7 @@ pub(crate) fn read_basic<A: Allocator + Copy>(
     ensures ok { IfOk result (λ v. (depth : ℕ) →
         IsRead depth (type_tree ty.now) (value_tree v) (value_view json.now)) }
     ensures packed { IfOk result (λ v. IsTrue (keeps_bytes v)) }
-    ensures refused { result ≡ Err Unread.Unspelled → (depth : ℕ) (v : ValueTree) →
+    ensures refused { (broken : TheBroken) → result ≡ Err (Unread.Unspelled broken) → (depth : ℕ) (v : ValueTree) →
         IsRead depth (type_tree ty.now) v (value_view json.now) → ⊥ }
 {
     match ty {
@@ -82,7 +84,7 @@ pub(crate) fn read_basic<A: Allocator + Copy>(
         SigType::Sig => Ok(Value::Sig(copied(alloc, json, TextKind::Signature)?)),
         _ => match number(ty, json) {
             Some(value) => Ok(value),
-            None => Err(Unread::Unspelled),
+            None => Err(Unread::here(no_number(ty, json))),
         },
     }
 }

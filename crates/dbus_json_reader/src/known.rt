@@ -14,13 +14,16 @@ ghost use Rattle.dbus_build.specs.BuildFaults.{type_wanted};
 ghost use Rattle.dbus_show.specs.ShownMessages.{field_name};
 ghost use Rattle.dbus_json_reader.specs.JsonMessages.{field_members};
 ghost use Rattle.dbus_json_reader.specs.JsonParts.{IsKnownField};
+ghost use Rattle.dbus_json_reader.specs.declared.unread.Broken.{Broken as TheBroken};
 
 use crate::basics::read_basic;
 use crate::names::is_plain;
+use crate::reasons::JsonReason;
+use crate::tokens::tokens_in_members;
 use crate::unread::Unread;
 use dbus_message_model::HeaderField;
 use dbus_message_model::field_code::{PATH, UNIX_FDS};
-use dbus_message_model::field_table::{Wanted, want};
+use dbus_message_model::field_table::{Wanted, is_known, want};
 use dbus_show::push_field_name;
 use dbus_types::SigType;
 use json::Value as Json;
@@ -43,6 +46,11 @@ fn name_of(code: u8) -> &'static str
     ensures { result.now ≡ field_name code }
 {
     push_field_name!(Name, code, "", "", "")
+}
+
+/// The name of a field, or an empty one if it is not known.
+pub(crate) fn named(code: u8) -> &'static str {
+    if is_known(code) { name_of(code) } else { "" }
 }
 
 /// The code of the known field of this name.
@@ -73,22 +81,26 @@ fn known_type<A: Allocator>(code: u8) -> SigType<A>
     }
 }
 
-/// The known field that a member of its name spells.
+/// The known field that a member of its name spells, after the members before it.
 fn read_known<A: Allocator + Copy>(
     alloc: A,
     name: &str,
     json: &Json<'_, A>,
+    before: &[(&str, Json<'_, A>)],
 ) -> Result<HeaderField<A>, Unread>
     ensures ok { IfOk result (λ field. (depth : ℕ) →
         IsKnownField depth (field_tree field) (name.now, value_view json.now)) }
     ensures packed { IfOk result (λ field. IsTrue (keeps_bytes field.value)) }
-    ensures refused { result ≡ Err Unread.Unspelled → (depth : ℕ) (field : FieldTree) →
+    ensures refused { (broken : TheBroken) → result ≡ Err (Unread.Unspelled broken) → (depth : ℕ) (field : FieldTree) →
         IsKnownField depth field (name.now, value_view json.now) → ⊥ }
 {
     let Some(code) = field_named(name) else {
-        return Err(Unread::Unspelled);
+        return Err(Unread::here(JsonReason::MemberUnknown).after(tokens_in_members(before)));
     };
-    let value = read_basic(alloc, &known_type(code), json)?;
+    let value = match read_basic(alloc, &known_type(code), json) {
+        Ok(value) => value,
+        Err(why) => return Err(why.after(tokens_in_members(before).saturating_add(1))),
+    };
     Ok(HeaderField { code, value })
 }
 
@@ -104,14 +116,14 @@ pub(crate) fn read_known_fields<A: Allocator + Copy>(
     ensures ok { IfOk result (λ fields. (depth : ℕ) → AllZip (IsKnownField depth)
         (field_trees fields.items) (field_members (members_view members.now))) }
     ensures packed { IfOk result (λ fields. IsTrue (keep_bytes (field_values fields.items))) }
-    ensures refused { result ≡ Err Unread.Unspelled →
+    ensures refused { (broken : TheBroken) → result ≡ Err (Unread.Unspelled broken) →
         (depth : ℕ) (fields : List FieldTree) →
         AllZip (IsKnownField depth) fields (field_members (members_view members.now)) → ⊥ }
 {
     let mut fields = Vec::new(alloc);
-    for member in members {
+    for (i, member) in members.iter().enumerate() {
         if !is_plain(member.0) {
-            fields.push(read_known(alloc, member.0, &member.1)?)?;
+            fields.push(read_known(alloc, member.0, &member.1, &members[..i])?)?;
         }
     }
     Ok(fields)

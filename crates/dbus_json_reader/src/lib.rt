@@ -3,6 +3,7 @@
 #![tactic(auto)]
 
 mod basics;
+mod blame;
 mod doubles;
 mod head;
 mod integers;
@@ -12,7 +13,9 @@ mod message;
 mod names;
 mod numbers;
 mod others;
+mod reasons;
 mod texts;
+mod tokens;
 mod unread;
 mod values;
 
@@ -21,6 +24,7 @@ pub use integers::{signed_in, unsigned_in};
 pub use members::{kind, order};
 pub use message::read_message;
 pub use numbers::{signed_16, signed_32, signed_64, unsigned, unsigned_64};
+pub use reasons::JsonReason;
 pub use texts::text;
-pub use unread::Unread;
+pub use unread::{Broken, Unread};
 pub use values::{read_value, read_values};

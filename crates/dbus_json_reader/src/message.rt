@@ -16,11 +16,15 @@ ghost use Rattle.dbus_message_model.specs.MessageViews.{message_tree};
 ghost use Rattle.dbus_message_model.specs.PartsViews.{field_trees};
 ghost use Rattle.dbus_json_reader.specs.JsonMessages.{IsReadMessage};
 ghost use Rattle.dbus_json_reader.specs.JsonParts.{IsReadBody};
+ghost use Rattle.dbus_json_reader.specs.declared.unread.Broken.{Broken as TheBroken};
 
+use crate::blame::{before_value, no_message};
 use crate::head::read_head;
 use crate::known::read_known_fields;
-use crate::names::are_distinct;
+use crate::names::first_again;
 use crate::others::with_others;
+use crate::reasons::JsonReason;
+use crate::tokens::tokens_in_members;
 use crate::unread::Unread;
 use crate::values::read_values;
 use dbus_build::Build;
@@ -45,7 +49,7 @@ fn read_body<A: Allocator + Copy>(
     ensures ok { IfOk result (λ body. IsReadBody depth (signature_of (field_trees fields.now))
         (get (codes "body") (value_view json.now)) (value_trees_of body.items)) }
     ensures packed { IfOk result (λ body. IsTrue (keep_bytes body.items)) }
-    ensures refused { result ≡ Err Unread.Unspelled →
+    ensures refused { (broken : TheBroken) → result ≡ Err (Unread.Unspelled broken) →
         IsKind Signature (signature_of (field_trees fields.now)) → (xs : ValueTrees) →
         IsReadBody depth (signature_of (field_trees fields.now))
         (get (codes "body") (value_view json.now)) xs → ⊥ }
@@ -53,16 +57,17 @@ fn read_body<A: Allocator + Copy>(
     let types = match parse_signature(alloc, body_signature(fields)) {
         Ok(types) => types,
         Err(SigFault::Memory) => return Err(Unread::Memory),
-        Err(_) => return Err(Unread::Unspelled),
+        Err(_) => return Err(Unread::here(JsonReason::Signature)),
     };
-    match json.get("body") {
-        Some(json) => read_values(alloc, &types, json, depth),
-        None => {
-            if !types.is_empty() {
-                return Err(Unread::Unspelled);
-            }
-            Ok(Vec::new(alloc))
+    let Some(told) = json.get("body") else {
+        if !types.is_empty() {
+            return Err(Unread::here(JsonReason::BodyMissing));
         }
+        return Ok(Vec::new(alloc));
+    };
+    match read_values(alloc, &types, told, depth) {
+        Ok(body) => Ok(body),
+        Err(why) => Err(why.after(before_value(json, "body"))),
     }
 }
 
@@ -87,22 +92,27 @@ pub fn read_message<A: Allocator + Copy>(
 ) -> Result<(Order, Message<A>), Unread>
     ensures ok { IfOk result (λ r.
         IsReadMessage limits number r.0 (message_tree r.1) (value_view json.now)) }
-    ensures refused { result ≡ Err Unread.Unspelled → (order : TheOrder) (m : MessageTree) →
+    ensures refused { (broken : TheBroken) → result ≡ Err (Unread.Unspelled broken) → (order : TheOrder) (m : MessageTree) →
         IsReadMessage limits number order m (value_view json.now) → ⊥ }
 {
     let Json::Object(members) = json else {
-        return Err(Unread::Unspelled);
+        return Err(Unread::here(JsonReason::Form));
     };
-    let Some(head) = read_head(json, number) else {
-        return Err(Unread::Unspelled);
+    let head = match read_head(json, number) {
+        Ok(head) => head,
+        Err(why) => return Err(why),
     };
     let members = members.as_slice();
     let known = read_known_fields(alloc, members)?;
-    if !are_distinct(members) {
-        return Err(Unread::Unspelled);
+    if let Some(i) = first_again(members) {
+        let why = Unread::here(JsonReason::MemberTwice);
+        return Err(why.after(tokens_in_members(&members[..i])));
     }
     let depth = limits.depth.saturating_sub(AROUND_FIELD);
-    let fields = with_others(alloc, known, json, depth)?;
+    let fields = match with_others(alloc, known, json, depth) {
+        Ok(fields) => fields,
+        Err(why) => return Err(why.after(before_value(json, "fields"))),
+    };
     let body = read_body(alloc, &fields, json, limits.depth)?;
     let parts = Parts {
         kind: head.kind,
@@ -113,6 +123,6 @@ pub fn read_message<A: Allocator + Copy>(
     };
     match Message::new_within(alloc, parts, limits) {
         Ok(message) => Ok((head.order, message)),
-        Err(_) => Err(Unread::Unspelled),
+        Err(refused) => Err(no_message(json, head.serial, refused.1)),
     }
 }

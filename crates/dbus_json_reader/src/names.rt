@@ -1,7 +1,7 @@
 //! Names of an object's members. RFC 8259, section 4.
 #![tactic(auto)]
 
-ghost use Rattle.std.specs.Prelude.{◌≡◌, ◌↔◌, IsTrue};
+ghost use Rattle.std.specs.Prelude.{◌≡◌, ◌<◌, ◌↔◌, None, IfSome, IsTrue, length};
 ghost use Rattle.std.specs.List.{list_all};
 ghost use Rattle.json.specs.Strict.{AreDistinct, keys};
 ghost use Rattle.json.specs.Value.{members_view};
@@ -34,7 +34,7 @@ fn is_other(name: &str) -> bool
 }
 
 /// Whether one of the members has this name.
-fn has_name<A: Allocator>(members: &[(&str, Value<'_, A>)], name: &str) -> bool
+pub(crate) fn has_name<A: Allocator>(members: &[(&str, Value<'_, A>)], name: &str) -> bool
     ensures { result ≡ is_among (keys (members_view members.now)) name.now }
 {
     for member in members {
@@ -45,17 +45,29 @@ fn has_name<A: Allocator>(members: &[(&str, Value<'_, A>)], name: &str) -> bool
     false
 }
 
-/// Whether no two members have one name. It stops at the first that is there again, so it takes few
-/// steps if only some names may be there.
-pub(crate) fn are_distinct<A: Allocator>(members: &[(&str, Value<'_, A>)]) -> bool
-    ensures { IsTrue result ↔ AreDistinct (keys (members_view members.now)) }
+/// The number of the first member that has the name of one before it. Few steps are taken if only
+/// some names may be there.
+pub(crate) fn first_again<A: Allocator>(members: &[(&str, Value<'_, A>)]) -> Option<usize>
+    ensures none { result ≡ None → AreDistinct (keys (members_view members.now)) }
+    ensures some { IfSome result (λ i. (i < length members.now) ×
+        (AreDistinct (keys (members_view members.now)) → ⊥)) }
 {
     for (i, member) in members.iter().enumerate() {
         if has_name(&members[..i], member.0) {
-            return false;
+            return Some(i);
         }
     }
-    true
+    None
+}
+
+/// Whether no two members have one name.
+pub(crate) fn are_distinct<A: Allocator>(members: &[(&str, Value<'_, A>)]) -> bool
+    ensures { IsTrue result ↔ AreDistinct (keys (members_view members.now)) }
+{
+    match first_again(members) {
+        None => true,
+        Some(_) => false,
+    }
 }
 
 /// Whether all members may be those of the object of a field that is not known.

@@ -2,7 +2,7 @@
 //! Specification, "Header Fields".
 #![tactic(auto)]
 
-ghost use Rattle.std.specs.Prelude.{◌≡◌, ◌<◌, ◌↔◌, ℕ, List, None, Some, Err, false, IsTrue, IfSome, IfOk, codes, decimal};
+ghost use Rattle.std.specs.Prelude.{◌≡◌, ◌<◌, ◌↔◌, ℕ, List, None, Some, Err, false, IsTrue, IfSome, IfOk, IfErr, codes, decimal};
 ghost use Rattle.json.specs.Find.{get};
 ghost use Rattle.json.specs.Json.{Json as JsonTree, number, string};
 ghost use Rattle.json.specs.Value.{value_view};
@@ -11,16 +11,23 @@ ghost use Rattle.dbus_message_model.specs.Messages.{FieldTree, is_known as is_kn
 ghost use Rattle.dbus_message_model.specs.PackedParts.{field_values};
 ghost use Rattle.dbus_message_model.specs.PartsViews.{field_tree, field_trees};
 ghost use Rattle.dbus_json_reader.specs.JsonParts.{AreAllKnown, AreReadFields, IsNamedOther, IsOtherField, IsOtherObject};
+ghost use Rattle.dbus_json_reader.specs.declared.unread.Broken.{Broken as TheBroken};
 
+use crate::blame::{at_value, before_value, no_unsigned, not_typed};
 use crate::head::unsigned_or;
 use crate::names::{are_distinct, are_other};
 use crate::numbers::unsigned;
+use crate::reasons::JsonReason;
+use crate::tokens::tokens_in_items;
 use crate::unread::Unread;
 use crate::values::{read_value, single_type};
 use dbus_message_model::HeaderField;
 use dbus_message_model::field_table::is_known;
 use json::Value as Json;
 use std::alloc::Allocator;
+
+/// The names of the members of an object in `fields`.
+const OTHER_NAMES: [&str; 4] = ["code", "type", "value", "place"];
 
 /// The members of the object of a field that is not known.
 struct Other<'v, 'a, A: Allocator> {
@@ -46,20 +53,24 @@ fn is_other<A: Allocator>(json: &Json<'_, A>) -> bool
 }
 
 /// The code of a field that is not known, as the member `code`.
-fn other_code<A: Allocator>(json: &Json<'_, A>) -> Option<u8>
-    ensures some { IfSome result (λ code.
+fn other_code<A: Allocator>(json: &Json<'_, A>) -> Result<u8, Unread>
+    ensures ok { IfOk result (λ code.
         (get (codes "code") (value_view json.now) ≡ Some (number (decimal code)))
         × (is_known_code code ≡ false)) }
-    ensures none { result ≡ None → (code : ℕ) → code < 256 → is_known_code code ≡ false →
-        get (codes "code") (value_view json.now) ≡ Some (number (decimal code)) → ⊥ }
+    ensures refused { IfErr result (λ _. (code : ℕ) → code < 256 → is_known_code code ≡ false →
+        get (codes "code") (value_view json.now) ≡ Some (number (decimal code)) → ⊥) }
 {
-    match json.get("code") {
-        Some(value) => {
-            let code = unsigned(value, u64::from(u8::MAX))? as u8;
-            if is_known(code) { None } else { Some(code) }
-        }
-        None => None,
+    let Some(value) = json.get("code") else {
+        return Err(Unread::here(JsonReason::CodeMissing));
+    };
+    let Some(code) = unsigned(value, u64::from(u8::MAX)) else {
+        return Err(at_value(json, "code", no_unsigned(value)));
+    };
+    let code = code as u8;
+    if is_known(code) {
+        return Err(at_value(json, "code", JsonReason::FieldKnown));
     }
+    Ok(code)
 }
 
 /// The text of the member `type`.
@@ -77,21 +88,29 @@ fn types_told<'v, 'a, A: Allocator>(json: &'v Json<'a, A>) -> Option<&'v str>
 
 /// The members of the object of a field that is not known. Its place is `end` if none is told, and
 /// it is not past that.
-fn other_in<'v, 'a, A: Allocator>(json: &'v Json<'a, A>, end: usize) -> Option<Other<'v, 'a, A>>
-    ensures some { IfSome result (λ o. IsOtherObject end o.place o.code o.types.now
+fn other_in<'v, 'a, A: Allocator>(
+    json: &'v Json<'a, A>,
+    end: usize,
+) -> Result<Other<'v, 'a, A>, Unread>
+    ensures ok { IfOk result (λ o. IsOtherObject end o.place o.code o.types.now
         (value_view o.value.now) (value_view json.now)) }
-    ensures none { result ≡ None → (place code : ℕ) (text : List ℕ) (value : JsonTree) →
+    ensures refused { IfErr result (λ _. (place code : ℕ) (text : List ℕ) (value : JsonTree) →
         code < 256 →
-        IsOtherObject end place code text value (value_view json.now) → ⊥ }
+        IsOtherObject end place code text value (value_view json.now) → ⊥) }
 {
     if !is_other(json) {
-        return None;
+        return Err(not_typed(json, &OTHER_NAMES));
     }
     let code = other_code(json)?;
-    let types = types_told(json)?;
-    let value = json.get("value")?;
-    let place = unsigned_or(json, "place", end as u64, end as u64)? as usize;
-    Some(Other {
+    let Some(types) = types_told(json) else {
+        return Err(not_typed(json, &OTHER_NAMES));
+    };
+    let Some(value) = json.get("value") else {
+        return Err(Unread::here(JsonReason::ValueMissing));
+    };
+    let past = JsonReason::FieldPlace;
+    let place = unsigned_or(json, "place", end as u64, end as u64, past)? as usize;
+    Ok(Other {
         place,
         code,
         types,
@@ -109,22 +128,27 @@ fn read_other<A: Allocator + Copy>(
     ensures ok { IfOk result (λ r.
         IsOtherField depth end r.0 (field_tree r.1) (value_view json.now)) }
     ensures packed { IfOk result (λ r. IsTrue (keeps_bytes r.1.value)) }
-    ensures refused { result ≡ Err Unread.Unspelled → (place : ℕ) (field : FieldTree) →
+    ensures refused { (broken : TheBroken) → result ≡ Err (Unread.Unspelled broken) → (place : ℕ) (field : FieldTree) →
         IsOtherField depth end place field (value_view json.now) → ⊥ }
 {
-    let Some(
-        Other {
-            place,
-            code,
-            types,
-            value,
-        },
-    ) = other_in(json, end)
-    else {
-        return Err(Unread::Unspelled);
+    let other = match other_in(json, end) {
+        Ok(other) => other,
+        Err(why) => return Err(why),
     };
-    let ty = single_type(alloc, types)?;
-    let value = read_value(alloc, &ty, value, depth)?;
+    let Other {
+        place,
+        code,
+        types,
+        value,
+    } = other;
+    let ty = match single_type(alloc, types) {
+        Ok(ty) => ty,
+        Err(why) => return Err(why.after(before_value(json, "type"))),
+    };
+    let value = match read_value(alloc, &ty, value, depth) {
+        Ok(value) => value,
+        Err(why) => return Err(why.after(before_value(json, "value"))),
+    };
     Ok((place, HeaderField { code, value }))
 }
 
@@ -133,7 +157,8 @@ fn read_other<A: Allocator + Copy>(
 /// than `depth` are open at once.
 ///
 /// `Unspelled` exactly if there are no such fields; `Memory` if an allocation failed. RFC 8259,
-/// section 4; D-Bus Specification, "Header Fields".
+/// section 4; D-Bus Specification, "Header Fields". The tokens of an error count from the first of
+/// `fields`.
 pub(crate) fn with_others<A: Allocator + Copy>(
     alloc: A,
     known: Vec<HeaderField<A>, A>,
@@ -148,7 +173,7 @@ pub(crate) fn with_others<A: Allocator + Copy>(
         (field_trees known.items) (get (codes "fields") (value_view json.now)) fs →
         fs ≡ field_trees fields.items) }
     ensures packed { IfOk result (λ fields. IsTrue (keep_bytes (field_values fields.items))) }
-    ensures refused { result ≡ Err Unread.Unspelled → (fs : List FieldTree) → AreReadFields depth
+    ensures refused { (broken : TheBroken) → result ≡ Err (Unread.Unspelled broken) → (fs : List FieldTree) → AreReadFields depth
         (field_trees known.items) (get (codes "fields") (value_view json.now)) fs → ⊥ }
 {
     let mut fields = known;
@@ -156,13 +181,18 @@ pub(crate) fn with_others<A: Allocator + Copy>(
         return Ok(fields);
     };
     let Json::Array(items) = json else {
-        return Err(Unread::Unspelled);
+        return Err(Unread::here(JsonReason::Form));
     };
+    let items = items.as_slice();
     let mut next = 0;
-    for item in items {
-        let (place, field) = read_other(alloc, item, fields.len(), depth)?;
+    for (i, item) in items.iter().enumerate() {
+        let (place, field) = match read_other(alloc, item, fields.len(), depth) {
+            Ok(read) => read,
+            Err(why) => return Err(why.after(tokens_in_items(&items[..i]))),
+        };
         if place < next {
-            return Err(Unread::Unspelled);
+            let why = at_value(item, "place", JsonReason::FieldPlace);
+            return Err(why.after(tokens_in_items(&items[..i])));
         }
         // Only known fields are behind the place, each at most once, so this moves few.
         fields.insert(place, field)?;

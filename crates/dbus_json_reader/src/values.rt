@@ -11,8 +11,12 @@ ghost use Rattle.dbus_value_model.specs.PackedBytes.{keeps_bytes, keep_bytes};
 ghost use Rattle.dbus_value_model.specs.Values.{ValueTree, ValueTrees};
 ghost use Rattle.dbus_value_model.specs.ValueViews.{value_tree, value_trees_of};
 ghost use Rattle.dbus_json_reader.specs.JsonValues.{IsRead, AreRead, IsTyped};
+ghost use Rattle.dbus_json_reader.specs.declared.unread.Broken.{Broken as TheBroken};
 
 use crate::basics::read_basic;
+use crate::blame::{before_value, not_counted, not_typed};
+use crate::reasons::JsonReason;
+use crate::tokens::{tokens_in, tokens_in_items};
 use crate::unread::Unread;
 use dbus_types::{SigFault, SigType, is_byte, parse_single};
 use dbus_value_model::{DictEntry, Value};
@@ -23,16 +27,16 @@ use std::alloc::Allocator;
 fn read_bytes<A: Allocator + Copy>(alloc: A, json: &Json<'_, A>) -> Result<Vec<u8, A>, Unread>
     ensures ok { IfOk result (λ bytes. (text : List ℕ) × (value_view json.now ≡ string text)
         × (decode_of text ≡ Ok bytes.items)) }
-    ensures refused { result ≡ Err Unread.Unspelled → (text bytes : List ℕ) →
+    ensures refused { (broken : TheBroken) → result ≡ Err (Unread.Unspelled broken) → (text bytes : List ℕ) →
         value_view json.now ≡ string text → decode_of text ≡ Ok bytes → ⊥ }
 {
     let Json::String(text) = json else {
-        return Err(Unread::Unspelled);
+        return Err(Unread::here(JsonReason::Form));
     };
     match hex::decode(alloc, text.as_bytes()) {
         Ok(bytes) => Ok(bytes),
         Err(hex::FromHexError::OutOfMemory) => Err(Unread::Memory),
-        Err(_) => Err(Unread::Unspelled),
+        Err(_) => Err(Unread::here(JsonReason::Digits)),
     }
 }
 
@@ -95,13 +99,13 @@ fn pair_of<'v, 'a, A: Allocator>(
 /// The type that a signature of exactly one complete type spells.
 pub(crate) fn single_type<A: Allocator + Copy>(alloc: A, text: &str) -> Result<SigType<A>, Unread>
     ensures ok { IfOk result (λ ty. IsSingleType (type_tree ty) × (sig (type_tree ty) ≡ text.now)) }
-    ensures refused { result ≡ Err Unread.Unspelled → (t : TypeTree) → IsSingleType t →
+    ensures refused { (broken : TheBroken) → result ≡ Err (Unread.Unspelled broken) → (t : TypeTree) → IsSingleType t →
         sig t ≡ text.now → ⊥ }
 {
     match parse_single(alloc, text.as_bytes()) {
         Ok(ty) => Ok(ty),
         Err(SigFault::Memory) => Err(Unread::Memory),
-        Err(_) => Err(Unread::Unspelled),
+        Err(_) => Err(Unread::here(JsonReason::Signature)),
     }
 }
 
@@ -115,20 +119,27 @@ fn read_variant<A: Allocator + Copy>(
     ensures ok { IfOk result (λ v.
         IsRead depth VariantType (value_tree v) (value_view json.now)) }
     ensures packed { IfOk result (λ v. IsTrue (keeps_bytes v)) }
-    ensures refused { result ≡ Err Unread.Unspelled → (v : ValueTree) →
+    ensures refused { (broken : TheBroken) → result ≡ Err (Unread.Unspelled broken) → (v : ValueTree) →
         IsRead depth VariantType v (value_view json.now) → ⊥ }
 {
     let Json::Object(members) = json else {
-        return Err(Unread::Unspelled);
+        return Err(Unread::here(JsonReason::Form));
     };
+    let members = members.as_slice();
     let Some((text, value)) = typed_members(members) else {
-        return Err(Unread::Unspelled);
+        return Err(not_typed(json, &["type", "value"]));
     };
     if depth == 0 {
-        return Err(Unread::Unspelled);
+        return Err(Unread::here(JsonReason::TooDeep));
     }
-    let ty = single_type(alloc, text)?;
-    let value = read_value(alloc, &ty, value, depth - 1)?;
+    let ty = match single_type(alloc, text) {
+        Ok(ty) => ty,
+        Err(why) => return Err(why.after(before_value(json, "type"))),
+    };
+    let value = match read_value(alloc, &ty, value, depth - 1) {
+        Ok(value) => value,
+        Err(why) => return Err(why.after(before_value(json, "value"))),
+    };
     Ok(Value::Variant(Box::new(alloc, value)?))
 }
 
@@ -143,21 +154,25 @@ fn read_array<A: Allocator + Copy>(
     ensures ok { IfOk result (λ v.
         IsRead depth (ArrayType (type_tree element.now)) (value_tree v) (value_view json.now)) }
     ensures packed { IfOk result (λ v. IsTrue (keeps_bytes v)) }
-    ensures refused { result ≡ Err Unread.Unspelled → (v : ValueTree) →
+    ensures refused { (broken : TheBroken) → result ≡ Err (Unread.Unspelled broken) → (v : ValueTree) →
         IsRead depth (ArrayType (type_tree element.now)) v (value_view json.now) → ⊥ }
 {
     if depth == 0 {
-        return Err(Unread::Unspelled);
+        return Err(Unread::here(JsonReason::TooDeep));
     }
     if is_byte(element) {
         return Ok(Value::Bytes(read_bytes(alloc, json)?));
     }
     let Json::Array(items) = json else {
-        return Err(Unread::Unspelled);
+        return Err(Unread::here(JsonReason::Form));
     };
+    let items = items.as_slice();
     let mut values = Vec::with_capacity(alloc, items.len())?;
-    for item in items {
-        values.push(read_value(alloc, element, item, depth - 1)?)?;
+    for (i, item) in items.iter().enumerate() {
+        match read_value(alloc, element, item, depth - 1) {
+            Ok(value) => values.push(value)?,
+            Err(why) => return Err(why.after(tokens_in_items(&items[..i]))),
+        }
     }
     Ok(Value::Array(element.clone()?, values))
 }
@@ -174,14 +189,20 @@ fn read_entry<A: Allocator + Copy>(
     ensures ok { IfOk result (λ v. IsRead depth (EntryType (type_tree key.now)
         (type_tree value.now)) (value_tree v) (value_view json.now)) }
     ensures packed { IfOk result (λ v. IsTrue (keeps_bytes v)) }
-    ensures refused { result ≡ Err Unread.Unspelled → (v : ValueTree) → IsRead depth
+    ensures refused { (broken : TheBroken) → result ≡ Err (Unread.Unspelled broken) → (v : ValueTree) → IsRead depth
         (EntryType (type_tree key.now) (type_tree value.now)) v (value_view json.now) → ⊥ }
 {
     let Some((first, second)) = pair_of(json) else {
-        return Err(Unread::Unspelled);
+        return Err(not_counted(json));
     };
-    let key = read_value(alloc, key, first, depth)?;
-    let value = read_value(alloc, value, second, depth)?;
+    let key = match read_value(alloc, key, first, depth) {
+        Ok(key) => key,
+        Err(why) => return Err(why.after(1)),
+    };
+    let value = match read_value(alloc, value, second, depth) {
+        Ok(value) => value,
+        Err(why) => return Err(why.after(tokens_in(first).saturating_add(1))),
+    };
     Ok(Value::Entry(Box::new(alloc, DictEntry { key, value })?))
 }
 
@@ -200,19 +221,22 @@ pub fn read_values<A: Allocator + Copy>(
     ensures ok { IfOk result (λ vs. (js : Items) × (value_view json.now ≡ array js)
         × AreRead depth (type_trees_of types.now) (value_trees_of vs.items) js) }
     ensures packed { IfOk result (λ vs. IsTrue (keep_bytes vs.items)) }
-    ensures refused { result ≡ Err Unread.Unspelled → (js : Items) (xs : ValueTrees) →
+    ensures refused { (broken : TheBroken) → result ≡ Err (Unread.Unspelled broken) → (js : Items) (xs : ValueTrees) →
         value_view json.now ≡ array js → AreRead depth (type_trees_of types.now) xs js → ⊥ }
 {
     let Json::Array(items) = json else {
-        return Err(Unread::Unspelled);
+        return Err(Unread::here(JsonReason::Form));
     };
     let items = items.as_slice();
     if items.len() != types.len() {
-        return Err(Unread::Unspelled);
+        return Err(Unread::here(JsonReason::Count));
     }
     let mut values = Vec::with_capacity(alloc, items.len())?;
     for (i, item) in items.iter().enumerate() {
-        values.push(read_value(alloc, &types[i], item, depth)?)?;
+        match read_value(alloc, &types[i], item, depth) {
+            Ok(value) => values.push(value)?,
+            Err(why) => return Err(why.after(tokens_in_items(&items[..i]))),
+        }
     }
     Ok(values)
 }
@@ -236,7 +260,7 @@ pub fn read_value<A: Allocator + Copy>(
     ensures ok { IfOk result (λ v.
         IsRead depth (type_tree ty.now) (value_tree v) (value_view json.now)) }
     ensures packed { IfOk result (λ v. IsTrue (keeps_bytes v)) }
-    ensures refused { result ≡ Err Unread.Unspelled → (v : ValueTree) →
+    ensures refused { (broken : TheBroken) → result ≡ Err (Unread.Unspelled broken) → (v : ValueTree) →
         IsRead depth (type_tree ty.now) v (value_view json.now) → ⊥ }
 {
     match ty {
@@ -244,7 +268,7 @@ pub fn read_value<A: Allocator + Copy>(
         SigType::Array(element) => read_array(alloc, element, json, depth),
         SigType::Struct(fields) => {
             if depth == 0 {
-                return Err(Unread::Unspelled);
+                return Err(Unread::here(JsonReason::TooDeep));
             }
             Ok(Value::Struct(read_values(alloc, fields, json, depth - 1)?))
         }

@@ -116,7 +116,7 @@ one_way_too end (Count s) (Count t) h one = subst (λ (x : Settings). TellsOneWa
 one_way_too end (Calls s f) (Calls t g) h one = subst (λ (x : Settings). TellsOneWay x end) h.0 one
 one_way_too end (Handshake a) (Handshake b) h one = tt
 one_way_too end (Listing s a) b h one = absurd one
-one_way_too end (Encode a) (Encode b) h one = tt
+one_way_too end (Encode a) (Encode b) h one = one
 one_way_too end (Encode a) (Messages d t) h one = absurd h
 one_way_too end (Encode a) (Count t) h one = absurd h
 one_way_too end (Encode a) (Listing t b) h one = absurd h
@@ -354,8 +354,9 @@ module _ {R S W V E F : Type 0} (one_table : OneTable) (left : R → Option (Lis
       listed_alike side does (subst (λ (x : Side). Does other_left other_calls other_failures other_packets other_packet s0 s1 v f (Ok (Handshake x)) other) (sym same) doing)
   alike (Listing t a) b same one told does doing = absurd one
   alike (Encode a) (Encode b) same one told does doing =
-      one_encoding (ReadAhead R) (ReadAhead S) W V E F (ahead left calls failures packets packet r0 r1) (ahead other_left other_calls other_failures other_packets other_packet s0 s1) w v e f (encoding_wanted a) _ _ end other input done other_done does
-      (subst (λ (x : WantedEncoding). Does other_left other_calls other_failures other_packets other_packet s0 s1 v f (Ok (Encode x)) other) (sym same) doing)
+      let both = one_encoding (ReadAhead R) (ReadAhead S) W V E F (ahead left calls failures packets packet r0 r1) (ahead other_left other_calls other_failures other_packets other_packet s0 s1) w v e f (encoding_wanted a) _ _ end other input done other_done does
+      (subst (λ (x : WantedEncoding). Does other_left other_calls other_failures other_packets other_packet s0 s1 v f (Ok (Encode x)) other) (sym same) doing) in
+      record { status_is = both.status_is; first = both.first; second = both.second one }
   alike (Encode a) (Messages d u) same one told does doing = absurd same
   alike (Encode a) (Count u) same one told does doing = absurd same
   alike (Encode a) (Listing u b) same one told does doing = absurd same

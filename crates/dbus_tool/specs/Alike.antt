@@ -26,13 +26,13 @@ abbrev pub TellsOneWay : Settings → (end : ExitStatus) → Type 0
 TellsOneWay settings end = (settings.explains ≡ false) × ((settings.as_json ≡ false) ⊎ (end ≡ status.Done))
 
 -- what is asked for is done in one way: it is neither `json` nor `list`, and no `show` with times,
--- and so is what is told
+-- and so is what is told: `encode` refuses no line
 abbrev pub IsOneWay : (end : ExitStatus) → Asked → Type 0
 IsOneWay end (Messages command settings) = IsExact command × TellsOneWay settings end
 IsOneWay end (Count settings) = TellsOneWay settings end
 IsOneWay end (Listing settings wanted) = ⊥
 IsOneWay end (Calls settings wanted) = TellsOneWay settings end
-IsOneWay end (Encode wanted) = Unit {0}
+IsOneWay end (Encode wanted) = end ≡ status.Done
 IsOneWay end (Handshake side) = Unit {0}
 
 -- words in which clap finds no fault name this

@@ -10,7 +10,7 @@ mod listing;
 mod rule_lines;
 mod words;
 
-pub use cli_encode::{Encoding, LineReason, encode_lines};
+pub use cli_encode::{Encoding, LineReason, Refusal, encode_lines};
 pub use cli_options::{
     Asked, Command, RefusedRule, Selection, Settings, Side, UsageFault, WantedCalls,
     WantedEncoding, WantedLines, Window, command_of,

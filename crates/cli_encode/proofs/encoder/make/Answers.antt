@@ -3,7 +3,8 @@ use Rattle.dbus_value_model.specs.declared.order.Order.{Order}
 use Rattle.dbus_message_model.specs.Messages.{message_bytes}
 use Rattle.dbus_message_model.specs.MessageViews.{message_tree}
 use Rattle.dbus_json_lines.specs.JsonLines.{IsLineOf}
-use Rattle.cli_encode.proofs.TakeSteps.{not_blank, within}
+use Rattle.dbus_json_lines.specs.LineFaults.{IsPlaceOf}
+use Rattle.cli_encode.proofs.TakeSteps.{not_blank, place_of, within}
 use Rattle.cli_encode.proofs.encoder.make.Goals as goal
 
 pub returns-in_ok-encode_into-in-Ok : goal.returns-in_ok-encode_into-in-Ok
@@ -20,12 +21,13 @@ returns-in_ok-encode_into-in-Ok g c = λ bytes fits.
       },
     )
 
-pub returns-in-Err-Unspelled : goal.returns-in-Err-Unspelled
-returns-in-Err-Unspelled g c = λ bytes fits.
+pub returns-in-Err-Refused : goal.returns-in-Err-Refused
+returns-in-Err-Refused g c = λ bytes fits.
     let line = within c.args.encoding.most bytes c.args.line c.in-Some.line c.in-Some.is fits in (
       line.1,
       not_blank c.is_blank.result c.in-Some.line.now bytes line.0 c.if-is_blank.false c.is_blank.ensures,
       λ made e.
-          c.in-Err-Unspelled.ensures.refused (ap Err c.in-Err-Unspelled.field-0-is) e.order e.message
+          c.in-Err-Refused.ensures.refused c.in-Err-Refused.fault (ap Err c.in-Err-Refused.field-0-is) e.order e.message
           (subst (λ (l : List ℕ). IsLineOf c.args.encoding.limits c.args.serial l e.order e.message) (sym line.0) e.spelled),
+      rw (c.in-Err-Refused.field-0-is) (place_of bytes c.in-Err-Refused.fault (subst (λ (l : List ℕ). IsPlaceOf l c.in-Err-Refused.fault) line.0 (c.in-Err-Refused.ensures.place c.in-Err-Refused.fault (ap Err c.in-Err-Refused.field-0-is)))),
     )

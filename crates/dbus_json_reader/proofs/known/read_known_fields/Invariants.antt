@@ -6,5 +6,5 @@ use Rattle.dbus_message_model.specs.PartsViews.{field_trees}
 use Rattle.dbus_json_reader.proofs.KnownFields.{AreGoing}
 use Rattle.dbus_json_reader.proofs.known.read_known_fields.Given as goal
 
-abbrev pub invariant-loop-member : goal.invariant-loop-member
-invariant-loop-member g l = AreGoing (members_view l.members) (members_view (drop l.member-index l.members)) (field_trees l.fields.items) × IsTrue (keep_bytes (field_values l.fields.items))
+abbrev pub invariant-loop-i : goal.invariant-loop-i
+invariant-loop-i g l = AreGoing (members_view l.members) (members_view (drop l.i l.members)) (field_trees l.fields.items) × IsTrue (keep_bytes (field_values l.fields.items))

@@ -1,5 +1,4 @@
 use Rattle.std.proofs.Common.{◌≡◌, ℕ, ◌-◌, ◌^◌, ◌<◌, List, sym, ap, ◌∙◌, subst, arith}
-use Rattle.std.proofs.lemmas.Bool.{true≢false}
 use Rattle.json.specs.Find.{get}
 use Rattle.json.specs.Value.{value_view, members_view}
 use Rattle.std.specs.Prelude.{codes, map}
@@ -14,107 +13,107 @@ use Rattle.dbus_json_reader.specs.JsonParts.{AreReadFields, IsReadBody}
 use Rattle.dbus_json_reader.proofs.KnownFields.{all_known}
 use Rattle.dbus_json_reader.proofs.Messages.{head_of, distinct_of, known_of, fields_of, fit_of, body_of, signature_kind, made, never_refused}
 use Rattle.dbus_json_reader.proofs.Placing.{field_of}
-use Rattle.dbus_json_reader.proofs.Shapes.{object_seen, failed}
+use Rattle.dbus_json_reader.proofs.Shapes.{object_seen, failed, through}
 use Rattle.dbus_json_reader.proofs.message.read_message.Goals as goal
 
-pub returns-in_default-read_head-clause-refused : goal.returns-in_default-read_head-clause-refused
-returns-in_default-read_head-clause-refused g c = λ e order m h.
+pub returns-in-Err-clause-refused : goal.returns-in-Err-clause-refused
+returns-in-Err-clause-refused g c = λ b e order m h.
     let v = h.valid order in
-    c.read_head.ensures.none c.in_default-read_head.is order m.kind m.flags m.serial v.kind_fits v.flags v.serial_fits (head_of c.args.limits c.args.number order m _ h)
+    c.in-Err.ensures.refused order m.kind m.flags m.serial v.kind_fits v.flags v.serial_fits (head_of c.args.limits c.args.number order m _ h)
 
 pub returns-in_err-known-clause-refused : goal.returns-in_err-known-clause-refused
-returns-in_err-known-clause-refused g c = λ e order m h.
+returns-in_err-known-clause-refused g c = λ b e order m h.
     let l = c.as_slice-members.result.now in
     let seen = object_seen c.args.json.now c.in-Object.members l c.in-Object.is c.as_slice-members.ensures.value in
-    c.in_err-known.ensures.refused (failed c.from_residual.result c.in_err-known.field-0.0 c.from_residual.ensures.1 e) (c.args.limits.depth - 3) (map field_of (known_fields m.fields))
+    c.in_err-known.ensures.refused b (failed c.from_residual.result c.in_err-known.field-0.0 c.from_residual.ensures.1 b e) (c.args.limits.depth - 3) (map field_of (known_fields m.fields))
     (known_of c.args.limits c.args.number order m _ h (members_view l) seen)
 
-pub returns-then-not-are_distinct-clause-refused : goal.returns-then-not-are_distinct-clause-refused
-returns-then-not-are_distinct-clause-refused g c = λ e order m h.
+pub returns-in-Some-clause-refused : goal.returns-in-Some-clause-refused
+returns-in-Some-clause-refused g c = λ b e order m h.
     let l = c.as_slice-members.result.now in
     let seen = object_seen c.args.json.now c.in-Object.members l c.in-Object.is c.as_slice-members.ensures.value in
-    true≢false (sym (c.are_distinct.ensures.1 (distinct_of c.args.limits c.args.number order m _ h (members_view l) seen)) ∙ c.if-not-are_distinct.true)
+    c.in-Some.ensures.some.1 (distinct_of c.args.limits c.args.number order m _ h (members_view l) seen)
 
 pub with_others-requires-clause-known : goal.with_others-requires-clause-known
 with_others-requires-clause-known g c = all_known 0 _ _ (c.in_ok-known.ensures.ok 0)
 
-pub returns-in_err-fields-clause-refused : goal.returns-in_err-fields-clause-refused
-returns-in_err-fields-clause-refused g c = λ e order m h.
+pub returns-in-Err-with_others-clause-refused : goal.returns-in-Err-with_others-clause-refused
+returns-in-Err-with_others-clause-refused g c = λ b e order m h.
     let l = c.as_slice-members.result.now in
     let seen = object_seen c.args.json.now c.in-Object.members l c.in-Object.is c.as_slice-members.ensures.value in
     let ks = field_trees c.in_ok-known.known.items in
     let depth : c.saturating_sub-depth.result ≡ c.args.limits.depth - 3 = omega arith in
     let read = fields_of c.args.limits c.args.number order m _ h (members_view l) seen ks (c.in_ok-known.ensures.ok (c.args.limits.depth - 3)) in
-    c.in_err-fields.ensures.refused (failed c.from_residual-in_err-fields.result c.in_err-fields.field-0.0 c.from_residual-in_err-fields.ensures.1 e) m.fields
+    through c.after-in-Err-with_others.result c.in-Err-with_others.why c.after-in-Err-with_others.ensures b e c.in-Err-with_others.ensures.refused m.fields
     (subst (λ (n : ℕ). AreReadFields n ks (get (codes "fields") (value_view c.args.json.now)) m.fields) (sym depth) read)
 
 pub returns-in_err-body-clause-refused : goal.returns-in_err-body-clause-refused
-returns-in_err-body-clause-refused g c = λ e order m h.
+returns-in_err-body-clause-refused g c = λ b e order m h.
     let l = c.as_slice-members.result.now in
     let seen = object_seen c.args.json.now c.in-Object.members l c.in-Object.is c.as_slice-members.ensures.value in
     let ks = field_trees c.in_ok-known.known.items in
     let depth : c.saturating_sub-depth.result ≡ c.args.limits.depth - 3 = omega arith in
     let read = fields_of c.args.limits c.args.number order m _ h (members_view l) seen ks (c.in_ok-known.ensures.ok (c.args.limits.depth - 3)) in
     let same : m.fields ≡ field_trees c.deref.result.now =
-    c.in_ok-fields.ensures.only m.fields (subst (λ (n : ℕ). AreReadFields n ks (get (codes "fields") (value_view c.args.json.now)) m.fields) (sym depth) read) ∙ ap field_trees (sym c.deref.ensures.value) in
-    c.in_err-body.ensures.refused (failed c.from_residual-in_err-body.result c.in_err-body.field-0.0 c.from_residual-in_err-body.ensures.1 e)
+    c.in-Ok-with_others.ensures.only m.fields (subst (λ (n : ℕ). AreReadFields n ks (get (codes "fields") (value_view c.args.json.now)) m.fields) (sym depth) read) ∙ ap field_trees (sym c.deref.ensures.value) in
+    c.in_err-body.ensures.refused b (failed c.from_residual-in_err-body.result c.in_err-body.field-0.0 c.from_residual-in_err-body.ensures.1 b e)
     (subst (λ (fs : List FieldTree). IsKind Signature (body_signature fs)) same (signature_kind _ m.fields (fit_of c.args.limits c.args.number order m _ h)))
     m.body (body_of c.args.limits c.args.number order m _ h (field_trees c.deref.result.now) same)
 
-pub returns-in-Ok-clause-ok : goal.returns-in-Ok-clause-ok
-returns-in-Ok-clause-ok g c =
+pub returns-in-Ok-new_within-clause-ok : goal.returns-in-Ok-new_within-clause-ok
+returns-in-Ok-new_within-clause-ok g c =
     let l = c.as_slice-members.result.now in
     let ks = field_trees c.in_ok-known.known.items in
-    let gs = field_trees c.in_ok-fields.fields.items in
+    let gs = field_trees c.in-Ok-with_others.fields.items in
     let told = get (codes "fields") (value_view c.args.json.now) in
-    let head = c.in-Some.head in
-    let q : Parts g.row.A.Denot = record { kind = head.kind; flags = head.flags; serial = head.serial; fields = c.in_ok-fields.fields; body = c.in_ok-body.body } in
+    let head = c.in-Ok.head in
+    let q : Parts g.row.A.Denot = record { kind = head.kind; flags = head.flags; serial = head.serial; fields = c.in-Ok-with_others.fields; body = c.in_ok-body.body } in
     let kind : head.kind < 256 = omega arith in
     let flags : head.flags < 256 = omega arith in
     let serial : head.serial < 256 ^ 4 = omega arith in
     let depth : c.saturating_sub-depth.result ≡ c.args.limits.depth - 3 = omega arith in
-    let distinct = c.are_distinct.ensures.0 c.if-not-are_distinct.false in
+    let distinct = c.first_again.ensures.none c.in_default-first_again.is in
     let body = subst (λ (fs : List FieldTree). IsReadBody c.args.limits.depth (body_signature fs) (get (codes "body") (value_view c.args.json.now)) (value_trees_of c.in_ok-body.body.items)) (ap field_trees c.deref.ensures.value) c.in_ok-body.ensures.ok in
-    made c.args.limits c.args.number c.in-Some.head.order q _ (record {
+    made c.args.limits c.args.number c.in-Ok.head.order q _ (record {
       ms = members_view l;
       is = object_seen c.args.json.now c.in-Object.members l c.in-Object.is c.as_slice-members.ensures.value;
       distinct = distinct;
-      head = c.in-Some.ensures.some;
+      head = c.in-Ok.ensures.ok;
       kind_fits = kind;
       flags_fit = flags;
       serial_fits = serial;
       ks = ks;
       known = c.in_ok-known.ensures.ok (c.args.limits.depth - 3);
-      fields = subst (λ (n : ℕ). AreReadFields n ks told gs) depth c.in_ok-fields.ensures.ok;
-      only = λ fs k. c.in_ok-fields.ensures.only fs (subst (λ (n : ℕ). AreReadFields n ks told fs) (sym depth) k);
+      fields = subst (λ (n : ℕ). AreReadFields n ks told gs) depth c.in-Ok-with_others.ensures.ok;
+      only = λ fs k. c.in-Ok-with_others.ensures.only fs (subst (λ (n : ℕ). AreReadFields n ks told fs) (sym depth) k);
       body = body;
-    }) c.in-Ok.message c.in-Ok.ensures.built
+    }) c.in-Ok-new_within.message c.in-Ok-new_within.ensures.built
 
-pub returns-clause-refused : goal.returns-clause-refused
-returns-clause-refused g c = λ e order m h.
+pub returns-in-Err-new_within-clause-refused : goal.returns-in-Err-new_within-clause-refused
+returns-in-Err-new_within-clause-refused g c = λ b e order m h.
     let l = c.as_slice-members.result.now in
     let ks = field_trees c.in_ok-known.known.items in
-    let gs = field_trees c.in_ok-fields.fields.items in
+    let gs = field_trees c.in-Ok-with_others.fields.items in
     let told = get (codes "fields") (value_view c.args.json.now) in
-    let head = c.in-Some.head in
-    let q : Parts g.row.A.Denot = record { kind = head.kind; flags = head.flags; serial = head.serial; fields = c.in_ok-fields.fields; body = c.in_ok-body.body } in
+    let head = c.in-Ok.head in
+    let q : Parts g.row.A.Denot = record { kind = head.kind; flags = head.flags; serial = head.serial; fields = c.in-Ok-with_others.fields; body = c.in_ok-body.body } in
     let kind : head.kind < 256 = omega arith in
     let flags : head.flags < 256 = omega arith in
     let serial : head.serial < 256 ^ 4 = omega arith in
     let depth : c.saturating_sub-depth.result ≡ c.args.limits.depth - 3 = omega arith in
-    let distinct = c.are_distinct.ensures.0 c.if-not-are_distinct.false in
+    let distinct = c.first_again.ensures.none c.in_default-first_again.is in
     let body = subst (λ (fs : List FieldTree). IsReadBody c.args.limits.depth (body_signature fs) (get (codes "body") (value_view c.args.json.now)) (value_trees_of c.in_ok-body.body.items)) (ap field_trees c.deref.ensures.value) c.in_ok-body.ensures.ok in
-    never_refused c.args.limits c.args.number c.in-Some.head.order q _ (record {
+    never_refused c.args.limits c.args.number c.in-Ok.head.order q _ (record {
       ms = members_view l;
       is = object_seen c.args.json.now c.in-Object.members l c.in-Object.is c.as_slice-members.ensures.value;
       distinct = distinct;
-      head = c.in-Some.ensures.some;
+      head = c.in-Ok.ensures.ok;
       kind_fits = kind;
       flags_fit = flags;
       serial_fits = serial;
       ks = ks;
       known = c.in_ok-known.ensures.ok (c.args.limits.depth - 3);
-      fields = subst (λ (n : ℕ). AreReadFields n ks told gs) depth c.in_ok-fields.ensures.ok;
-      only = λ fs k. c.in_ok-fields.ensures.only fs (subst (λ (n : ℕ). AreReadFields n ks told fs) (sym depth) k);
+      fields = subst (λ (n : ℕ). AreReadFields n ks told gs) depth c.in-Ok-with_others.ensures.ok;
+      only = λ fs k. c.in-Ok-with_others.ensures.only fs (subst (λ (n : ℕ). AreReadFields n ks told fs) (sym depth) k);
       body = body;
-    }) c.in-Err.field-0 c.in-Err.ensures.built c.in-Err.ensures.taken (c.in_ok-fields.ensures.packed, c.in_ok-body.ensures.packed) order m h
+    }) c.in-Err-new_within.refused c.in-Err-new_within.ensures.built c.in-Err-new_within.ensures.taken (c.in-Ok-with_others.ensures.packed, c.in_ok-body.ensures.packed) order m h

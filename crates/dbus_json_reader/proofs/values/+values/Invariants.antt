@@ -22,10 +22,10 @@ decreases-read_array g l = 2 * length (json_tokens (value_view l.json.now))
 abbrev pub decreases-read_variant : goal.decreases-read_variant
 decreases-read_variant g l = 2 * length (json_tokens (value_view l.json.now))
 
-abbrev pub invariant-read_array-loop-item : goal.invariant-read_array-loop-item
-invariant-read_array-loop-item g l =
+abbrev pub invariant-read_array-loop-i : goal.invariant-read_array-loop-i
+invariant-read_array-loop-i g l =
     let each = AreElements (l.depth - 1) (type_tree l.element) in
-    IsGoing each each (items_view l.item-items) (items_view (drop l.item-index l.item-items)) l.values.items × IsTrue (keep_bytes l.values.items)
+    IsGoing each each (items_view l.items) (items_view (drop l.i l.items)) l.values.items × IsTrue (keep_bytes l.values.items)
 
 abbrev pub invariant-read_values-loop-i : goal.invariant-read_values-loop-i
 invariant-read_values-loop-i g l =

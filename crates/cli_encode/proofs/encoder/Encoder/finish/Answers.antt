@@ -55,6 +55,6 @@ pub returns-in-Ok-settle : goal.returns-in-Ok-settle
 returns-in-Ok-settle g c = λ line is.
     let now = c.args.self.now in
     let same = c.settle.ensures.same in
-    takes_refused g.W.Sink.held g.W.Sink.failures g.E.Sink.held g.E.Sink.failures line c.in-Refused.reason now c.settle.new.self c.args.first.now c.settle.new.first c.args.second.now c.tell_refused.new.second
+    takes_refused g.W.Sink.held g.W.Sink.failures g.E.Sink.held g.E.Sink.failures line c.in-Refused.refusal now c.settle.new.self c.args.first.now c.settle.new.first c.args.second.now c.tell_refused.new.second
     c.tell_refused.result (subst (λ (m : Made). IsOutcome now.encoding now.serial line (outcome_of m now.spare.items)) c.in-Refused.is is) same.encoding same.number
     (same.serial ∙ c.next_serial-self-in-Refused.ensures) same.refused c.in-Ok-settle.ensures.gathers c.settle.ensures.settled c.tell_refused.ensures

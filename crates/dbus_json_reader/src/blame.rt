@@ -1,0 +1,249 @@
+//! Why JSON spells no value and no message, and which token shows it: what a refused line alone has
+//! to pay for. RFC 8259; D-Bus Specification, "Type System", "Message Format" and "Header Fields".
+#![tactic(auto)]
+
+use crate::known::named;
+use crate::names::has_name;
+use crate::numbers::unsigned;
+use crate::reasons::JsonReason;
+use crate::tokens::{tokens_in_items, tokens_in_members};
+use crate::unread::Unread;
+use dbus_build::BuildFault;
+use dbus_message_model::field_code::{
+    DESTINATION, ERROR_NAME, INTERFACE, MEMBER, SENDER, SIGNATURE,
+};
+use dbus_types::{SigType, TextKind};
+use json::Value as Json;
+use std::alloc::Allocator;
+
+// ---- numbers and texts
+
+/// Why the text of a number is none of an integer's type.
+fn no_integer(text: &[u8]) -> JsonReason {
+    if text == b"-0".as_slice() || text.iter().any(|byte| matches!(*byte, b'.' | b'e' | b'E')) {
+        return JsonReason::NotInteger;
+    }
+    JsonReason::Range
+}
+
+/// Whether a text is a number other than 0 in decimal, with no sign but a minus.
+fn is_decimal(text: &[u8]) -> bool {
+    let digits = if text.is_empty() || text[0] != b'-' {
+        text
+    } else {
+        &text[1..]
+    };
+    !digits.is_empty() && digits[0] != b'0' && digits.iter().all(|byte| byte.is_ascii_digit())
+}
+
+/// Why a value is no unsigned number that is wanted.
+pub(crate) fn no_unsigned<A: Allocator>(json: &Json<'_, A>) -> JsonReason {
+    match json {
+        Json::Number(text) => no_integer(text.as_bytes()),
+        _ => JsonReason::Form,
+    }
+}
+
+/// Why a value spells no number of a type.
+pub(crate) fn no_number<A: Allocator>(ty: &SigType<A>, json: &Json<'_, A>) -> JsonReason {
+    match json {
+        Json::Number(text) => match ty {
+            SigType::Bool => JsonReason::Form,
+            SigType::Double => JsonReason::Range,
+            _ => no_integer(text.as_bytes()),
+        },
+        Json::String(text) => match ty {
+            SigType::Double => JsonReason::Digits,
+            SigType::I64 | SigType::U64 => {
+                if is_decimal(text.as_bytes()) {
+                    JsonReason::Range
+                } else {
+                    JsonReason::Digits
+                }
+            }
+            _ => JsonReason::Form,
+        },
+        _ => JsonReason::Form,
+    }
+}
+
+/// Why a value is no text of a kind.
+pub(crate) fn no_text<A: Allocator>(json: &Json<'_, A>, kind: TextKind) -> JsonReason {
+    match json {
+        Json::String(_) => match kind {
+            TextKind::Path => JsonReason::Path,
+            TextKind::Signature => JsonReason::Signature,
+            _ => JsonReason::Text,
+        },
+        _ => JsonReason::Form,
+    }
+}
+
+/// Why a value names no byte order.
+pub(crate) fn no_order<A: Allocator>(json: &Json<'_, A>) -> JsonReason {
+    match json {
+        Json::String(_) => JsonReason::Order,
+        _ => JsonReason::Form,
+    }
+}
+
+/// Why a value names no message type.
+pub(crate) fn no_kind<A: Allocator>(json: &Json<'_, A>) -> JsonReason {
+    match json {
+        Json::String(_) => JsonReason::Kind,
+        _ => no_unsigned(json),
+    }
+}
+
+// ---- members
+
+/// The tokens of an object before the value of a name, the last one if there are more; none of what
+/// has no such member.
+pub(crate) fn before_value<A: Allocator>(json: &Json<'_, A>, name: &str) -> usize {
+    let Json::Object(members) = json else {
+        return 0;
+    };
+    let members = members.as_slice();
+    for i in (0..members.len()).rev() {
+        if members[i].0 == name {
+            return tokens_in_members(&members[..i]).saturating_add(1);
+        }
+    }
+    0
+}
+
+/// The reason, shown by the value of a name, or by the object if it has no such member.
+pub(crate) fn at_value<A: Allocator>(json: &Json<'_, A>, name: &str, reason: JsonReason) -> Unread {
+    Unread::here(reason).after(before_value(json, name))
+}
+
+/// Whether a name is among these.
+fn is_one_of(name: &str, names: &[&str]) -> bool {
+    names.iter().any(|other| *other == name)
+}
+
+/// The first member that has none of these names, or the name of one before it.
+fn strange_member<A: Allocator>(members: &[(&str, Json<'_, A>)], names: &[&str]) -> Option<Unread> {
+    for (i, member) in members.iter().enumerate() {
+        if !is_one_of(member.0, names) {
+            let why = Unread::here(JsonReason::MemberUnknown);
+            return Some(why.after(tokens_in_members(&members[..i])));
+        }
+        if has_name(&members[..i], member.0) {
+            let why = Unread::here(JsonReason::MemberTwice);
+            return Some(why.after(tokens_in_members(&members[..i])));
+        }
+    }
+    None
+}
+
+/// Why a value is no object of members of these names, none of them twice; if it is one, that it
+/// has no `type` or no `value`, or a type that is no string.
+pub(crate) fn not_typed<A: Allocator>(json: &Json<'_, A>, names: &[&str]) -> Unread {
+    let Json::Object(members) = json else {
+        return Unread::here(JsonReason::Form);
+    };
+    if let Some(why) = strange_member(members.as_slice(), names) {
+        return why;
+    }
+    if json.get("type").is_none() {
+        return Unread::here(JsonReason::TypeMissing);
+    }
+    if json.get("value").is_none() {
+        return Unread::here(JsonReason::ValueMissing);
+    }
+    at_value(json, "type", JsonReason::Form)
+}
+
+/// Why a value is no array of as many values as are wanted.
+pub(crate) fn not_counted<A: Allocator>(json: &Json<'_, A>) -> Unread {
+    match json {
+        Json::Array(_) => Unread::here(JsonReason::Count),
+        _ => Unread::here(JsonReason::Form),
+    }
+}
+
+// ---- messages
+
+/// What the text of a known field is to be.
+fn name_reason(code: u8) -> JsonReason {
+    match code {
+        INTERFACE => JsonReason::Interface,
+        MEMBER => JsonReason::Member,
+        ERROR_NAME => JsonReason::ErrorName,
+        DESTINATION | SENDER => JsonReason::BusName,
+        SIGNATURE => JsonReason::Signature,
+        _ => JsonReason::Path,
+    }
+}
+
+/// The tokens of an object before the item of this number in the array of a name.
+fn before_item<A: Allocator>(json: &Json<'_, A>, name: &str, number: usize) -> usize {
+    let before = before_value(json, name);
+    match json.get(name) {
+        Some(Json::Array(items)) => {
+            let items = items.as_slice();
+            if number < items.len() {
+                before.saturating_add(tokens_in_items(&items[..number]))
+            } else {
+                before
+            }
+        }
+        _ => before,
+    }
+}
+
+/// The number of the first object in `fields` whose code is 0.
+fn codeless<A: Allocator>(json: &Json<'_, A>) -> usize {
+    let Some(Json::Array(items)) = json.get("fields") else {
+        return 0;
+    };
+    for (i, item) in items.as_slice().iter().enumerate() {
+        if let Some(code) = item.get("code") {
+            if unsigned(code, 0).is_some() {
+                return i;
+            }
+        }
+    }
+    0
+}
+
+/// Why the parts that an object spells, with this serial, are no message.
+pub(crate) fn no_message<A: Allocator>(
+    json: &Json<'_, A>,
+    serial: u32,
+    fault: BuildFault,
+) -> Unread {
+    match fault {
+        BuildFault::Memory => Unread::Memory,
+        BuildFault::Kind => at_value(json, "type", JsonReason::Kind),
+        BuildFault::ZeroSerial => {
+            let name = if serial == 0 {
+                "serial"
+            } else {
+                "reply_serial"
+            };
+            at_value(json, name, JsonReason::ZeroSerial)
+        }
+        BuildFault::FieldCode => Unread::here(JsonReason::FieldCode).after(before_item(
+            json,
+            "fields",
+            codeless(json),
+        )),
+        BuildFault::FieldTwice(code) => at_value(json, named(code), JsonReason::MemberTwice),
+        BuildFault::FieldType(code) => at_value(json, named(code), JsonReason::Form),
+        BuildFault::FieldMissing(code) => Unread::here(JsonReason::FieldMissing(code)),
+        BuildFault::TooDeep => Unread::here(JsonReason::TooDeep),
+        BuildFault::Name(code) => at_value(json, named(code), name_reason(code)),
+        BuildFault::FieldValue(_) => at_value(json, "fields", JsonReason::Form),
+        BuildFault::Value(number) => {
+            Unread::here(JsonReason::Form).after(before_item(json, "body", number))
+        }
+        BuildFault::SignatureDiffers => at_value(json, "body", JsonReason::Count),
+        BuildFault::ArrayTooLong => Unread::here(JsonReason::ArrayTooLong),
+        BuildFault::MessageTooLong => Unread::here(JsonReason::MessageTooLong),
+        BuildFault::FdIndex(number) => {
+            Unread::here(JsonReason::FdIndex).after(before_item(json, "body", number))
+        }
+    }
+}
