@@ -8,10 +8,11 @@ use Rattle.std.proofs.lemmas.List.{nil_from_length, take-append-le, take_min}
 use Rattle.dbus_device.specs.Packets.{Packets, PacketsAfter}
 use Rattle.dbus_device.specs.declared.packet.Packet.{Packet}
 use Rattle.dbus_value_model.specs.declared.limits.Limits.{Limits}
-use Rattle.dbus_resync.specs.Search.{Searches}
 use Rattle.dbus_resync.specs.declared.found.Found.{Found}
+use Rattle.dbus_resync.specs.declared.found.Found.TheVariants.{At}
+use Rattle.dbus_resync.proofs.OneFound.{one_found}
 use Rattle.dbus_stream.specs.Gathering.{GathererState, gathering, fresh, under_way}
-use Rattle.dbus_stream.specs.GoingOn.{GoesOn, GoesTo, IsFoundIn, Looks, LooksAhead, StaysThere}
+use Rattle.dbus_stream.specs.GoingOn.{GoesBy, GoesTo, IsFoundIn, Looks, LooksAhead, OneResumed, Seeks, StaysThere}
 use Rattle.dbus_stream.specs.LookingAhead.{HasAhead, IsFar, ReadsTo, StandsBefore}
 use Rattle.dbus_stream.specs.Next.{ReadsNothing, ReadsWhile}
 use Rattle.dbus_stream.specs.Packets.{KeepsPackets}
@@ -28,6 +29,7 @@ use Rattle.dbus_stream.specs.declared.read_fault.ReadFault.TheVariants.{Memory, 
 use Rattle.dbus_stream.specs.declared.reader.Reader.{Reader}
 use Rattle.dbus_stream.proofs.NextSteps.{gave, reads_from, reads_none, reads_one, reads_put, reads_still}
 use Rattle.dbus_stream.proofs.PassSteps.{stands}
+use Rattle.dbus_stream.proofs.SizeSteps.{size_once}
 
 module _ {R T B A G : Type 0} {b : Ghosts B} (k : Taking T G) (left : R → Option (List ℕ)) (calls : R → ℕ) (far : ℕ) (front : List ℕ) (old : Reader R T B A b) where
   -- fewer bytes are there
@@ -117,16 +119,12 @@ whole_part bytes count is =
 
 -- ---- a reader of raw messages
 
--- the bytes of the window are the same, whatever follows
-pub found_in : (limits : Limits) (window effort looked : ℕ) (ended : Bool) (w part : List ℕ) (found : Found) → part ≡ w → looked ≡ min window (length part) → (window ≤ length w) ⊎ (ended ≡ true)
-    → Searches limits (take looked part) effort found → IsFoundIn limits window effort ended w found
-found_in limits window effort looked ended w part found same size enough s = λ more follows.
+-- among the bytes of the window
+pub found_in : (by_size : Bool) (limits : Limits) (window effort looked : ℕ) (ended : Bool) (w part : List ℕ) (found : Found) → part ≡ w → looked ≡ min window (length part) → (window ≤ length w) ⊎ (ended ≡ true)
+    → Seeks by_size limits window effort (take looked part) found → IsFoundIn by_size limits window effort ended w found
+found_in by_size limits window effort looked ended w part found same size enough s =
     let all : take looked part ≡ take window w = ap (λ (n : ℕ). take n part) size ∙ (take_min window part ∙ ap (take window) same) in
-    let whole : take window (w ++ more) ≡ take window w = elim enough [
-      | inl wide ↦ take-append-le window w more wide
-      | inr end ↦ ap (take window) (ap (λ (l : List ℕ). w ++ l) (follows end) ∙ append-nil w)
-    ] in
-    subst (λ (l : List ℕ). Searches limits l effort found) (all ∙ sym whole) s
+    (enough, subst (λ (l : List ℕ). Seeks by_size limits window effort l found) all s)
 
 module _ {R A : Type 0} (left : R → Option (List ℕ)) (calls : R → ℕ) where
   -- what a call read
@@ -189,11 +187,11 @@ module _ {R A : Type 0} where
     stays_ahead window l = stays_put l.part l.taker l.done l.stopped
 
     -- an error leaves all there
-    pub fails_ahead : (window effort : ℕ) (fault : ReadFault) → Looks w old new window (Err fault) → GoesOn w old new window effort (Err fault)
-    fails_ahead window effort Memory l = l
-    fails_ahead window effort (Format fault) l = absurd l
-    fails_ahead window effort Device l = l
-    fails_ahead window effort TooManyReads l = l
+    pub fails_ahead : (by_size : Bool) (window effort : ℕ) (fault : ReadFault) → Looks w old new window (Err fault) → GoesBy w old new by_size window effort (Err fault)
+    fails_ahead by_size window effort Memory l = l
+    fails_ahead by_size window effort (Format fault) l = absurd l
+    fails_ahead by_size window effort Device l = l
+    fails_ahead by_size window effort TooManyReads l = l
 
   -- nothing more is read
   pub looks_there : (window : ℕ) (old new : RawReader R A) → old.reader.held ≡ 0 → (window ≤ length (part_of old.reader)) ⊎ (raw.is_ended old ≡ true) → part_of new.reader ≡ part_of old.reader → new.reader.taker ≡ fresh (raw.limits_of old)
@@ -268,7 +266,7 @@ module _ {R A : Type 0} where
       ahead_looks (Err TooManyReads) far_enough = (ahead_stays, s.reads ∙ (far_enough.0 ∙ sym s.most_reads), s.ended ∙ far_enough.1)
 
   -- the reader goes to the next message
-  pub goes_to : (window offset : ℕ) (w : List ℕ) (old mid new : RawReader R A) → LooksAhead w old mid window → offset < length w → part_of new.reader ≡ drop offset (part_of mid.reader) → new.reader.taker ≡ mid.reader.taker
+  pub goes_to : (window offset : ℕ) (w : List ℕ) (old mid new : RawReader R A) → LooksAhead w old mid window → offset ≤ length w → part_of new.reader ≡ drop offset (part_of mid.reader) → new.reader.taker ≡ mid.reader.taker
       → raw.done_of new ≡ raw.done_of mid + offset → raw.stopped_of new ≡ None → GoesTo w old new offset
   goes_to window offset w old mid new l inside part taker done stopped =
       let s = stands (raw.limits_of old) new (taker ∙ l.taker) in
@@ -279,3 +277,11 @@ module _ {R A : Type 0} where
         lent = s.1;
         stopped = stopped;
       }
+
+-- ---- one place
+
+pub one_resumed : OneResumed
+one_resumed limits window effort bytes found other (inl a) (inl b) = a.2 ∙ (ap At (size_once limits bytes b.0 a.0 b.1.states a.1.states) ∙ sym b.2)
+one_resumed limits window effort bytes found other (inl a) (inr b) = absurd (b.0 a.0 a.1)
+one_resumed limits window effort bytes found other (inr a) (inl b) = absurd (a.0 b.0 b.1)
+one_resumed limits window effort bytes found other (inr a) (inr b) = one_found limits bytes effort found other a.1 b.1

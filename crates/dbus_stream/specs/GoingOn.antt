@@ -1,15 +1,17 @@
 -- How a reader goes on behind a message that is refused, where the next message begins. w is what
--- was kept and then read. D-Bus Specification, "Message Format".
+-- was kept and then read, and bytes are as many of the input as the window has: fewer only if it
+-- ends there. D-Bus Specification, "Message Format".
 use Rattle.std.specs.Prelude.{◌≡◌, ◌⊎◌, ℕ, ◌+◌, ◌*◌, ◌<◌, ◌≤◌, List, [], ◌++◌, Bool, true, false, length, take, drop, Option, None, Some, Result, Ok, Err}
 use Rattle.dbus_value_model.specs.declared.fault.Fault.{Fault}
 use Rattle.dbus_value_model.specs.declared.limits.Limits.{Limits}
-use Rattle.dbus_resync.specs.Search.{Searches}
+use Rattle.dbus_resync.specs.Search.{BeginsAt, Searches}
 use Rattle.dbus_resync.specs.declared.found.Found.{Found}
 use Rattle.dbus_resync.specs.declared.found.Found.TheVariants.{At}
 use Rattle.dbus_stream.specs.Gathering.{fresh, gathering}
 use Rattle.dbus_stream.specs.Next as next
 use Rattle.dbus_stream.specs.RawReading as raw
 use Rattle.dbus_stream.specs.Reading.{part_of}
+use Rattle.dbus_stream.specs.StatedSizes.{StatesSize}
 use Rattle.dbus_stream.specs.declared.raw_reader.RawReader.{RawReader}
 use Rattle.dbus_stream.specs.declared.read_fault.ReadFault.{ReadFault}
 use Rattle.dbus_stream.specs.declared.read_fault.ReadFault.TheVariants.{Format, TooManyReads}
@@ -18,13 +20,27 @@ use Rattle.dbus_stream.specs.declared.read_fault.ReadFault.TheVariants.{Format, 
 abbrev pub HasFault : Option ReadFault → Type 0
 HasFault stopped = (fault : Fault) × (stopped ≡ Some (Format fault))
 
--- what may follow what was read: nothing, if the input has ended
-abbrev pub MayFollow : (ended : Bool) → List ℕ → Type 0
-MayFollow ended more = ended ≡ true → more ≡ []
+-- the bytes state this size, and it leads on: a whole message begins behind so many of them, or the
+-- input ends there
+pub record LeadsOn (limits : Limits) (window : ℕ) (bytes : List ℕ) (size : ℕ) : Type 0 where
+  pub states : StatesSize limits bytes size
+  pub to : BeginsAt limits bytes size ⊎ ((size ≡ length bytes) × (size < window))
 
--- this is found among so many bytes of the input as the window has, whatever follows
-abbrev pub IsFoundIn : Limits → (window effort : ℕ) → (ended : Bool) → List ℕ → Found → Type 0
-IsFoundIn limits window effort ended w found = (more : List ℕ) → MayFollow ended more → Searches limits (take window (w ++ more)) effort found
+abbrev pub LeadsNowhere : Limits → (window : ℕ) → List ℕ → Type 0
+LeadsNowhere limits window bytes = (size : ℕ) → LeadsOn limits window bytes size → ⊥
+
+-- where messages begin again: where the size leads that the bytes state, or else at the first message
+abbrev pub Resumes : Limits → (window effort : ℕ) → List ℕ → Found → Type 0
+Resumes limits window effort bytes found = ((size : ℕ) × LeadsOn limits window bytes size × (found ≡ At size)) ⊎ (LeadsNowhere limits window bytes × Searches limits bytes effort found)
+
+-- the one or the other is looked for
+abbrev pub Seeks : (by_size : Bool) → Limits → (window effort : ℕ) → List ℕ → Found → Type 0
+Seeks true limits window effort bytes found = Resumes limits window effort bytes found
+Seeks false limits window effort bytes found = Searches limits bytes effort found
+
+-- this is found among so many bytes of the input as the window has: all are there, or it has ended
+abbrev pub IsFoundIn : (by_size : Bool) → Limits → (window effort : ℕ) → (ended : Bool) → List ℕ → Found → Type 0
+IsFoundIn by_size limits window effort ended w found = ((window ≤ length w) ⊎ (ended ≡ true)) × Seeks by_size limits window effort (take window w) found
 
 module _ {R A : Type 0} where
   -- what a call read: a read was made only if fewer bytes were there at first than the window has,
@@ -33,9 +49,9 @@ module _ {R A : Type 0} where
   ReadsToGoOn window left calls old new = next.ReadsWhile gathering (λ before. (length (raw.kept old) < window) × (length (raw.kept old ++ before) < 2 * window)) left calls old.reader new.reader
 
   module _ (w : List ℕ) (old new : RawReader R A) where
-    -- the bytes before the next message are dropped, and the fault is gone
+    -- so many bytes are dropped, and the fault is gone
     pub record GoesTo (offset : ℕ) : Type 0 where
-      pub inside : offset < length w
+      pub inside : offset ≤ length w
       pub kept : raw.kept new ≡ drop offset w
       pub done : raw.done_of new ≡ raw.done_of old + offset
       pub lent : raw.lent_of new ≡ []
@@ -48,12 +64,20 @@ module _ {R A : Type 0} where
       pub lent : raw.lent_of old ≡ [] → raw.lent_of new ≡ []
       pub stopped : raw.stopped_of new ≡ raw.stopped_of old
 
+    abbrev pub GoesBy : (by_size : Bool) → (window effort : ℕ) → Result Found ReadFault → Type 0
+    GoesBy by_size window effort (Ok (At offset)) = IsFoundIn by_size (raw.limits_of old) window effort (raw.is_ended new) w (At offset) × GoesTo offset
+    GoesBy by_size window effort (Ok found) = IsFoundIn by_size (raw.limits_of old) window effort (raw.is_ended new) w found × StaysThere
+    GoesBy by_size window effort (Err TooManyReads) = StaysThere × (raw.reads_of new ≡ raw.most_reads_of new) × (raw.is_ended new ≡ false)
+    GoesBy by_size window effort (Err (Format fault)) = ⊥
+    GoesBy by_size window effort (Err fault) = StaysThere
+
+    -- a call that goes on to the first message
     abbrev pub GoesOn : (window effort : ℕ) → Result Found ReadFault → Type 0
-    GoesOn window effort (Ok (At offset)) = IsFoundIn (raw.limits_of old) window effort (raw.is_ended new) w (At offset) × GoesTo offset
-    GoesOn window effort (Ok found) = IsFoundIn (raw.limits_of old) window effort (raw.is_ended new) w found × StaysThere
-    GoesOn window effort (Err TooManyReads) = StaysThere × (raw.reads_of new ≡ raw.most_reads_of new) × (raw.is_ended new ≡ false)
-    GoesOn window effort (Err (Format fault)) = ⊥
-    GoesOn window effort (Err fault) = StaysThere
+    GoesOn window effort result = GoesBy false window effort result
+
+    -- or first where the size leads that the refused message states
+    abbrev pub Resyncs : (window effort : ℕ) → Result Found ReadFault → Type 0
+    Resyncs window effort result = GoesBy true window effort result
 
     -- all that was kept and read is in the buffer, as far as the window goes
     pub record LooksAhead (window : ℕ) : Type 0 where
@@ -69,3 +93,9 @@ module _ {R A : Type 0} where
     Looks window (Err TooManyReads) = StaysThere × (raw.reads_of new ≡ raw.most_reads_of new) × (raw.is_ended new ≡ false)
     Looks window (Err (Format fault)) = ⊥
     Looks window (Err fault) = StaysThere
+
+-- ---- laws
+
+-- Bytes are found to go on in one place.
+abbrev pub OneResumed : Type 0
+OneResumed = (limits : Limits) (window effort : ℕ) (bytes : List ℕ) (found other : Found) → Resumes limits window effort bytes found → Resumes limits window effort bytes other → found ≡ other

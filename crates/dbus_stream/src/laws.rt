@@ -6,6 +6,7 @@ ghost use Rattle.dbus_header.specs.MessageOutcomes.{IsPartial, IsRefused};
 ghost use Rattle.dbus_value_model.specs.declared.fault.Fault.{Fault};
 ghost use Rattle.dbus_value_model.specs.declared.limits.Limits.{Limits};
 ghost use Rattle.dbus_stream.specs.CutEnds.{CutOfPrefix, EachCut, NoneTruncated, OneCut, StatedSuffice};
+ghost use Rattle.dbus_stream.specs.GoingOn.{OneResumed};
 ghost use Rattle.dbus_stream.specs.Headline.{Headline};
 ghost use Rattle.dbus_stream.specs.Packets.{ShowsIn};
 ghost use Rattle.dbus_stream.specs.RawReading.{HasPackets, IsNewReader, KeepsPackets, ReadsNothing, ShowsLast, done_of, kept, last_of, read_of, source_of};
@@ -67,6 +68,12 @@ pub fn sizes()
 #[tactic(auto, using(crate::proofs::MessageEnds::refused_reason))]
 pub fn none_truncated()
     ensures { NoneTruncated }
+{}
+
+/// Behind a refused message, messages begin again in one place, by the limits, the window and the
+/// effort.
+pub fn one_resumed()
+    ensures { OneResumed }
 {}
 
 /// The packet of a message is known. A new reader begins with the packets that its source tells of

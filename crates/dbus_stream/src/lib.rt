@@ -24,6 +24,7 @@ mod read_fault;
 mod reader;
 mod reads;
 mod refused;
+mod seeking;
 mod stream_fault;
 mod taker;
 mod write_fault;

@@ -12,8 +12,9 @@ use crate::read_fault::ReadFault;
 use crate::reader::Reader;
 use crate::reads::MOST_READS;
 use crate::refused::{Refused, Size};
+use crate::seeking::seek_in;
 use dbus_device::{Packet, Source};
-use dbus_resync::{Found, first_message};
+use dbus_resync::Found;
 use dbus_validate::Validated;
 use dbus_value_model::{Fault, Limits, Reason};
 use std::alloc::{AllocError, Allocator, Global};
@@ -48,7 +49,7 @@ pub struct RawReader<R, A: Allocator = Global> {
 
 impl<R: Source, A: Allocator + Copy> RawReader<R, A> {
     ghost use Rattle.std.specs.Prelude.{None, Some};
-    ghost use Rattle.dbus_stream.specs.GoingOn.{GoesOn, HasFault, Looks, ReadsToGoOn};
+    ghost use Rattle.dbus_stream.specs.GoingOn.{GoesBy, GoesOn, HasFault, Looks, ReadsToGoOn, Resyncs};
     ghost use Rattle.dbus_device.specs.Packets.{Packets};
     ghost use Rattle.dbus_stream.specs.Passing.{Passing, WasDropped};
     ghost use Rattle.dbus_stream.specs.PassingPackets.{AreOfNumber, IsBeforeOther, PassesPacket};
@@ -345,25 +346,45 @@ impl<R: Source, A: Allocator + Copy> RawReader<R, A> {
         ensures unpacked { IfOk result (λ _. packed_of self.new ≡ false) }
         ensures few { done_of self.new ≤ 2 ^ 50 }
     {
-        match self.look_ahead(window) {
-            Ok(()) => {}
-            Err(fault) => return Err(fault),
-        }
-        if self.reader.packed {
-            return Err(ReadFault::Memory);
-        }
-        let limits = self.reader.taker.limits();
-        let part = self.reader.part();
-        let looked = window.min(part.len());
-        match first_message(&part[..looked], limits, effort) {
-            Found::At(offset) => {
-                self.reader.skip(offset as u64);
-                self.reader.stopped = None;
-                Ok(Found::At(offset))
-            }
-            Found::Nowhere => Ok(Found::Nowhere),
-            Found::Spent => Ok(Found::Spent),
-        }
+        self.seek(window, effort, false)
+    }
+
+    /// Goes on as [`RawReader::go_on`] does, but first by the size that the refused message states,
+    /// as [`RawReader::pass_over`] reads it: behind so many bytes, if a whole message within the
+    /// limits begins there in the window, or the input ends there in the window; and else at the
+    /// least offset at which one begins. So what looks like a message inside a refused one is not
+    /// taken for one. D-Bus Specification, "Message Format".
+    ///
+    /// ```rust
+    /// use dbus_stream::{Found, FromRead, RawReader, ReadFault};
+    ///
+    /// let mut reader = RawReader::new(alloc, FromRead::new(rt.stdin()));
+    /// for _ in 0..u64::MAX {
+    ///     match reader.advance() {
+    ///         Ok(Some(validated)) => println!(rt; "serial {}", validated.serial)?,
+    ///         Ok(None) => break,
+    ///         Err(ReadFault::Format(_)) => match reader.resync(1_048_576, 67_108_864)? {
+    ///             Found::At(lost) => println!(rt; "{lost} bytes lost")?,
+    ///             _ => break,
+    ///         },
+    ///         Err(fault) => return Err(fault.into()),
+    ///     }
+    /// }
+    /// ```
+    pub fn resync(&mut self, window: usize, effort: usize) -> Result<Found, ReadFault>
+        requires { HasFault (stopped_of self.old) }
+        // Of what was kept and then read it drops the bytes before the next message.
+        ensures goes { (r : ReadsToGoOn window R.left R.calls self.old self.new) ×
+            Resyncs (kept self.old ++ r.bytes) self.old self.new window effort result }
+        ensures failed { DeviceCounts (R.failures (source_of self.old))
+            (R.failures (source_of self.new)) result }
+        ensures same_reference { R.reference (source_of self.new) ≡
+            R.reference (source_of self.old) }
+        ensures packets { IfOk result (λ _. KeepsPackets R.packets R.packet self.old self.new) }
+        ensures unpacked { IfOk result (λ _. packed_of self.new ≡ false) }
+        ensures few { done_of self.new ≤ 2 ^ 50 }
+    {
+        self.seek(window, effort, true)
     }
 
     /// Passes over bytes that are no message, or those of an input that ends within one, to the
@@ -419,6 +440,40 @@ impl<R: Source, A: Allocator + Copy> RawReader<R, A> {
         self.reader.taker.let_go();
         self.reader.drop_kept();
         self.reader.read_past(packet.number)
+    }
+
+    // Goes on where the search finds the next message among the bytes of the window.
+    fn seek(&mut self, window: usize, effort: usize, by_size: bool) -> Result<Found, ReadFault>
+        requires { HasFault (stopped_of self.old) }
+        ensures goes { (r : ReadsToGoOn window R.left R.calls self.old self.new) ×
+            GoesBy (kept self.old ++ r.bytes) self.old self.new by_size window effort result }
+        ensures failed { DeviceCounts (R.failures (source_of self.old))
+            (R.failures (source_of self.new)) result }
+        ensures same_reference { R.reference (source_of self.new) ≡
+            R.reference (source_of self.old) }
+        ensures packets { IfOk result (λ _. KeepsPackets R.packets R.packet self.old self.new) }
+        ensures unpacked { IfOk result (λ _. packed_of self.new ≡ false) }
+        ensures few { done_of self.new ≤ 2 ^ 50 }
+    {
+        match self.look_ahead(window) {
+            Ok(()) => {}
+            Err(fault) => return Err(fault),
+        }
+        if self.reader.packed {
+            return Err(ReadFault::Memory);
+        }
+        let limits = self.reader.taker.limits();
+        let part = self.reader.part();
+        let looked = window.min(part.len());
+        match seek_in(&part[..looked], limits, window, effort, by_size) {
+            Found::At(offset) => {
+                self.reader.skip(offset as u64);
+                self.reader.stopped = None;
+                Ok(Found::At(offset))
+            }
+            Found::Nowhere => Ok(Found::Nowhere),
+            Found::Spent => Ok(Found::Spent),
+        }
     }
 
     // All that was kept is in the buffer then; and what is read, if these are fewer bytes than the

@@ -1,39 +1,37 @@
 use Rattle.std.proofs.Common.{◌≡◌, ◌++◌, length, take, refl, sym, ap, ◌∙◌, subst, arith}
 use Rattle.std.proofs.lemmas.List.{length-take}
 use Rattle.dbus_value_model.specs.declared.limits.Limits.{Limits}
-use Rattle.dbus_resync.specs.Search.{Searches}
 use Rattle.dbus_resync.specs.declared.found.Found.{Found}
 use Rattle.dbus_resync.specs.declared.found.Found.TheVariants.{At, Nowhere, Spent}
-use Rattle.dbus_resync.proofs.DamagedLaws.{begins_inside}
 use Rattle.dbus_stream.specs.Gathering.{GathererState, under_way}
-use Rattle.dbus_stream.specs.GoingOn.{IsFoundIn}
+use Rattle.dbus_stream.specs.GoingOn.{IsFoundIn, Seeks}
 use Rattle.dbus_stream.specs.RawReading.{is_ended, kept, limits_of}
 use Rattle.dbus_stream.proofs.AheadSteps.{found_in, goes_reads, goes_to, stays_ahead}
 use Rattle.dbus_stream.proofs.PacketSteps.{still}
 use Rattle.dbus_stream.proofs.PassSteps.{none_inside}
-use Rattle.dbus_stream.proofs.raw_reader.RawReader.go_on.Goals as goal
-use Rattle.dbus_stream.proofs.raw_reader.RawReader.go_on.Goals.{After-first_message}
+use Rattle.dbus_stream.proofs.raw_reader.RawReader.seek.Goals as goal
+use Rattle.dbus_stream.proofs.raw_reader.RawReader.seek.Goals.{After-seek_in}
 
 pub returns-then-self-clause-goes : goal.returns-then-self-clause-goes
 returns-then-self-clause-goes g c =
     let l = c.in-Ok.ensures.looks in
     let old = c.args.self.now in (l.0, stays_ahead (kept old ++ l.0.bytes) old c.look_ahead.new.self c.args.window l.1)
 
--- what is found, whatever follows
-finds : (g : _) (c : After-first_message g) (found : Found) → Searches c.limits-limits.result (take c.min-looked.result c.part-part.result.now) c.args.effort found
-    → IsFoundIn (limits_of c.args.self.now) c.args.window c.args.effort (is_ended c.look_ahead.new.self) (kept c.args.self.now ++ c.in-Ok.ensures.looks.0.bytes) found
+-- what is found
+finds : (g : _) (c : After-seek_in g) (found : Found) → Seeks c.args.by_size c.limits-limits.result c.args.window c.args.effort (take c.min-looked.result c.part-part.result.now) found
+    → IsFoundIn c.args.by_size (limits_of c.args.self.now) c.args.window c.args.effort (is_ended c.look_ahead.new.self) (kept c.args.self.now ++ c.in-Ok.ensures.looks.0.bytes) found
 finds g c found s =
     let old = c.args.self.now in
     let l = c.in-Ok.ensures.looks in
     let part = c.part-part.result.now in
     let limits : c.limits-limits.result ≡ limits_of old = c.limits-limits.ensures ∙ ap (λ (t : GathererState). t.limits) l.1.taker in
-    found_in (limits_of old) c.args.window c.args.effort c.min-looked.result (is_ended c.look_ahead.new.self) (kept old ++ l.0.bytes) part found (c.part-part.ensures ∙ l.1.part) c.min-looked.ensures l.1.enough
-    (subst (λ (x : Limits). Searches x (take c.min-looked.result part) c.args.effort found) limits s)
+    found_in c.args.by_size (limits_of old) c.args.window c.args.effort c.min-looked.result (is_ended c.look_ahead.new.self) (kept old ++ l.0.bytes) part found (c.part-part.ensures ∙ l.1.part) c.min-looked.ensures l.1.enough
+    (subst (λ (x : Limits). Seeks c.args.by_size x c.args.window c.args.effort (take c.min-looked.result part) found) limits s)
 
 pub skip-requires : goal.skip-requires
 skip-requires g c =
     let a = c.part-part.result.now in
-    let inside = begins_inside c.limits-limits.result (take c.min-looked.result a) c.in-At.offset c.in-At.ensures.finds.begins in
+    let inside = c.in-At.ensures.inside c.in-At.offset refl in
     let size = length-take c.min-looked.result a in
     let same = ap length c.part-part.ensures in
     omega (arith, inside, size, same)
@@ -66,13 +64,13 @@ returns-in-At-clause-goes g c =
     let u = c.skip.ensures.unread in
     let d = c.skip.ensures.drops in
     let a = c.part-part.result.now in
-    let first = (goal.at.returns-in-At-clause-goes g c).After-first_message in
-    let inside = begins_inside c.limits-limits.result (take c.min-looked.result a) c.in-At.offset c.in-At.ensures.finds.begins in
+    let first = (goal.at.returns-in-At-clause-goes g c).After-seek_in in
+    let inside = c.in-At.ensures.inside c.in-At.offset refl in
     let size = length-take c.min-looked.result a in
     let same = ap length (c.part-part.ensures ∙ l.1.part) in (
       goes_reads g.R.Source.left g.R.Source.calls c.args.window old mid.reader _ l.0 (record { source = u.source; reads = u.reads; most_reads = u.most_reads; limits = u.limits; ended = u.ended; read = u.read; last = u.last; packed = u.packed }),
       (
-        subst (λ b. IsFoundIn (limits_of old) c.args.window c.args.effort b w (At c.in-At.offset)) (sym u.ended) (finds g first (At c.in-At.offset) (record { finds = c.in-At.ensures.finds; keeps_effort = c.in-At.ensures.effort })),
+        subst (λ b. IsFoundIn c.args.by_size (limits_of old) c.args.window c.args.effort b w (At c.in-At.offset)) (sym u.ended) (finds g first (At c.in-At.offset) c.in-At.ensures.seeks),
         goes_to c.args.window c.in-At.offset w old mid _ l.1 (omega (arith, inside, size, same)) d.buffers.left d.buffers.taker d.done refl,
       ),
     )
@@ -86,10 +84,10 @@ pub returns-in-Nowhere-clause-goes : goal.returns-in-Nowhere-clause-goes
 returns-in-Nowhere-clause-goes g c =
     let old = c.args.self.now in
     let l = c.in-Ok.ensures.looks in
-    let first = (goal.at.returns-in-Nowhere-clause-goes g c).After-first_message in (
+    let first = (goal.at.returns-in-Nowhere-clause-goes g c).After-seek_in in (
       l.0,
       (
-        finds g first Nowhere (record { finds = c.in-Nowhere.ensures.finds; keeps_effort = c.in-Nowhere.ensures.effort }),
+        finds g first Nowhere c.in-Nowhere.ensures.seeks,
         stays_ahead (kept old ++ l.0.bytes) old c.look_ahead.new.self c.args.window l.1,
       ),
     )
@@ -98,10 +96,10 @@ pub returns-in-Spent-clause-goes : goal.returns-in-Spent-clause-goes
 returns-in-Spent-clause-goes g c =
     let old = c.args.self.now in
     let l = c.in-Ok.ensures.looks in
-    let first = (goal.at.returns-in-Spent-clause-goes g c).After-first_message in (
+    let first = (goal.at.returns-in-Spent-clause-goes g c).After-seek_in in (
       l.0,
       (
-        finds g first Spent (record { finds = c.in-Spent.ensures.finds; keeps_effort = c.in-Spent.ensures.effort }),
+        finds g first Spent c.in-Spent.ensures.seeks,
         stays_ahead (kept old ++ l.0.bytes) old c.look_ahead.new.self c.args.window l.1,
       ),
     )

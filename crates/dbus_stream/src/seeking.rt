@@ -1,0 +1,68 @@
+//! Where messages begin again behind one that is refused.
+ghost use Rattle.std.specs.Prelude.{◌≡◌, ◌≤◌, ◌<◌, ℕ, None, length, IfSome};
+ghost use Rattle.dbus_resync.specs.declared.found.Found.TheVariants.{At};
+ghost use Rattle.dbus_stream.specs.GoingOn.{LeadsNowhere, LeadsOn, Seeks};
+ghost use Rattle.dbus_stream.specs.StatedSizes.{StatesSize};
+
+use crate::refused::{Refused, Size};
+use dbus_resync::{Found, first_message};
+use dbus_validate::validate;
+use dbus_value_model::Limits;
+
+/// Where messages begin again among the bytes of a window, which begin with a refused message: if
+/// that is wanted, where the size leads that it states; and else at the first message that is found
+/// within the effort.
+pub(crate) fn seek_in(
+    bytes: &[u8],
+    limits: Limits,
+    window: usize,
+    effort: usize,
+    by_size: bool,
+) -> Found
+    ensures seeks { Seeks by_size limits window effort bytes.now result }
+    ensures inside { (offset : ℕ) → result ≡ At offset → offset ≤ length bytes.now }
+{
+    if by_size {
+        match led_to(bytes, limits, window) {
+            Some(end) => Found::At(end),
+            None => first_message(bytes, limits, effort),
+        }
+    } else {
+        first_message(bytes, limits, effort)
+    }
+}
+
+// The size that the bytes state, if that leads on.
+fn led_to(bytes: &[u8], limits: Limits, window: usize) -> Option<usize>
+    ensures leads { IfSome result (λ end. LeadsOn limits window bytes.now end) }
+    ensures none { result ≡ None → LeadsNowhere limits window bytes.now }
+    ensures inside { IfSome result (λ end. end ≤ length bytes.now) }
+{
+    let Some(end) = end_stated(bytes, limits) else {
+        return None;
+    };
+    if end == bytes.len() && end < window {
+        return Some(end);
+    }
+    if validate(&bytes[end..], limits).is_some() {
+        Some(end)
+    } else {
+        None
+    }
+}
+
+// The size that the bytes state, if so many are there.
+fn end_stated(bytes: &[u8], limits: Limits) -> Option<usize>
+    ensures states { IfSome result (λ end. StatesSize limits bytes.now end) }
+    ensures inside { IfSome result (λ end. end ≤ length bytes.now) }
+    ensures none { result ≡ None → (size : ℕ) → StatesSize limits bytes.now size →
+        length bytes.now < size }
+{
+    let mut message = Refused::nothing();
+    message.drop_bytes(bytes);
+    match message.size(limits) {
+        Size::There(size) => Some(size as usize),
+        Size::Wanted => None,
+        Size::Unstated => None,
+    }
+}
