@@ -66,7 +66,6 @@ def zsh(command):
     """The options that zsh completes for a command."""
     text = text_of("completions/_dbus-wire")
     lists = {name: body for name, body in re.findall(r"local -a (\w+)=\(\n(.*?)\n    \)", text, re.S)}
-    lists["going"] = re.search(r"local going=(.*)", text)[1]
     body = re.search(rf"^        (?:\w+ \| )*{command}(?: \| \w+)*\)\n(.*?);;", text, re.M | re.S)
     whole = body[1] if body else ""
     # A list may name another one.

@@ -4,6 +4,9 @@ any byte but those that say where the message ends loses that message at most. T
 
 The bytes that say where a message ends are its order byte and the lengths of its body and its header fields: 0, 4 to 7 and 12 to 15. If one of these is
 changed, what follows is read from another place on, or not at all. Then the messages before it are there, and how many are lost is counted and told.
+
+With `--resync` a change of any byte loses that message at most, unless the length that it changes leads to a later message; and 5 bytes that are cut out
+or 7 that are put in lose two at most. Both are counted and told, of some bytes of each message, or of each byte if the word `all` follows PROGRAM.
 """
 
 import concurrent.futures as futures
@@ -20,9 +23,15 @@ PLACED = (0, 4, 5, 6, 7, 12, 13, 14, 15)
 CHANGES = (0x01, 0x80, 0xFF)
 
 
-def ran(program, data):
-    """What `filter --keep-going` writes of some bytes, and how many messages it refuses."""
-    done = subprocess.run([program, "filter", "--keep-going", ""], input=data, capture_output=True)
+# How many bytes are stepped over between those that are asked of, and how many messages after one are there.
+STEP = 23
+BEHIND = 6
+CUT, PUT = 5, b"\x6c\x01\x00\x01lB\x00"
+
+
+def ran(program, data, option="--keep-going"):
+    """What `filter` writes of some bytes by this option, and how many messages it refuses."""
+    done = subprocess.run([program, "filter", option, ""], input=data, capture_output=True)
     return done.stdout, sum(it.startswith(b"refused at ") for it in done.stderr.splitlines())
 
 
@@ -75,21 +84,41 @@ def one_end(program, messages, number):
     return lost
 
 
-def one_sample(program, name):
+def is_saved(program, messages, number, damaged, most):
+    """Whether all messages are there but so many, from the damaged one on, if it and those behind it are read by `--resync`."""
+    before, behind = messages[max(0, number - 1) : number], messages[number + 1 : number + 1 + BEHIND]
+    written = ran(program, b"".join([*before, damaged, *behind]), "--resync")[0]
+    return written.startswith(b"".join(before)) and written.endswith(b"".join(behind[most - 1 :]))
+
+
+def one_resync(program, messages, number, step):
+    """How many changes of a message lose more than it, and how many cuts and insertions more than two."""
+    message = messages[number]
+    places = range(number % step, len(message), step)
+    changes = [not is_saved(program, messages, number, changed(message, at, it), 1) for at in places for it in CHANGES]
+    moves = [not is_saved(program, messages, number, it, 2) for at in places for it in (message[:at] + message[at + CUT :], message[:at] + PUT + message[at:])]
+    return len(changes), sum(changes), len(moves), sum(moves)
+
+
+def one_sample(program, name, step):
     messages = messages_of((SAMPLES / name).read_bytes())
     with futures.ThreadPoolExecutor(os.cpu_count()) as pool:
         all_of = list(pool.map(lambda it: one_message(program, it), messages))
         ends = sum(pool.map(lambda it: one_end(program, messages, it), range(0, len(messages), 16)), [])
+        by_resync = [sum(it) for it in zip(*pool.map(lambda it: one_resync(program, messages, it, step), range(len(messages))))]
     wrong = sum(not is_well for _, is_well in all_of) + ends.count(None)
     lost = sorted(it for it in ends if it is not None)
     print(f"{name}: {len(messages)} messages, {sum(it for it, _ in all_of)} changes that lose one at most; of {len(ends)} that say where a message ends "
           f"{sum(it <= 1 for it in lost)} do, and half lose {lost[len(lost) // 2]} or more; {wrong} wrong")
+    changes, lost_by_changes, moves, lost_by_moves = by_resync
+    print(f"{name}: with --resync {lost_by_changes} of {changes} changes lose more than one message, and {lost_by_moves} of {moves} cuts and insertions more than two")
     return wrong
 
 
 def main():
     program = sys.argv[1]
-    sys.exit(sum(one_sample(program, it) for it in ("session.dbus", "big-endian.dbus", "calls.dbus")) > 0)
+    step = 1 if sys.argv[2:] == ["all"] else STEP
+    sys.exit(sum(one_sample(program, it, step) for it in ("session.dbus", "big-endian.dbus", "calls.dbus")) > 0)
 
 
 main()

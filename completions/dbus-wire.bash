@@ -49,7 +49,7 @@ _dbus_wire() {
             COMPREPLY=($(compgen -W 'client server' -- "$word"))
             return
             ;;
-        --max-* | --skip | --limit | --width | --slower | --owner)
+        --max-* | --resync-window | --skip | --limit | --width | --slower | --owner)
             # A number, or NAME=UNIQUE.
             return
             ;;
@@ -60,32 +60,32 @@ _dbus_wire() {
             ;;
         filter)
             if [[ $word == -* ]]; then
-                COMPREPLY=($(compgen -W "--invert --owner --learn-owners --raw --skip --limit --check-rest --keep-going $options" -- "$word"))
+                COMPREPLY=($(compgen -W "--invert --owner --learn-owners --raw --skip --limit --check-rest --keep-going --resync --resync-window $options" -- "$word"))
             else
                 _dbus_wire_rule
             fi
             ;;
         show)
-            COMPREPLY=($(compgen -W "--time --escape --skip --limit --check-rest --keep-going $options" -- "$word"))
+            COMPREPLY=($(compgen -W "--time --escape --skip --limit --check-rest --keep-going --resync --resync-window $options" -- "$word"))
             ;;
         json)
-            COMPREPLY=($(compgen -W "--no-time --skip --limit --check-rest --keep-going $options" -- "$word"))
+            COMPREPLY=($(compgen -W "--no-time --skip --limit --check-rest --keep-going --resync --resync-window $options" -- "$word"))
             ;;
         list)
             if [[ $word == -* ]]; then
-                COMPREPLY=($(compgen -W "--width --invert --owner --learn-owners --skip --limit --check-rest --keep-going $options" -- "$word"))
+                COMPREPLY=($(compgen -W "--width --invert --owner --learn-owners --skip --limit --check-rest --keep-going --resync --resync-window $options" -- "$word"))
             else
                 _dbus_wire_rule
             fi
             ;;
         check)
-            COMPREPLY=($(compgen -W "--keep-going $options" -- "$word"))
+            COMPREPLY=($(compgen -W "--keep-going --resync --resync-window $options" -- "$word"))
             ;;
         count)
-            COMPREPLY=($(compgen -W "--keep-going $options" -- "$word"))
+            COMPREPLY=($(compgen -W "--keep-going --resync --resync-window $options" -- "$word"))
             ;;
         calls)
-            COMPREPLY=($(compgen -W "--members --unanswered --errors --slower --keep-going $options" -- "$word"))
+            COMPREPLY=($(compgen -W "--members --unanswered --errors --slower --keep-going --resync --resync-window $options" -- "$word"))
             ;;
         encode)
             COMPREPLY=($(compgen -W '--to --keep-going --max-line --max-message --max-array --max-depth --fds -h --help' -- "$word"))

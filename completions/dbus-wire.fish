@@ -45,6 +45,8 @@ complete -c dbus-wire -n '__fish_seen_subcommand_from show json list filter' -l 
 complete -c dbus-wire -n '__fish_seen_subcommand_from show json list filter' -l limit -x -d 'Most messages to write'
 complete -c dbus-wire -n '__fish_seen_subcommand_from show json list filter' -l check-rest -f -d 'Read and check the rest after these'
 complete -c dbus-wire -n '__fish_seen_subcommand_from show json list check count calls filter' -l keep-going -f -d 'Go on after a refused message'
+complete -c dbus-wire -n '__fish_seen_subcommand_from show json list check count calls filter' -l resync -f -d 'The same, and look for where messages begin again'
+complete -c dbus-wire -n '__fish_seen_subcommand_from show json list check count calls filter' -l resync-window -x -d 'The same within so many bytes'
 complete -c dbus-wire -n '__fish_seen_subcommand_from list' -l width -x -d 'Cells of a line'
 complete -c dbus-wire -n '__fish_seen_subcommand_from calls' -l members -f -d 'Sum the calls up by their members'
 complete -c dbus-wire -n '__fish_seen_subcommand_from calls' -l unanswered -f -d 'List the calls without a reply'

@@ -49,9 +49,13 @@ with_limits app = with_rule
 abbrev pub with_options : App → App
 with_options app = with_rule (with_limits (with_rule (with_rule app (flag_rule (codes "json"))) (flag_rule (codes "explain")))) (word_rule (codes "handshake"))
 
--- and with `--keep-going`, which all but `swap` have
+-- the most bytes that `--resync-window` names: 1 GiB
+abbrev pub most_window : ℕ
+most_window = 1073741824
+
+-- and with `--keep-going`, `--resync` and its window, which all but `swap` have
 abbrev pub with_keep_going : App → App
-with_keep_going app = with_options (with_rule app (flag_rule (codes "keep-going")))
+with_keep_going app = with_options (with_rule (with_rule (with_rule app (flag_rule (codes "keep-going"))) (flag_rule (codes "resync"))) (limit_rule (codes "resync-window") most_window))
 
 -- and with `--skip`, `--limit` and `--check-rest`, which `show`, `json`, `list` and `filter` have
 abbrev pub with_window : App → App

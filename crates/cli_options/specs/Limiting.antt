@@ -1,5 +1,5 @@
 -- The limits and the window that the options of a command name.
-use Rattle.std.specs.Prelude.{◌≡◌, ◌↔◌, ◌≤◌, ◌<◌, ◌^◌, ℕ, List, Option, Some, None, Result, Ok, Err, codes, zero, suc, Bool, true, false, ◌||◌}
+use Rattle.std.specs.Prelude.{◌≡◌, ◌↔◌, ◌⊎◌, ◌≤◌, ◌<◌, ◌^◌, ℕ, List, Option, Some, None, Result, Ok, Err, codes, zero, suc, Bool, true, false, ◌||◌}
 use Rattle.std.specs.Str.Parse.{IsNumeral, digits_value, without_leading_plus}
 use Rattle.clap.specs.Words.{Row, Text, first_of, one_of}
 use Rattle.dbus_value_model.specs.Specification.{specification}
@@ -8,6 +8,8 @@ use Rattle.dbus_value_model.specs.declared.fd_rule.FdRule.TheVariants.{Any, Belo
 use Rattle.dbus_value_model.specs.declared.limits.Limits.{Limits}
 use Rattle.cli_options.specs.declared.usage_fault.UsageFault.{UsageFault}
 use Rattle.cli_options.specs.declared.usage_fault.UsageFault.TheVariants.{Memory, Help, Version, Usage, Rule}
+use Rattle.cli_options.specs.declared.resync.Resync.{Resync}
+use Rattle.cli_options.specs.declared.resync.Resync.TheVariants.{Off, Within}
 use Rattle.cli_options.specs.declared.window.Window.{Window}
 use Rattle.cli_options.specs.declared.settings.Settings.{Settings}
 
@@ -62,6 +64,21 @@ pub record HasWindow (rows : List Row) (window : Window) : Type 0 where
   pub limit : IsGivenNumber (one_of (codes "limit") rows) window.limit
   pub checks_rest : (window.checks_rest ≡ true) ↔ IsGiven (codes "check-rest") rows
 
+-- messages are looked for again in a window of as many bytes as its option says, or of 1 MiB if
+-- only the flag is given; and not at all if neither is
+abbrev pub usual_window : ℕ
+usual_window = 1048576
+
+abbrev pub HasResync : List Row → Resync → Type 0
+HasResync rows Off = IsGivenNumber (one_of (codes "resync-window") rows) None × (IsGiven (codes "resync") rows → ⊥)
+HasResync rows (Within window) = IsGivenNumber (one_of (codes "resync-window") rows) (Some window)
+    ⊎ (IsGivenNumber (one_of (codes "resync-window") rows) None × IsGiven (codes "resync") rows × (window ≡ usual_window))
+
+-- so they are
+abbrev pub is_on : Resync → Bool
+is_on Off = false
+is_on (Within window) = true
+
 -- the cells of a line are as many as its option says, else 80, and a number of 16 bits
 abbrev pub HasWidth : List Row → ℕ → Type 0
 HasWidth rows width = IsNumberOf (one_of (codes "width") rows) 80 width × (width < 2 ^ 16)
@@ -77,6 +94,10 @@ HasLineLimit rows most = IsNumberOf (one_of (codes "max-line") rows) 1073741824 
 abbrev pub GivesLineLimit : List Row → Option ℕ → Type 0
 GivesLineLimit rows (Some most) = HasLineLimit rows most
 GivesLineLimit rows None = (most : ℕ) → HasLineLimit rows most → ⊥
+
+abbrev pub GivesResync : List Row → Option Resync → Type 0
+GivesResync rows (Some resync) = HasResync rows resync
+GivesResync rows None = (resync : Resync) → HasResync rows resync → ⊥
 
 abbrev pub GivesWindow : List Row → Option Window → Type 0
 GivesWindow rows (Some window) = HasWindow rows window

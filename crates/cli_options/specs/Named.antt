@@ -15,7 +15,7 @@ use Rattle.cli_options.specs.declared.file_form.FileForm.TheVariants as files
 use Rattle.dbus_handshake_input.specs.declared.side.Side.{Side}
 use Rattle.dbus_handshake_input.specs.declared.side.Side.TheVariants.{Client, Server}
 use Rattle.cli_options.specs.CommandLine.{wire_app}
-use Rattle.cli_options.specs.Limiting.{HasLimits, HasLineLimit, HasWidth, HasWindow, IsGiven, IsGivenNumber}
+use Rattle.cli_options.specs.Limiting.{HasLimits, HasLineLimit, HasResync, HasWidth, HasWindow, IsGiven, IsGivenNumber, is_on}
 use Rattle.cli_options.specs.Owners.{AreOwnersOf, IsOwnerWord}
 use Rattle.cli_options.specs.declared.asked.Asked.{Asked}
 use Rattle.cli_options.specs.declared.asked.Asked.TheVariants.{Messages, Count, List as Listing, Calls, Encode, Handshake}
@@ -86,13 +86,14 @@ NamesCommand name rows Check = name ≡ codes "check"
 NamesCommand name rows (Swap order form) = (name ≡ codes "swap") × (first_of (codes "to") rows ≡ Some (order_word order)) × HasFileForm rows form
 NamesCommand name rows (Filter selection form) = (name ≡ codes "filter") × IsSelectionGiven rows selection × HasFileForm rows form
 
--- the words after a subcommand name the limits, the side and the window, and have each flag that is
--- set and no other
+-- the words after a subcommand name the limits, the side and the windows, and have each flag that is
+-- set and no other; but the run goes on too if messages are looked for again
 pub record HasSettings (rows : List Row) (settings : Settings) : Type 0 where
   pub limits : HasLimits rows settings.limits
   pub as_json : (settings.as_json ≡ true) ↔ IsGiven (codes "json") rows
   pub explains : (settings.explains ≡ true) ↔ IsGiven (codes "explain") rows
-  pub keeps_going : (settings.keeps_going ≡ true) ↔ IsGiven (codes "keep-going") rows
+  pub keeps_going : (settings.keeps_going ≡ true) ↔ ((is_on settings.resync ≡ true) ⊎ IsGiven (codes "keep-going") rows)
+  pub resync : HasResync rows settings.resync
   pub handshake : HasSide rows settings.handshake
   pub window : HasWindow rows settings.window
 

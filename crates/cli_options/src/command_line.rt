@@ -8,8 +8,11 @@ ghost use Rattle.cli_options.specs.Told.{TellsKind, Tells, TellsCommand, TellsFa
 use crate::asked::Asked;
 use crate::command::Command;
 use crate::file_form::FileForm;
-use crate::limits_named::{given_named, limits_named, line_limit_named, width_named, window_named};
+use crate::limits_named::{
+    given_named, limits_named, line_limit_named, resync_named, width_named, window_named,
+};
 use crate::owners::owners_given;
+use crate::resync::Resync;
 use crate::rules::rules_spelled;
 use crate::selection::Selection;
 use crate::settings::Settings;
@@ -33,8 +36,9 @@ use std::alloc::Global;
 /// the words, and `--json` of `count` is its form too. `--raw`, of `filter` and `swap`, is the form
 /// in which they write messages. `--json`, `--members`, `--unanswered`, `--errors` and `--slower`,
 /// in milliseconds, of `calls` say what it lists. `--time` of `show` and `--no-time` of `json` say
-/// whether times are written. `--handshake` names the side whose handshake comes before the
-/// messages. `--skip` and `--limit`, of `show`, `json`, `list` and `filter`, are the numbers of the
+/// whether times are written. `--resync-window`, in bytes, is where messages are looked for behind a
+/// refused one; with `--resync` alone that has 1 MiB; and with each of the two `--keep-going` is
+/// set. `--handshake` names the side whose handshake comes before the messages. `--skip` and `--limit`, of `show`, `json`, `list` and `filter`, are the numbers of the
 /// window; without them it leaves no message out. `--check-rest` of these is set if it is among the
 /// words. `--width` of `list` is the number of cells of its lines; without it they have 80. The
 /// words that stand alone after `list` and `filter` are rules, and `--invert`, `--owner` and
@@ -175,12 +179,15 @@ fn settings_named(alloc: Global, inner: &ArgMatches) -> Result<Settings, UsageFa
     let limits = limits_named(alloc, inner)?;
     let handshake = side_named(alloc, inner)?;
     let window = window_named(alloc, inner)?;
+    let resync = resync_named(alloc, inner)?;
     let as_json = is_given(inner, "json");
+    let is_on = !matches!(resync, Resync::Off);
     Ok(Settings {
         limits,
         as_json,
         explains: is_given(inner, "explain"),
-        keeps_going: is_given(inner, "keep-going"),
+        keeps_going: is_on || is_given(inner, "keep-going"),
+        resync,
         handshake,
         window,
     })

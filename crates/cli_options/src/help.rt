@@ -12,7 +12,9 @@ macro_rules! more {
   `refused at P: NAME in message N at O`, and the next one is read: in a capture
   that of the next packet, raw if its first 16 bytes state its size. If any was
   refused, the last such line is `N messages B bytes, K passed over C bytes`,
-  and then `, the last one cut off` if the input ends within that one.",
+  and then `, the last one cut off` if the input ends within that one. With
+  --resync raw messages are read on where that size leads, if a message begins
+  there or the input ends; and else at the first message in the window.",
             $example
         )
     };
@@ -352,6 +354,12 @@ pub(crate) const EXPLAIN: &str = "Explains what is refused, in more lines";
 
 /// What `--keep-going` of all commands but `swap` does.
 pub(crate) const KEEP_GOING: &str = "Goes on after a refused message";
+
+/// What `--resync` of these does.
+pub(crate) const RESYNC: &str = "Keeps going where messages begin again, in 1 MiB";
+
+/// What the window of `--resync` is.
+pub(crate) const RESYNC_WINDOW: &str = "The same in N bytes: 0 to 1073741824";
 
 /// How many messages are skipped.
 pub(crate) const SKIP: &str = "Messages to skip first: 0, the default, to 4294967295";

@@ -1,8 +1,9 @@
 //! The limits, the window and the width that the options of a command name.
 ghost use Rattle.clap.specs.Words.{found_of, one_of, rows_of};
-ghost use Rattle.cli_options.specs.Limiting.{GivesGiven, GivesNumber, GivesNumbers, GivesLineLimit, GivesWidth, GivesWindow, HasLimits, HasWindow, IsFdsOf, TellsNamed};
+ghost use Rattle.cli_options.specs.Limiting.{GivesGiven, GivesNumber, GivesNumbers, GivesLineLimit, GivesResync, GivesWidth, GivesWindow, HasLimits, HasResync, HasWindow, IsFdsOf, TellsNamed};
 
 use crate::command_line::is_given;
+use crate::resync::Resync;
 use crate::usage_fault::{UsageFault, bad_value, usage};
 use crate::window::Window;
 use clap::ArgMatches;
@@ -14,6 +15,9 @@ const USUAL_WIDTH: u32 = 80;
 
 // The bytes that a line may have, if no number is given: 1 GiB.
 const USUAL_LINE: u32 = 1_073_741_824;
+
+// The bytes of the window in which messages are looked for, if no number is given: 1 MiB.
+const USUAL_WINDOW: u32 = 1_048_576;
 
 /// The limits that the options name. `Usage`: one of them is given what it may not be. `Memory`: an
 /// allocation failed.
@@ -87,6 +91,33 @@ fn window_of(inner: &ArgMatches) -> Option<Window>
         limit,
         checks_rest: is_given(inner, "check-rest"),
     })
+}
+
+/// Whether, and in which window, messages are looked for again by the options. `Usage`: they are
+/// given what they may not be. `Memory`: an allocation failed.
+pub(crate) fn resync_named(alloc: Global, inner: &ArgMatches) -> Result<Resync, UsageFault>
+    ensures { TellsNamed (HasResync (rows_of (found_of inner.now))) result }
+{
+    match resync_of(inner) {
+        Some(resync) => Ok(resync),
+        None => Err(usage(alloc, "error: no window\n")),
+    }
+}
+
+// The same, or nothing if an option is given no number that it may be.
+fn resync_of(inner: &ArgMatches) -> Option<Resync>
+    ensures { GivesResync (rows_of (found_of inner.now)) result }
+{
+    match given_named(inner, "resync-window")? {
+        Some(window) => Some(Resync::Within(window)),
+        None => {
+            if is_given(inner, "resync") {
+                Some(Resync::Within(USUAL_WINDOW))
+            } else {
+                Some(Resync::Off)
+            }
+        }
+    }
 }
 
 /// The cells of a line that the options name, 80 if they name none. Nothing, if they are given no

@@ -2,6 +2,7 @@
 ghost use Rattle.std.specs.Prelude.{◌≡◌};
 ghost use Rattle.cli_options.specs.Limiting.{ask_more};
 
+use crate::resync::Resync;
 use crate::window::Window;
 use dbus_handshake_input::Side;
 use dbus_value_model::Limits;
@@ -18,6 +19,8 @@ pub struct Settings {
     pub explains: bool,
     /// Whether the messages after a refused one are read too.
     pub keeps_going: bool,
+    /// Whether it is looked for then where messages begin again.
+    pub resync: Resync,
     /// The side whose handshake comes before the messages, if one does.
     pub handshake: Option<Side>,
     /// Which of the messages that the command selects are written.

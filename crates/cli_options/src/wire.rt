@@ -13,6 +13,9 @@ use std::alloc::{AllocError, Global};
 // The most bytes of a line of `encode`: 1 GiB.
 const MOST_LINE: u32 = 1_073_741_824;
 
+// The most bytes of the window in which messages are looked for: 1 GiB.
+const MOST_WINDOW: u32 = 1_073_741_824;
+
 // The most cells of a line: the greatest number of 16 bits.
 const MOST_CELLS: u32 = 65_535;
 
@@ -137,7 +140,8 @@ fn with_options<'a>(
     )
 }
 
-// The command with `--keep-going` and the options that each command takes.
+// The command with `--keep-going`, `--resync` and its window, and the options that each command
+// takes.
 fn with_keep_going<'a>(
     alloc: Global,
     command: Result<Command<'a>, AllocError>,
@@ -146,7 +150,9 @@ fn with_keep_going<'a>(
     ensures { (app : App) → IfOk command.entry (IsLocal app) → IfOk result (IsLocal (with_keep_going app)) }
 {
     let going = with_arg(command, flag(alloc, "keep-going", help::KEEP_GOING));
-    with_options(alloc, going, json)
+    let seeking = with_arg(going, flag(alloc, "resync", help::RESYNC));
+    let window = limit_option(alloc, "resync-window", MOST_WINDOW, help::RESYNC_WINDOW);
+    with_options(alloc, with_arg(seeking, window), json)
 }
 
 // The command with `--skip`, `--limit`, `--check-rest`, `--keep-going` and the options that each

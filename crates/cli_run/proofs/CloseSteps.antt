@@ -52,7 +52,7 @@ module _ {R A S : Type 0} {takes : S → S → List Placed → (told : List ℕ)
           wanted = h.wanted;
           unfilled = λ never. absurd never;
           more = h.text;
-          all = inr (h.through.kept, fault, h.through.tells, h.through.cut, h.through.last, subst (λ (n : ℕ). HasLastLine run.is_check run.settings.keeps_going n fault) passed c.1);
+          all = inr (inl (h.through.kept, fault, h.through.tells, h.through.cut, h.through.last, subst (λ (n : ℕ). HasLastLine run.is_check run.settings.keeps_going n fault) passed c.1));
           caused = h.through.read_failed;
           came = subst (λ (s : S). leaves run.s0 s all (h.told ++ h.text) (ByCause Memory)) (sym c.0) (laws.rests run.s0 s1 all (h.told ++ h.text) h.came rests).0;
         }

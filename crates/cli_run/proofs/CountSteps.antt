@@ -3,7 +3,7 @@
 use Rattle.std.proofs.Common.{◌≡◌, ℕ, ◌+◌, ◌-◌, Bool, false, true, List, [], ◌++◌, Option, None, Some, Result, Ok, Err, length, length-append, refl, sym, ◌∙◌, inl, inr, arith, subst, ap}
 use Rattle.std.proofs.Math.Path.{transport}
 use Rattle.std.specs.Io.KnownBytes.{IsAtEnd}
-use Rattle.std.proofs.lemmas.Bool.{or_parts}
+use Rattle.std.proofs.lemmas.Bool.{false≢true, or_parts}
 use Rattle.dbus_value_model.specs.declared.fault.Fault.{Fault}
 use Rattle.dbus_value_model.specs.declared.limits.Limits.{Limits}
 use Rattle.dbus_device.specs.Device.{RisesBy, Wrote}
@@ -42,7 +42,7 @@ use Rattle.cli_run.specs.declared.visitor.RunStop.TheVariants.{Cause as ByCause}
 use Rattle.cli_run.proofs.GoSteps.{wholes_tally}
 use Rattle.cli_run.proofs.HandSteps.{Faults}
 use Rattle.cli_run.proofs.KnownPackets.{refused_there}
-use Rattle.cli_run.proofs.PartLaws.{is_last, parts_of, sizes-wholes, some_placed, told_of}
+use Rattle.cli_run.proofs.PartLaws.{is_last, parts_of, reach_wholes, sizes-wholes, some_placed, told_of}
 use Rattle.cli_run.specs.declared.by_name.Counter.{Counter}
 use Rattle.cli_run.proofs.EndSteps.{goes_as, stops_as, through_by}
 use Rattle.cli_run.proofs.Wanted.{wanted_all}
@@ -124,6 +124,7 @@ module _ {R : Type 0} (left : R → Option (List ℕ)) (calls failures : R → �
     consumed = h.consumed;
     called = (h.count, omega (arith, h.reads, h.most_reads, is.reads, new.few_reads), h.called);
     begin = parts_of settings.limits h.bytes items rest h.messages;
+    ends = λ reached. absurd (false≢true (sym (reach_wholes items) ∙ reached));
     tells = told_of (packets (source_of old)) settings 1 0 items;
   }
 
@@ -166,7 +167,7 @@ module _ {R : Type 0} (left : R → Option (List ℕ)) (calls failures : R → �
           fault_is = a.fault_is;
           told = subst (λ n. IsToldLast (packets (source_of old)) settings (length (wholes a.items) + 1) n a.rest counted.fault (fault_line counted.size counted.fault packet_last)) (size ∙ sym (sizes-wholes a.items)) told;
         };
-        last = is_last (packets (source_of old)) settings.keeps_going settings.limits (sizes_of (wholes a.items)) a.rest a.outcome (IsAtEnd (left (source_of new))) plain_told.1
+        last = is_last (packets (source_of old)) settings settings.limits (sizes_of (wholes a.items)) a.rest a.outcome (IsAtEnd (left (source_of new))) plain_told.1
             (λ none. a.read.at_end (λ e. absurd (both_ways _ e is.ended)) (a.ended none));
         read_failed = a.failed;
       }

@@ -126,7 +126,7 @@ unread left calls read_failures packets r held failures w second_held second_fai
         parts = [];
         rest = [];
         told = [];
-        covers = record { bytes = []; consumed = Consumes-nil (left r); called = (0, omega arith, omega arith); begin = refl; tells = refl };
+        covers = record { bytes = []; consumed = Consumes-nil (left r); called = (0, omega arith, omega arith); begin = refl; ends = λ e. absurd (false≢true e); tells = refl };
         more = [];
         all = inl refl;
         caused = refl;

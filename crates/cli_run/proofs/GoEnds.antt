@@ -1,6 +1,6 @@
 -- How a turn of a run that passes over refused messages ends: the input ends, or a message is
 -- refused, and passed over or not.
-use Rattle.std.proofs.Common.{◌≡◌, ℕ, ◌+◌, ◌-◌, ◌<◌, ◌≤◌, List, [], ◌∷◌, ◌++◌, Bool, true, false, ◌⊎◌, ◌&&◌, not, is_some, Option, None, Some, Result, Ok, Err, drop, length, refl, sym, ap, ◌∙◌, subst, arith, inl, inr, append_assoc, append-nil, length-append}
+use Rattle.std.proofs.Common.{◌≡◌, ℕ, ◌+◌, ◌*◌, ◌-◌, ◌||◌, ◌<◌, ◌≤◌, List, [], ◌∷◌, ◌++◌, Bool, true, false, ◌⊎◌, is_some, Option, None, Some, Result, Ok, Err, drop, length, refl, sym, ap, ◌∙◌, subst, arith, inl, inr, append_assoc, append-nil, length-append}
 use Rattle.std.proofs.Math.Path.{transport}
 use Rattle.std.proofs.Math.Seq.{drop-append_seam}
 use Rattle.std.specs.Option.{is_none}
@@ -14,11 +14,14 @@ use Rattle.dbus_header.proofs.OutcomeLaws.{nothing_partial}
 use Rattle.dbus_device.specs.Device.{one_more}
 use Rattle.dbus_device.specs.Packets.{Packets}
 use Rattle.dbus_device.specs.declared.packet.Packet.{Packet}
-use Rattle.dbus_stream.specs.Cut.{CutOutcome, Ended, Refused, IsOutcome}
-use Rattle.dbus_stream.specs.CutEnds.{fault_at_end}
+use Rattle.dbus_resync.specs.declared.found.Found.{Found}
+use Rattle.dbus_resync.specs.declared.found.Found.TheVariants.{At, Nowhere, Spent}
+use Rattle.dbus_stream.specs.Cut.{CutOutcome, Ended, Unfinished, Refused, IsOutcome}
+use Rattle.dbus_stream.specs.CutEnds.{fault_at_end, truncated}
+use Rattle.dbus_stream.specs.GoingOn.{IsFoundIn, Resyncs}
 use Rattle.dbus_stream.specs.Gathering.{gathering, under_way}
 use Rattle.dbus_stream.specs.Lasting.{is_truncated}
-use Rattle.dbus_stream.specs.Next.{DeviceCounts}
+use Rattle.dbus_stream.specs.Next.{DeviceCounts, IsCutShort}
 use Rattle.dbus_stream.specs.Packed.{number_of as packed_number}
 use Rattle.dbus_stream.specs.Passing.{IsRefusal, PassAnswers, Passing}
 use Rattle.dbus_stream.specs.PassingPackets.{DropsAll, IsBeforeOther, PacketAnswers, PassesPacket, ReadsOnward}
@@ -31,10 +34,12 @@ use Rattle.dbus_stream.specs.declared.raw_reader.RawReader.{RawReader}
 use Rattle.dbus_stream.specs.declared.read_fault.ReadFault.{ReadFault}
 use Rattle.dbus_stream.specs.declared.read_fault.ReadFault.TheVariants as read
 use Rattle.dbus_stream.proofs.FaultPackets.{refused_later}
-use Rattle.cli_run.specs.Going.{IsAllOf, cause_of, AreTold, IsTold, IsToldRefused, cut_tally, passed_count, passed_sizes, tally_with}
-use Rattle.cli_run.specs.Inputs.{AreInPacket, BeginWithParts, GoesPast, HasSize, IsCutOff, IsInOther, IsLast, IsPassedBy, IsTellable, PassedOver, Placed, sizes_of}
+use Rattle.cli_options.specs.declared.resync.Resync.{Resync}
+use Rattle.cli_options.specs.declared.resync.Resync.TheVariants.{Off, Within as Sought}
+use Rattle.cli_run.specs.Going.{IsAllOf, IsSought, cause_of, AreTold, IsTold, IsToldRefused, cut_tally, passed_count, passed_sizes, tally_with}
+use Rattle.cli_run.specs.Inputs.{AreInPacket, BeginNowhere, BeginWithParts, By, GoesPast, InPacket, IsCutOff, IsCutUnpassed, IsFaultOf, IsInOther, IsLast, IsPart, IsPassedBy, IsTellable, IsUnpassed, PassedOver, Placed, ResumeIn, Resumed, Stated, effort_of, is_there, is_to_end, reach_end, sizes_of}
 use Rattle.cli_run.specs.Onward.{HasKnownPackets, HasRead, stop_of}
-use Rattle.cli_run.specs.PassingOn.{PassesInPacket, PassesOn, is_by_packet}
+use Rattle.cli_run.specs.PassingOn.{BySize, PassesInPacket, PassesOn, Resyncing, ToNext, ToPacket, Way, passed_by, way_of}
 use Rattle.cli_run.specs.Refusals.{IsRefusedIn, number_of}
 use Rattle.cli_run.specs.Visiting.{AddsUp, Tells}
 use Rattle.cli_report.specs.declared.telling.RefusedMessage.{RefusedMessage}
@@ -44,8 +49,9 @@ use Rattle.cli_run.specs.declared.counted.Counted.{Counted}
 use Rattle.cli_run.specs.declared.tally.Tally.{Tally}
 use Rattle.cli_run.specs.declared.visitor.RunStop.{RunStop}
 use Rattle.cli_run.specs.declared.visitor.RunStop.TheVariants.{Cause as ByCause, Untold}
-use Rattle.cli_run.proofs.PartLaws.{parts_more, placed_past, size_kept, sizes-both, passed-both, passed_sizes-both}
+use Rattle.cli_run.proofs.PartLaws.{is_fault_of, part_some, parts_more, placed_past, sizes-both, passed-both, passed_sizes-both}
 use Rattle.cli_run.proofs.ReadSteps.{read_none, read_on}
+use Rattle.cli_run.proofs.Ways.{way_cut, way_next, way_packet, way_size}
 use Rattle.cli_run.proofs.GoSteps.{fresh, Begun, Fills, HasCovered, HasEnded, HasGone, HasReached, refused_is, none_is, covers_read, covers, packets_of, Took, Within, Through, Stopped, More, stops_plain, all_called}
 
 -- the number of a packet, as both have it
@@ -53,16 +59,10 @@ same_number : (p : Option Packet) → number_of p ≡ packed_number p
 same_number None = refl
 same_number (Some packet) = refl
 
--- what has a packet and is not cut off is passed over by it
-untruncated : (p : Option ℕ) (cut : Bool) → is_some p && not cut ≡ true → (is_some p ≡ true) × (cut ≡ false)
-untruncated None cut e = absurd (false≢true e)
-untruncated (Some n) true e = absurd (false≢true e)
-untruncated (Some n) false e = (refl, refl)
-
-none_by : (p : Option ℕ) (cut : Bool) → is_some p && not cut ≡ false → cut ≡ false → p ≡ None
-none_by None cut e f = refl
-none_by (Some n) true e f = absurd (false≢true (sym f))
-none_by (Some n) false e f = absurd (false≢true (sym e))
+-- one of two that are not both
+or_last : (a : Bool) → a || false ≡ true → a ≡ true
+or_last true e = refl
+or_last false e = e
 
 module _ {R A S : Type 0} {takes : S → S → List Placed → (told : List ℕ) → Type 0} {leaves : S → S → List Placed → (told : List ℕ) → RunStop → Type 0} {settled : S → Type 0} {full : S → Bool} (laws : AddsUp takes leaves settled full)
     {run : Begun R A S} {mid : RawReader R A} {counted : Counted} {tally : Tally} {s1 : S} (h : HasReached run takes full mid counted tally s1) where
@@ -87,7 +87,7 @@ module _ {R A S : Type 0} {takes : S → S → List Placed → (told : List ℕ)
           tally_is = g.tally_is;
           kept = kept mid;
           tells = record { outcome = h.outcome; outcome_is = h.outcome_is; fault_is = no_fault; told = refl };
-          last = subst (λ o. IsLast (packets_of run) None run.settings.keeps_going run.settings.limits (sizes_of g.parts) (kept mid) (kept mid) o (IsAtEnd (run.left (source_of mid)))) (sym ended) (refl, at_end);
+          last = subst (λ o. IsLast (packets_of run) None run.settings run.settings.limits (sizes_of g.parts) (kept mid) (kept mid) o (IsAtEnd (run.left (source_of mid)))) (sym ended) (refl, at_end);
           read_failed = g.failed;
         };
         messages = items;
@@ -127,7 +127,7 @@ module _ {R A S : Type 0} {takes : S → S → List Placed → (told : List ℕ)
     -- all was read up to the rest
     abbrev through : (new : RawReader R A) (cut : Option (Option ℕ)) (ended : Tally) (text rest : List ℕ) (outcome : CutOutcome) → ended ≡ tally_with cut h.gone.parts rest → Due text → IsOutcome run.settings.limits (kept mid) outcome
         → Some fault ≡ fault_at_end (kept mid) outcome → HasCovered run new h.gone.parts rest h.gone.told
-        → IsLast (packets_of run) cut run.settings.keeps_going run.settings.limits (sizes_of h.gone.parts) (kept mid) rest outcome (IsAtEnd (run.left (source_of new)))
+        → IsLast (packets_of run) cut run.settings run.settings.limits (sizes_of h.gone.parts) (kept mid) rest outcome (IsAtEnd (run.left (source_of new)))
         → run.failures (source_of new) ≡ run.failures (source_of mid) → Through run new ended (Some fault) h.gone.told text
     through new cut ended text rest outcome tally_is told outcome_is fault_is covered last same = record {
       parts = h.gone.parts;
@@ -141,24 +141,46 @@ module _ {R A S : Type 0} {takes : S → S → List Placed → (told : List ℕ)
       read_failed = same ∙ h.gone.failed;
     }
 
-    -- it could not be passed over: it is of no packet, and states no size
+    -- the message that is refused, and how it is passed over
+    abbrev refusal : RefusedMessage
+    refusal = record { number = counted.count + 1; offset = counted.size; fault = fault; packet = packet }
+
+    abbrev limits_are : limits_of mid ≡ run.settings.limits
+    limits_are = h.gone.covered.limits_are
+
+    abbrev way : Way
+    way = way_of refusal run.settings.resync
+
+    -- it could not be passed over by a size, since it states none
     abbrev IsUnsized : Type 0
-    IsUnsized = (other : Fault) → IsRefusal (stopped_of mid) other → StatesNone (limits_of mid) (kept mid) × (packet ≡ None)
+    IsUnsized = (way ≡ BySize) × ((other : Fault) → IsRefusal (stopped_of mid) other → StatesNone (limits_of mid) (kept mid))
+
+    -- its packet, or that it is of none
+    refused_by : (by : Option ℕ) → packet ≡ by → IsRefusedIn (packets_of run) run.settings.limits (sizes_of h.gone.parts) (kept mid) by
+    refused_by by is = subst (λ (p : Option ℕ). IsRefusedIn (packets_of run) run.settings.limits (sizes_of h.gone.parts) (kept mid) p) is refused_at
+
+    -- why it was not passed over then
+    cut_unsized : (at_end : Type 0) (r : Resync) → run.settings.resync ≡ r → IsUnsized → IsCutUnpassed (packets_of run) r run.settings.limits (sizes_of h.gone.parts) (kept mid) (kept mid) at_end
+    cut_unsized at_end Off is unsized = tt
+    cut_unsized at_end (Sought w) is unsized = (packet, refused_at, λ none. absurd (way_cut packet (is_truncated fault.reason) w (subst (λ (r : Resync). way_of refusal r ≡ BySize) is unsized.0) none))
+
+    unsized_is : (at_end : Type 0) → IsUnsized → is_truncated fault.reason ≡ false → IsUnpassed (packets_of run) run.settings.resync run.settings.limits (sizes_of h.gone.parts) (kept mid) (kept mid) at_end
+    unsized_is at_end unsized whole =
+        let by = way_size packet (is_truncated fault.reason) run.settings.resync unsized.0 whole in
+        subst (λ (r : Resync). IsUnpassed (packets_of run) r run.settings.limits (sizes_of h.gone.parts) (kept mid) (kept mid) at_end) (sym by.1)
+        (refused_by None by.0, subst (λ (l : Limits). StatesNone l (kept mid)) limits_are (unsized.1 fault (stopped_last, whole)))
 
     -- why nothing follows if nothing was passed over
     last_is : (outcome : CutOutcome) → Some fault ≡ fault_at_end (kept mid) outcome → (((f : Fault) → outcome ≡ Refused f → ⊥) → IsAtEnd (run.left (source_of mid))) → (run.settings.keeps_going ≡ true → IsUnsized)
-        → IsLast (packets_of run) None run.settings.keeps_going run.settings.limits (sizes_of h.gone.parts) (kept mid) (kept mid) outcome (IsAtEnd (run.left (source_of mid)))
+        → IsLast (packets_of run) None run.settings run.settings.limits (sizes_of h.gone.parts) (kept mid) (kept mid) outcome (IsAtEnd (run.left (source_of mid)))
     last_is (Refused other) e at_end none =
         let same : fault ≡ other = cc in (
           ([], sym (append-nil (kept mid))),
           λ _. refl,
-          λ goes whole.
-              let unsized = none goes other (stopped_last ∙ ap (λ (f : Fault). Some (read.Format f)) same, whole) in (
-                subst (λ (l : Limits). StatesNone l (kept mid)) h.gone.covered.limits_are unsized.0,
-                subst (λ (p : Option ℕ). IsRefusedIn (packets_of run) run.settings.limits (sizes_of h.gone.parts) (kept mid) p) unsized.1 refused_at,
-              ),
+          λ goes whole. unsized_is (IsAtEnd (run.left (source_of mid))) (none goes) (subst (λ (f : Fault). is_truncated f.reason ≡ false) (sym same) whole),
         )
-    last_is outcome e at_end none = (refl, at_end (λ f is. absurd cc))
+    last_is Unfinished e at_end none = (refl, at_end (λ f is. absurd cc), λ goes. cut_unsized (IsAtEnd (run.left (source_of mid))) run.settings.resync refl (none goes))
+    last_is Ended e at_end none = absurd cc
 
     -- nothing was passed over, if the run is not to go on, or could not
     abbrev through_there : (text : List ℕ) → Due text → (run.settings.keeps_going ≡ true → IsUnsized) → Through run mid tally (Some fault) h.gone.told text
@@ -208,89 +230,182 @@ module _ {R A S : Type 0} {takes : S → S → List Placed → (told : List ℕ)
     some_kept : IsRefused run.settings.limits (kept mid) fault → 0 < length (kept mid)
     some_kept refused = refused_later run.settings.limits 0 (kept mid) fault (nothing_partial run.settings.limits) refused
 
-    -- the message that is refused, and how it is passed over
-    abbrev refusal : RefusedMessage
-    refusal = record { number = counted.count + 1; offset = counted.size; fault = fault; packet = packet }
-
-    abbrev limits_are : limits_of mid ≡ run.settings.limits
-    limits_are = h.gone.covered.limits_are
+    -- it is refused, or the input ends within it
+    either : (outcome : CutOutcome) → IsOutcome run.settings.limits (kept mid) outcome → Some fault ≡ fault_at_end (kept mid) outcome → (((f : Fault) → outcome ≡ Refused f → ⊥) → is_ended mid ≡ true)
+        → IsRefused run.settings.limits (kept mid) fault ⊎ ((is_ended mid ≡ true) × IsCutShort run.settings.limits (kept mid) fault)
+    either Ended o e ended = absurd cc
+    either Unfinished o e ended = let same : fault ≡ truncated (kept mid) = cc in inr (ended (λ f is. absurd cc), (o.0, o.1, same))
+    either (Refused other) o e ended = let same : other ≡ fault = cc in inl (subst (λ (f : Fault). IsRefused run.settings.limits (kept mid) f) same o)
 
     module _ (new : RawReader R A) where
       -- what is known of what it dropped
       abbrev IsInput : Result Passed ReadFault → Type 0
-      IsInput res = is_by_packet refusal ≡ true → PassesInPacket run.packets run.packet mid new res
+      IsInput res = way ≡ ToPacket → PassesInPacket run.packets run.packet mid new res
 
       abbrev PassedBy : Result Passed ReadFault → Type 0
-      PassedBy res = PassesOn run.left run.calls run.packet mid new (is_by_packet refusal) res
+      PassedBy res = PassesOn run.left run.calls run.packet mid new way res
+
+      -- it was passed over
+      record IsPassedOver (rest : List ℕ) : Type 0 where
+        by : By
+        size : ℕ
+        part : IsPart run.settings.limits rest (PassedOver (kept mid) fault by size)
+        passed : IsPassedBy (packets_of run) run.settings.resync run.settings.limits (sizes_of h.gone.parts) (kept mid) by size
+        kept_is : kept new ≡ drop size rest
+        done_is : done_of new ≡ done_of mid + size
+        stopped_is : stopped_of new ≡ None
+        ends : is_to_end by ≡ true → is_ended new ≡ true
+
+      -- not all of it came
+      abbrev IsPast : List ℕ → Type 0
+      IsPast rest = IsRefused run.settings.limits (kept mid) fault × GoesPast (packets_of run) run.settings.resync run.settings.limits (sizes_of h.gone.parts) (kept mid) rest packet
+
+      -- it was looked for where messages begin again
+      abbrev IsSeeking : Type 0
+      IsSeeking = (window : ℕ) × (packet ≡ None) × (run.settings.resync ≡ Sought window)
+
+      abbrev IsLost : List ℕ → Type 0
+      IsLost rest = (window : ℕ) × (packet ≡ None) × (run.settings.resync ≡ Sought window) × BeginNowhere run.settings.limits window rest (is_ended new ≡ true)
+
+      abbrev StatesNoSize : List ℕ → Type 0
+      StatesNoSize rest = IsRefused run.settings.limits (kept mid) fault × (packet ≡ None) × (run.settings.resync ≡ Off) × StatesNone run.settings.limits rest
 
       -- what came of it
-      abbrev CameTo : (rest : List ℕ) (by : Option ℕ) → Result Passed ReadFault → Type 0
-      CameTo rest by (Ok Over) = (size : ℕ) × HasSize run.settings.limits (kept mid) rest by size × IsPassedBy (packets_of run) run.settings.limits (sizes_of h.gone.parts) (kept mid) by size
-          × (kept new ≡ drop size rest) × (done_of new ≡ done_of mid + size) × (stopped_of new ≡ None)
-      CameTo rest by (Ok CutOff) = GoesPast (packets_of run) run.settings.limits (sizes_of h.gone.parts) (kept mid) rest by × (is_ended new ≡ true) × (done_of new ≡ done_of mid + length rest)
-      CameTo rest by (Ok Not) = StatesNone run.settings.limits rest × (by ≡ None)
-      CameTo rest by (Err read.Device) = GoesPast (packets_of run) run.settings.limits (sizes_of h.gone.parts) (kept mid) rest by
-      CameTo rest by (Err read.TooManyReads) = GoesPast (packets_of run) run.settings.limits (sizes_of h.gone.parts) (kept mid) rest by × (reads_of new ≡ most_reads_of new)
-      CameTo rest by res = ⊥
+      abbrev CameTo : (rest : List ℕ) → Result Passed ReadFault → Type 0
+      CameTo rest (Ok Over) = IsPassedOver rest
+      CameTo rest (Ok CutOff) = IsPast rest × (is_ended new ≡ true) × (done_of new ≡ done_of mid + length rest)
+      CameTo rest (Ok Not) = StatesNoSize rest ⊎ IsLost rest
+      CameTo rest (Err read.Device) = IsPast rest ⊎ IsSeeking
+      CameTo rest (Err read.TooManyReads) = (IsPast rest ⊎ IsSeeking) × (reads_of new ≡ most_reads_of new)
+      CameTo rest (Err read.Memory) = IsSeeking
+      CameTo rest res = ⊥
 
       abbrev HasReadTo : List ℕ → Type 0
       HasReadTo rest = HasRead gathering run.left run.calls run.settings.limits (kept mid) mid.reader new.reader [] rest
 
       record HasOnward (res : Result Passed ReadFault) : Type 0 where
-        refused : IsRefused run.settings.limits (kept mid) fault
         rest : List ℕ
         reads : HasReadTo rest
-        came_to : CameTo rest packet res
+        came_to : CameTo rest res
 
       -- by the size that it states: no byte of it was dropped before
-      module _ (plain : is_by_packet refusal ≡ false) where
-        no_packet : (other : Fault) → IsRefusal (stopped_of mid) other → packet ≡ None
-        no_packet other refused =
+      module _ (sized : way ≡ BySize) where
+        whole_other : (other : Fault) → IsRefusal (stopped_of mid) other → is_truncated fault.reason ≡ false
+        whole_other other refused =
             let same : other ≡ fault = (let both = sym refused.0 ∙ stopped_last in cc) in
-            none_by packet (is_truncated fault.reason) plain (subst (λ (f : Fault). is_truncated f.reason ≡ false) same refused.1)
+            subst (λ (f : Fault). is_truncated f.reason ≡ false) same refused.1
 
-        refused_plain : (other : Fault) → IsRefusal (stopped_of mid) other → IsRefusedIn (packets_of run) run.settings.limits (sizes_of h.gone.parts) (kept mid) None
-        refused_plain other refused = subst (λ (p : Option ℕ). IsRefusedIn (packets_of run) run.settings.limits (sizes_of h.gone.parts) (kept mid) p) (no_packet other refused) refused_at
+        way_plain : (other : Fault) → IsRefusal (stopped_of mid) other → (packet ≡ None) × (run.settings.resync ≡ Off)
+        way_plain other refused = way_size packet (is_truncated fault.reason) run.settings.resync sized (whole_other other refused)
 
-        came_by_size : (rest : List ℕ) (other : Fault) → IsRefusal (stopped_of mid) other → (res : Result Passed ReadFault) → PassAnswers [] rest mid new res → CameTo rest None res
-        came_by_size rest other refused (Ok Over) p =
-            let done = p.done in (
-              p.size,
-              (subst (λ (l : Limits). StatesSize l rest p.size) limits_are p.states, p.there),
-              refused_plain other refused,
-              p.kept,
-              omega (arith, done),
-              p.stopped,
+        past_plain : (rest : List ℕ) (other : Fault) → IsRefusal (stopped_of mid) other → WantsMore (limits_of mid) rest → IsPast rest
+        past_plain rest other refused wants =
+            let plain = way_plain other refused in (
+              met other refused,
+              subst (λ (p : Option ℕ). GoesPast (packets_of run) run.settings.resync run.settings.limits (sizes_of h.gone.parts) (kept mid) rest p) (sym plain.0)
+                  (plain.1, subst (λ (l : Limits). WantsMore l rest) limits_are wants),
             )
-        came_by_size rest other refused (Ok CutOff) p = let done = p.1.done in (subst (λ (l : Limits). WantsMore l rest) limits_are p.0, p.2, omega (arith, done))
-        came_by_size rest other refused (Ok Not) p = (subst (λ (l : Limits). StatesNone l rest) limits_are p.0, refl)
-        came_by_size rest other refused (Err read.Device) p = subst (λ (l : Limits). WantsMore l rest) limits_are p.0
-        came_by_size rest other refused (Err read.TooManyReads) p = (subst (λ (l : Limits). WantsMore l rest) limits_are p.0, p.2)
-        came_by_size rest other refused res p = absurd p
+
+        came_by_size : (more : List ℕ) (other : Fault) → IsRefusal (stopped_of mid) other → (res : Result Passed ReadFault) → PassAnswers [] (kept mid ++ more) mid new res → CameTo (kept mid ++ more) res
+        came_by_size more other refused (Ok Over) p =
+            let done = p.done in
+            let plain = way_plain other refused in
+            record {
+              by = Stated;
+              size = p.size;
+              part = ((more, refl), met other refused, (subst (λ (l : Limits). StatesSize l (kept mid ++ more) p.size) limits_are p.states, p.there));
+              passed = (plain.1, refused_by None plain.0);
+              kept_is = p.kept;
+              done_is = omega (arith, done);
+              stopped_is = p.stopped;
+              ends = λ e. absurd (false≢true e);
+            }
+        came_by_size more other refused (Ok CutOff) p = let done = p.1.done in (past_plain (kept mid ++ more) other refused p.0, p.2, omega (arith, done))
+        came_by_size more other refused (Ok Not) p =
+            let plain = way_plain other refused in
+            inl (met other refused, plain.0, plain.1, subst (λ (l : Limits). StatesNone l (kept mid ++ more)) limits_are p.0)
+        came_by_size more other refused (Err read.Device) p = inl (past_plain (kept mid ++ more) other refused p.0)
+        came_by_size more other refused (Err read.TooManyReads) p = (inl (past_plain (kept mid ++ more) other refused p.0), p.2)
+        came_by_size more other refused res p = absurd p
 
         by_size : (res : Result Passed ReadFault) → Passing run.left run.calls mid new res → HasOnward res ⊎ ((res ≡ Ok Not) × (new ≡ mid) × IsUnsized)
         by_size res passing = elim passing [
           | inl p ↦ (
               let refused = met p.0 p.1 in
               let all = p.2 [] (fresh mid (some_kept refused)) in
-              let rest = kept mid ++ all.0.bytes in
               inl (record {
-                refused = refused;
-                rest = rest;
+                rest = kept mid ++ all.0.bytes;
                 reads = read_on gathering run.left run.calls run.settings.limits (kept mid) (λ before. WantsMore (limits_of mid) (kept mid ++ before)) mid.reader mid.reader new.reader [] (kept mid)
                     (read_none gathering run.left run.calls run.settings.limits (kept mid) mid.reader limits_are) all.0;
-                came_to = subst (λ (by : Option ℕ). CameTo rest by res) (sym (no_packet p.0 p.1)) (came_by_size rest p.0 p.1 res all.1);
+                came_to = came_by_size all.0.bytes p.0 p.1 res all.1;
               })
               )
           | inr none ↦ inr (
             none.1,
             none.2,
-            λ other refused. (none.0 other [] refused (fresh mid (some_kept (met other refused))), no_packet other refused),
+            (sized, λ other refused. none.0 other [] refused (fresh mid (some_kept (met other refused)))),
           )
         ]
 
+      -- up to where messages begin again
+      module _ (window : ℕ) (seeks : way ≡ ToNext window) where
+        way_seeks : (packet ≡ None) × (run.settings.resync ≡ Sought window)
+        way_seeks = way_next packet (is_truncated fault.reason) run.settings.resync window seeks
+
+        -- whether the input ends in the window
+        wide_or_end : (w : List ℕ) → (window ≤ length w) ⊎ (is_ended new ≡ true) → (to_end : Bool) × (to_end ≡ false → window ≤ length w) × (to_end ≡ true → is_ended new ≡ true)
+        wide_or_end w all = elim all [
+          | inl wide ↦ (false, (λ _. wide), λ e. absurd (false≢true e))
+          | inr end ↦ (true, (λ e. absurd (false≢true (sym e))), λ _. end)
+        ]
+
+        -- for what it was refused
+        fault_by : (more : List ℕ) → (is_ended mid ≡ true → more ≡ []) → (is_ended mid ≡ true → is_ended new ≡ true) → (window ≤ length (kept mid ++ more)) ⊎ (is_ended new ≡ true)
+            → (end : Bool) × IsFaultOf run.settings.limits (kept mid) (kept mid ++ more) fault (Resumed window end) × (end ≡ false → window ≤ length (kept mid ++ more)) × (end ≡ true → is_ended new ≡ true)
+        fault_by more none still all = elim (either h.outcome h.outcome_is fault_last h.ended) [
+          | inl refused ↦ (let w = wide_or_end (kept mid ++ more) all in (w.0, is_fault_of run.settings.limits (kept mid ++ more) (kept mid) fault (Resumed window w.0) refused, w.1, w.2))
+          | inr cut ↦ (true, inr (sym (append-nil (kept mid)) ∙ ap (λ (l : List ℕ). kept mid ++ l) (sym (none cut.0)), cut.1), (λ e. absurd (false≢true (sym e))), λ _. still cut.0)
+        ]
+
+        nowhere_is : (more : List ℕ) (found : Found) → is_there found ≡ false → IsFoundIn true (limits_of mid) window (effort_of window) (is_ended new) (kept mid ++ more) found → BeginNowhere run.settings.limits window (kept mid ++ more) (is_ended new ≡ true)
+        nowhere_is more found none f = record {
+          found = found;
+          nowhere = none;
+          resumes = subst (λ (l : Limits). ResumeIn l window (kept mid ++ more) found) limits_are f.1;
+          all = λ short. elim f.0 [ inl wide ↦ absurd (omega (arith, wide, short)) | inr end ↦ end ];
+        }
+
+        came_by_seeking : (more : List ℕ) → (is_ended mid ≡ true → more ≡ []) → (is_ended mid ≡ true → is_ended new ≡ true) → (found : Result Found ReadFault) → Resyncs (kept mid ++ more) mid new window (effort_of window) found → CameTo (kept mid ++ more) (passed_by found)
+        came_by_seeking more none still (Ok (At size)) g =
+            let f = fault_by more none still g.0.0 in
+            record {
+              by = Resumed window f.0;
+              size = size;
+              part = ((more, refl), f.1, (subst (λ (l : Limits). ResumeIn l window (kept mid ++ more) (At size)) limits_are g.0.1, f.2));
+              passed = (way_seeks.1, refused_by None way_seeks.0);
+              kept_is = g.1.kept;
+              done_is = g.1.done;
+              stopped_is = g.1.stopped;
+              ends = f.3;
+            }
+        came_by_seeking more none still (Ok Nowhere) g = inr (window, way_seeks.0, way_seeks.1, nowhere_is more Nowhere refl g.0)
+        came_by_seeking more none still (Ok Spent) g = inr (window, way_seeks.0, way_seeks.1, nowhere_is more Spent refl g.0)
+        came_by_seeking more none still (Err read.Memory) g = (window, way_seeks.0, way_seeks.1)
+        came_by_seeking more none still (Err (read.Format f)) g = absurd g
+        came_by_seeking more none still (Err read.Device) g = inr (window, way_seeks.0, way_seeks.1)
+        came_by_seeking more none still (Err read.TooManyReads) g = (inr (window, way_seeks.0, way_seeks.1), g.1)
+
+        by_seeking : (res : Result Passed ReadFault) → Resyncing run.left run.calls run.packet mid new window res → HasOnward res
+        by_seeking res p = record {
+          rest = kept mid ++ p.reads.bytes;
+          reads = read_on gathering run.left run.calls run.settings.limits (kept mid) (λ before. (length (kept mid) < window) × (length (kept mid ++ before) < 2 * window)) mid.reader mid.reader new.reader [] (kept mid)
+              (read_none gathering run.left run.calls run.settings.limits (kept mid) mid.reader limits_are) p.reads;
+          came_to = subst (λ (r : Result Passed ReadFault). CameTo (kept mid ++ p.reads.bytes) r) (sym p.passed)
+              (came_by_seeking p.reads.bytes (λ end. (p.reads.settled end).0) (λ end. (p.reads.settled end).2) p.found p.goes);
+        }
+
       -- in a capture up to the next packet
-      module _ (known : HasKnownPackets run.packets run.packet mid (packets_of run)) (packed : is_by_packet refusal ≡ true) where
+      module _ (known : HasKnownPackets run.packets run.packet mid (packets_of run)) (packed : way ≡ ToPacket) where
         in_known : (all : Option Packets) → HasKnownPackets run.packets run.packet mid all → (number : ℕ) → packed_number (run.packet (source_of mid)) ≡ Some number → (res : Result Passed ReadFault) → PassesInPacket run.packets run.packet mid new res
             → AreInPacket all number (read_of mid) (done_of new) × (res ≡ Ok Over → IsInOther all number (done_of new))
         in_known None has number is res p = (tt, λ _. tt)
@@ -301,20 +416,23 @@ module _ {R A S : Type 0} {takes : S → S → List Placed → (told : List ℕ)
             let all = length-append (under_way mid.reader.taker.whole mid.reader.taker.held) (part_of mid.reader) in
             omega (arith, all, mid.held_counted, h.gone.done)
 
-        module _ (number : ℕ) (is : packed_number (run.packet (source_of mid)) ≡ Some number) (r : ReadsOnward run.left run.calls run.packet mid new) where
+        refused_packed : IsRefused run.settings.limits (kept mid) fault
+        refused_packed = refused_is run.settings.limits (kept mid) fault h.outcome h.outcome_is fault_last (way_packet packet (is_truncated fault.reason) run.settings.resync packed).1
+
+        module _ (number : ℕ) (is : packed_number (run.packet (source_of mid)) ≡ Some number) (by : packet ≡ Some number) (r : ReadsOnward run.left run.calls run.packet mid new) where
           abbrev all_there : List ℕ
           all_there = kept mid ++ r.bytes
 
-          to_end : DropsAll run.left run.calls run.packet mid new r → (res : Result Passed ReadFault) → PassesInPacket run.packets run.packet mid new res
-              → GoesPast (packets_of run) run.settings.limits (sizes_of h.gone.parts) (kept mid) all_there (Some number) × (done_of new ≡ done_of mid + length all_there)
+          to_end : DropsAll run.left run.calls run.packet mid new r → (res : Result Passed ReadFault) → PassesInPacket run.packets run.packet mid new res → IsPast all_there × (done_of new ≡ done_of mid + length all_there)
           to_end d res p =
               let done = d.done in
               let long : done_of new ≡ done_of mid + length all_there = omega (arith, done, length-append (kept mid) r.bytes) in
               let place : done_of new ≡ sizes_of h.gone.parts + length all_there = omega (arith, long, h.gone.done) in
-              (transport (λ i. AreInPacket (packets_of run) number (read_there i) (place i)) (in_known (packets_of run) known number is res p).0, long)
+              let past = transport (λ i. AreInPacket (packets_of run) number (read_there i) (place i)) (in_known (packets_of run) known number is res p).0 in
+              ((refused_packed, subst (λ (p : Option ℕ). GoesPast (packets_of run) run.settings.resync run.settings.limits (sizes_of h.gone.parts) (kept mid) all_there p) (sym by) past), long)
 
-          came_by_packet : (res : Result Passed ReadFault) → PassesInPacket run.packets run.packet mid new res → packet ≡ Some number → PacketAnswers run.left run.calls run.packet mid new number r res → CameTo all_there (Some number) res
-          came_by_packet (Ok Over) p by g =
+          came_by_packet : (res : Result Passed ReadFault) → PassesInPacket run.packets run.packet mid new res → PacketAnswers run.left run.calls run.packet mid new number r res → CameTo all_there res
+          came_by_packet (Ok Over) p g =
               let size = length (kept mid ++ r.before) in
               let done = g.done in
               let some = g.some in
@@ -325,22 +443,25 @@ module _ {R A S : Type 0} {takes : S → S → List Placed → (told : List ℕ)
               let long : done_of new ≡ done_of mid + size = omega (arith, done, both) in
               let place : done_of new ≡ sizes_of h.gone.parts + size = omega (arith, long, h.gone.done) in
               let inside = in_known (packets_of run) known number is (Ok Over) p in
-              let rest : all_there ≡ (kept mid ++ r.before) ++ r.last = ap (λ (l : List ℕ). kept mid ++ l) r.joined ∙ sym (append_assoc (kept mid) r.before r.last) in (
-                size,
-                (omega (arith, both), omega (arith, both, all, two, joined, some)),
-                (
-                  subst (λ (p : Option ℕ). IsRefusedIn (packets_of run) run.settings.limits (sizes_of h.gone.parts) (kept mid) p) by refused_at,
+              let rest : all_there ≡ (kept mid ++ r.before) ++ r.last = ap (λ (l : List ℕ). kept mid ++ l) r.joined ∙ sym (append_assoc (kept mid) r.before r.last) in
+              record {
+                by = InPacket number;
+                size = size;
+                part = ((r.bytes, refl), refused_packed, (omega (arith, both), omega (arith, both, all, two, joined, some)));
+                passed = (
+                  refused_by (Some number) by,
                   transport (λ i. AreInPacket (packets_of run) number (read_there i) (place i)) inside.0,
                   subst (λ (n : ℕ). IsInOther (packets_of run) number n) place (inside.1 refl),
-                ),
-                g.kept ∙ (sym (drop-append_seam (kept mid ++ r.before) r.last) ∙ ap (λ (l : List ℕ). drop size l) (sym rest)),
-                long,
-                g.stopped,
-              )
-          came_by_packet (Ok CutOff) p by d = let past = to_end d.0 (Ok CutOff) p in (past.0, d.1, past.1)
-          came_by_packet (Err read.Device) p by d = (to_end d (Err read.Device) p).0
-          came_by_packet (Err read.TooManyReads) p by d = ((to_end d.0 (Err read.TooManyReads) p).0, d.1)
-          came_by_packet res p by d = absurd d
+                );
+                kept_is = g.kept ∙ (sym (drop-append_seam (kept mid ++ r.before) r.last) ∙ ap (λ (l : List ℕ). drop size l) (sym rest));
+                done_is = long;
+                stopped_is = g.stopped;
+                ends = λ e. absurd (false≢true e);
+              }
+          came_by_packet (Ok CutOff) p d = let past = to_end d.0 (Ok CutOff) p in (past.0, d.1, past.1)
+          came_by_packet (Err read.Device) p d = inl (to_end d (Err read.Device) p).0
+          came_by_packet (Err read.TooManyReads) p d = (inl (to_end d.0 (Err read.TooManyReads) p).0, d.1)
+          came_by_packet res p d = absurd d
 
         by_packet : (res : Result Passed ReadFault) → PassesPacket run.left run.calls run.packet mid new res → PassesInPacket run.packets run.packet mid new res → HasOnward res
         by_packet res passing inside = elim passing [
@@ -348,22 +469,22 @@ module _ {R A S : Type 0} {takes : S → S → List Placed → (told : List ℕ)
               let by : packet ≡ Some p.0 = packet_is ∙ (same_number (run.packet (source_of mid)) ∙ p.1) in
               let r = p.2 in
               record {
-                refused = refused_is run.settings.limits (kept mid) fault h.outcome h.outcome_is fault_last (untruncated packet (is_truncated fault.reason) packed).1;
                 rest = kept mid ++ r.bytes;
                 reads = read_on gathering run.left run.calls run.settings.limits (kept mid) (λ before. Unit {0}) mid.reader mid.reader new.reader [] (kept mid)
                     (read_none gathering run.left run.calls run.settings.limits (kept mid) mid.reader limits_are) r;
-                came_to = subst (λ (by : Option ℕ). CameTo (kept mid ++ r.bytes) by res) (sym by) (came_by_packet p.0 p.1 r res inside by p.3);
+                came_to = came_by_packet p.0 p.1 by r res inside p.3;
               }
               )
-          | inr none ↦ absurd (let is : packet ≡ None = packet_is ∙ ap number_of none.0 in let some = (untruncated packet (is_truncated fault.reason) packed).0 in false≢true (ap is_some (sym is) ∙ some))
+          | inr none ↦ absurd (let is : packet ≡ None = packet_is ∙ ap number_of none.0 in let some = (way_packet packet (is_truncated fault.reason) run.settings.resync packed).0 in false≢true (ap is_some (sym is) ∙ some))
         ]
 
       onward : HasKnownPackets run.packets run.packet mid (packets_of run) → (res : Result Passed ReadFault) → PassedBy res → IsInput res → HasOnward res ⊎ ((res ≡ Ok Not) × (new ≡ mid) × IsUnsized)
-      onward known res passing input = by_case (is_by_packet refusal) refl passing
+      onward known res passing input = by_case way refl passing
         where
-          by_case : (b : Bool) → is_by_packet refusal ≡ b → PassesOn run.left run.calls run.packet mid new b res → HasOnward res ⊎ ((res ≡ Ok Not) × (new ≡ mid) × IsUnsized)
-          by_case true is passed = inl (by_packet known is res passed (input is))
-          by_case false is passed = by_size is res passed
+          by_case : (b : Way) → way ≡ b → PassesOn run.left run.calls run.packet mid new b res → HasOnward res ⊎ ((res ≡ Ok Not) × (new ≡ mid) × IsUnsized)
+          by_case ToPacket is passed = inl (by_packet known is res passed (input is))
+          by_case BySize is passed = by_size is res passed
+          by_case (ToNext window) is passed = inl (by_seeking window is res passed)
 
       -- it was passed over, or tried to
       some_onward : HasKnownPackets run.packets run.packet mid (packets_of run) → (res : Result Passed ReadFault) → (res ≡ Ok Not → ⊥) → PassedBy res → IsInput res → HasOnward res
@@ -374,8 +495,8 @@ module _ {R A S : Type 0} {takes : S → S → List Placed → (told : List ℕ)
       grows known passing input =
           let o = some_onward known (Ok Over) (λ e. cc) passing input in
           let c = o.came_to in
-          let some = size_kept run.settings.limits o.rest (kept mid) packet c.0 (some_kept o.refused) c.1 in
-          (c.5, omega (arith, c.4, some))
+          let some = part_some run.settings.limits o.rest (kept mid) fault c.by c.size c.part in
+          (c.stopped_is, omega (arith, c.done_is, some))
 
       -- and so has what is there of one
       pub not_less : HasKnownPackets run.packets run.packet mid (packets_of run) → PassedBy (Ok CutOff) → IsInput (Ok CutOff) → done_of mid ≤ done_of new
@@ -414,13 +535,13 @@ module _ {R A S : Type 0} {takes : S → S → List Placed → (told : List ℕ)
               most_reads = p.most_reads ∙ c.most_reads;
               limits_are = p.limits_are;
               at_end = p.at_end c.at_end;
-              begin = subst (λ (l : List ℕ). BeginWithParts run.settings.limits (c.bytes ++ p.bytes) h.gone.parts l) p.messages (parts_more run.settings.limits c.bytes h.gone.parts (kept mid) p.bytes c.begin);
+              begin = subst (λ (l : List ℕ). BeginWithParts run.settings.limits (c.bytes ++ p.bytes) h.gone.parts l) p.messages (parts_more run.settings.limits c.bytes h.gone.parts (kept mid) p.bytes (λ e. (p.settled (c.ends e)).0) c.begin);
+              ends = λ e. (p.settled (c.ends e)).1;
               tells = c.tells;
             }
 
-        cut_off : (res : Result Passed ReadFault) (o : HasOnward new res) → GoesPast (packets_of run) run.settings.limits (sizes_of h.gone.parts) (kept mid) o.rest packet
-            → IsCutOff (packets_of run) run.settings.limits (sizes_of h.gone.parts) (kept mid) o.rest packet
-        cut_off res o past = record { front = (o.reads.bytes, sym o.reads.messages); refused_in = refused_at; past = past }
+        cut_off : (res : Result Passed ReadFault) (o : HasOnward new res) → IsPast new o.rest → IsCutOff (packets_of run) run.settings.resync run.settings.limits (sizes_of h.gone.parts) (kept mid) o.rest packet
+        cut_off res o past = record { front = (o.reads.bytes, sym o.reads.messages); refused_in = refused_at; past = past.1 }
 
         -- the input ends within it, or with it
         pub ends_short : (ended_by : Tally) (end : ℕ) (is_cut : Bool) → is_cut ≡ is_none packet → end ≡ done_of new → ended_by ≡ cut_tally tally (end - tally.size) is_cut → (goes : run.settings.keeps_going ≡ true)
@@ -434,7 +555,7 @@ module _ {R A S : Type 0} {takes : S → S → List Placed → (told : List ℕ)
             record {
               told = h.gone.told;
               text = text;
-              through = through new (Some packet) ended_by text o.rest (Refused fault) (cut ∙ (λ i. cut_tally (h.gone.tally_is i) (count i) (by i))) told o.refused refl covered
+              through = through new (Some packet) ended_by text o.rest (Refused fault) (cut ∙ (λ i. cut_tally (h.gone.tally_is i) (count i) (by i))) told c.0.0 refl covered
                   (cut_off (Ok CutOff) o c.0, covered.at_end c.1, goes) same;
               messages = items;
               placed = h.gone.placed;
@@ -444,21 +565,57 @@ module _ {R A S : Type 0} {takes : S → S → List Placed → (told : List ℕ)
             }
 
         -- it states no size
-        stays_after : (goes : run.settings.keeps_going ≡ true) → HasOnward new (Ok Not) → run.failures (source_of new) ≡ run.failures (source_of mid) → HasEnded run takes full new tally (Some fault) s2
-        stays_after goes o same = record {
+        last_unsized : (goes : run.settings.keeps_going ≡ true) (o : HasOnward new (Ok Not)) → StatesNoSize new o.rest → IsLast (packets_of run) None run.settings run.settings.limits (sizes_of h.gone.parts) (kept mid) o.rest (Refused fault) (IsAtEnd (run.left (source_of new)))
+        last_unsized goes o c = (
+          (o.reads.bytes, sym o.reads.messages),
+          (λ halt. absurd (false≢true (sym halt ∙ goes))),
+          λ _ whole.
+              subst (λ (r : Resync). IsUnpassed (packets_of run) r run.settings.limits (sizes_of h.gone.parts) (kept mid) o.rest (IsAtEnd (run.left (source_of new)))) (sym c.2) (refused_by None c.1, c.3),
+        )
+
+        -- or messages begin again nowhere
+        last_lost : (o : HasOnward new (Ok Not)) → IsLost new o.rest → (outcome : CutOutcome) → Some fault ≡ fault_at_end (kept mid) outcome → (((f : Fault) → outcome ≡ Refused f → ⊥) → is_ended mid ≡ true) → (goes : run.settings.keeps_going ≡ true)
+            → IsLast (packets_of run) None run.settings run.settings.limits (sizes_of h.gone.parts) (kept mid) o.rest outcome (IsAtEnd (run.left (source_of new)))
+        last_lost o c outcome e ended goes = by_outcome outcome e ended
+          where
+            at_end : is_ended new ≡ true → IsAtEnd (run.left (source_of new))
+            at_end = (short_covered (Ok Not) o).at_end
+
+            nowhere : BeginNowhere run.settings.limits c.0 o.rest (IsAtEnd (run.left (source_of new)))
+            nowhere = record { found = c.3.found; nowhere = c.3.nowhere; resumes = c.3.resumes; all = λ short. at_end (c.3.all short) }
+
+            by_outcome : (outcome : CutOutcome) → Some fault ≡ fault_at_end (kept mid) outcome → (((f : Fault) → outcome ≡ Refused f → ⊥) → is_ended mid ≡ true) → IsLast (packets_of run) None run.settings run.settings.limits (sizes_of h.gone.parts) (kept mid) o.rest outcome (IsAtEnd (run.left (source_of new)))
+            by_outcome Ended e ended = absurd cc
+            by_outcome Unfinished e ended =
+                let none = o.reads.settled (ended (λ f is. absurd cc)) in (
+                  sym o.reads.messages ∙ (ap (λ (l : List ℕ). kept mid ++ l) none.0 ∙ append-nil (kept mid)),
+                  at_end none.1,
+                  λ _. subst (λ (r : Resync). IsCutUnpassed (packets_of run) r run.settings.limits (sizes_of h.gone.parts) (kept mid) o.rest (IsAtEnd (run.left (source_of new)))) (sym c.2) (packet, refused_at, λ _. nowhere),
+                )
+            by_outcome (Refused other) e ended = (
+              (o.reads.bytes, sym o.reads.messages),
+              (λ halt. absurd (false≢true (sym halt ∙ goes))),
+              λ _ whole. subst (λ (r : Resync). IsUnpassed (packets_of run) r run.settings.limits (sizes_of h.gone.parts) (kept mid) o.rest (IsAtEnd (run.left (source_of new)))) (sym c.2) (refused_by None c.1, nowhere),
+            )
+
+        stays_by : (o : HasOnward new (Ok Not)) (outcome : CutOutcome) → IsOutcome run.settings.limits (kept mid) outcome → Some fault ≡ fault_at_end (kept mid) outcome
+            → IsLast (packets_of run) None run.settings run.settings.limits (sizes_of h.gone.parts) (kept mid) o.rest outcome (IsAtEnd (run.left (source_of new))) → run.failures (source_of new) ≡ run.failures (source_of mid) → HasEnded run takes full new tally (Some fault) s2
+        stays_by o outcome outcome_is fault_is last same = record {
           told = h.gone.told;
           text = text;
-          through = through new None tally text o.rest (Refused fault) h.gone.tally_is told o.refused refl (short_covered (Ok Not) o) (
-            (o.reads.bytes, sym o.reads.messages),
-            (λ halt. absurd (false≢true (sym halt ∙ goes))),
-            λ _ whole. (o.came_to.0, subst (λ (p : Option ℕ). IsRefusedIn (packets_of run) run.settings.limits (sizes_of h.gone.parts) (kept mid) p) o.came_to.1 refused_at),
-          ) same;
+          through = through new None tally text o.rest outcome h.gone.tally_is told outcome_is fault_is (short_covered (Ok Not) o) last same;
           messages = items;
           placed = h.gone.placed;
           wanted = h.gone.wanted;
           unfilled = still_open;
           came = came_told;
         }
+
+        stays_after : (goes : run.settings.keeps_going ≡ true) → HasOnward new (Ok Not) → run.failures (source_of new) ≡ run.failures (source_of mid) → HasEnded run takes full new tally (Some fault) s2
+        stays_after goes o same = elim o.came_to [
+          | inl unsized ↦ stays_by o (Refused fault) unsized.0 refl (last_unsized goes o unsized) same
+          | inr lost ↦ stays_by o h.outcome h.outcome_is fault_last (last_lost o lost h.outcome fault_last h.ended goes) same
+        ]
 
         pub stays : run.settings.keeps_going ≡ true → PassedBy new (Ok Not) → IsInput new (Ok Not) → run.failures (source_of new) ≡ run.failures (source_of mid) → HasEnded run takes full new tally (Some fault) s2
         stays goes passing input same = elim (onward new known (Ok Not) passing input) [
@@ -476,18 +633,37 @@ module _ {R A S : Type 0} {takes : S → S → List Placed → (told : List ℕ)
         ]
 
         module _ (rests : settled s2) where
+          -- what is told of it then
+          last_told : IsToldRefused (packets_of run) run.settings (length h.gone.parts + 1) (sizes_of h.gone.parts) (kept mid) fault text
+          last_told = told_at (length h.gone.parts + 1) text refl told
+
+          sought : (goes : run.settings.keeps_going ≡ true) (res : Result Passed ReadFault) (o : HasOnward new res) → IsSeeking new → IsSought (Took run new) run.settings (most_reads_of run.old) run.is_check h.gone.parts o.rest text
+          sought goes res o c = (
+            kept mid,
+            (o.reads.bytes, sym o.reads.messages),
+            fault,
+            record { outcome = h.outcome; outcome_is = h.outcome_is; fault_is = fault_last; told = last_told },
+            goes,
+            c.0,
+            c.2,
+          )
+
+          all_of : (goes : run.settings.keeps_going ≡ true) (res : Result Passed ReadFault) (o : HasOnward new res) → IsPast new o.rest ⊎ IsSeeking new → IsAllOf (Took run new) run.settings (most_reads_of run.old) run.is_check h.gone.parts o.rest text
+          all_of goes res o c = elim c [
+            | inl past ↦ inr (inl (kept mid, fault, past.0, packet, cut_off res o past, goes, last_told))
+            | inr seeking ↦ inr (inr (sought goes res o seeking))
+          ]
+
           -- it was not passed over, since reading was given up
-          torn : (goes : run.settings.keeps_going ≡ true) (cause : Cause) (res : Result Passed ReadFault) (o : HasOnward new res) → GoesPast (packets_of run) run.settings.limits (sizes_of h.gone.parts) (kept mid) o.rest packet
-              → (IsAllOf (Took run new) run.settings (most_reads_of run.old) run.is_check h.gone.parts o.rest text
-              → More run (Fills run takes full) new (ByCause cause) h.gone.parts o.rest items text)
+          torn : (cause : Cause) (res : Result Passed ReadFault) (o : HasOnward new res) → More run (Fills run takes full) new (ByCause cause) h.gone.parts o.rest items text
               → Stopped run new (ByCause cause) → leaves run.s0 s2 items (h.gone.told ++ text) (ByCause cause) → Within run takes leaves full new (ByCause cause) s2
-          torn goes cause res o past all caused came = record {
+          torn cause res o all caused came = record {
             parts = h.gone.parts;
             rest = o.rest;
             told = h.gone.told;
             covers = covers run new h.gone.parts o.rest h.gone.told (short_covered res o);
             more = text;
-            all = all (inr (kept mid, fault, o.refused, packet, cut_off res o past, goes, told_at (length h.gone.parts + 1) text refl told));
+            all = all;
             caused = caused;
             messages = items;
             placed = h.gone.placed;
@@ -500,32 +676,37 @@ module _ {R A S : Type 0} {takes : S → S → List Placed → (told : List ℕ)
               → DeviceCounts {T = Passed} (run.failures (source_of mid)) (run.failures (source_of new)) (Err broken) → Within run takes leaves full new (ByCause (cause_of broken)) s2
           breaks goes read.Device passing input counts =
               let o = some_onward new known (Err read.Device) (λ e. cc) passing input in
-              torn goes ReadFailed (Err read.Device) o o.came_to (λ all. all) (counts.0 ∙ ap one_more h.gone.failed)
+              torn ReadFailed (Err read.Device) o (all_of goes (Err read.Device) o o.came_to) (counts.0 ∙ ap one_more h.gone.failed)
               (laws.rests run.s0 s2 items (h.gone.told ++ text) came_told rests).1
           breaks goes read.TooManyReads passing input counts =
               let o = some_onward new known (Err read.TooManyReads) (λ e. cc) passing input in
-              torn goes TooManyReads (Err read.TooManyReads) o o.came_to.0 (λ all. all)
+              torn TooManyReads (Err read.TooManyReads) o (all_of goes (Err read.TooManyReads) o o.came_to.0)
               (counts ∙ h.gone.failed, all_called run new h.gone.parts o.rest h.gone.told (short_covered (Err read.TooManyReads) o) o.came_to.1)
               (laws.rests run.s0 s2 items (h.gone.told ++ text) came_told rests).2
-          breaks goes broken passing input counts = absurd (some_onward new known (Err broken) (λ e. cc) passing input).came_to
+          breaks goes read.Memory passing input counts =
+              let o = some_onward new known (Err read.Memory) (λ e. cc) passing input in
+              torn Memory (Err read.Memory) o (inr (inr (sought goes (Err read.Memory) o o.came_to))) (counts ∙ h.gone.failed)
+              (laws.rests run.s0 s2 items (h.gone.told ++ text) came_told rests).0
+          breaks goes (read.Format f) passing input counts = absurd (some_onward new known (Err (read.Format f)) (λ e. cc) passing input).came_to
 
         pub goes_on : (past : Tally) (end : ℕ) → end ≡ done_of new → past ≡ record { count = tally.count + 1; size = end; passed = tally.passed + 1; passed_size = tally.passed_size + (end - tally.size); is_cut = tally.is_cut }
             → run.settings.keeps_going ≡ true → PassedBy new (Ok Over) → IsInput new (Ok Over) → run.failures (source_of new) ≡ run.failures (source_of mid) → HasGone run takes full new past s2
         goes_on past end there past_is goes passing input same =
             let o = some_onward new known (Ok Over) (λ e. cc) passing input in
             let c = o.came_to in
-            let n = c.0 in
-            let done = c.4 in
+            let n = c.size in
+            let done = c.done_is in
             let parts = h.gone.parts in
             let is = h.gone.tally_is in
-            let part = PassedOver (kept mid) fault packet n in
+            let part = PassedOver (kept mid) fault c.by n in
             let w : kept mid ++ o.reads.bytes ≡ o.rest = o.reads.messages in
-            let begin : BeginWithParts run.settings.limits o.rest (part ∷ []) (kept new) = (((o.reads.bytes, sym w), o.refused, c.1), sym c.3) in
+            let begin : BeginWithParts run.settings.limits o.rest (part ∷ []) (kept new) = (c.part, sym c.kept_is) in
             let begin_there = subst (λ (l : List ℕ). BeginWithParts run.settings.limits l (part ∷ []) (kept new)) (sym w) begin in
             let number : 1 + length parts ≡ length parts + 1 = omega arith in
             let offset : sizes_of parts ≡ 0 + sizes_of parts = omega arith in
             let told_next = subst (λ (o : ℕ). IsToldRefused (packets_of run) run.settings (1 + length parts) o (kept mid) fault text) offset (told_at (1 + length parts) text number told) in
-            let passed_next = subst (λ (o : ℕ). IsPassedBy (packets_of run) run.settings.limits o (kept mid) packet n) offset c.2 in
+            let passed_next = subst (λ (o : ℕ). IsPassedBy (packets_of run) run.settings.resync run.settings.limits o (kept mid) c.by n) offset c.passed in
+            let ended : reach_end (part ∷ []) ≡ true → is_ended new ≡ true = λ e. c.ends (or_last (is_to_end c.by) e) in
             let told_is : AreTold (packets_of run) run.settings (1 + length parts) (0 + sizes_of parts) (part ∷ []) text = (text, [], sym (append-nil text), (goes, passed_next, told_next), refl) in
             let count_is : tally.count + 1 ≡ length (parts ++ part ∷ []) = omega (arith, ap (λ (t : Tally). t.count) is, length-append parts (part ∷ [])) in
             let size_is : done_of new ≡ sizes_of (parts ++ part ∷ []) = omega (arith, done, h.gone.done, sizes-both parts (part ∷ [])) in
@@ -535,12 +716,12 @@ module _ {R A S : Type 0} {takes : S → S → List Placed → (told : List ℕ)
             record {
               parts = parts ++ part ∷ [];
               told = h.gone.told ++ text;
-              covered = covers_read run mid new parts (part ∷ []) (kept mid) (kept new) h.gone.told text o.rest [] h.gone.covered o.reads begin_there told_is;
+              covered = covers_read run mid new parts (part ∷ []) (kept mid) (kept new) h.gone.told text o.rest [] h.gone.covered o.reads begin_there ended told_is;
               tally_is = past_is ∙ (λ i. record { count = count_is i; size = (there ∙ size_is) i; passed = passed_is i; passed_size = passed_size_is i; is_cut = (is i).is_cut });
               done = size_is;
               failed = same ∙ h.gone.failed;
               messages = items;
-              placed = placed_past (packets_of run) 1 0 parts (kept mid) fault packet n items h.gone.placed;
+              placed = placed_past (packets_of run) 1 0 parts (kept mid) fault c.by n items h.gone.placed;
               came = came_told;
               wanted = h.gone.wanted;
               unfilled = λ enough. absurd (false≢true (sym still_open ∙ enough));

@@ -1,6 +1,6 @@
 -- The turns of a run that passes over refused messages. Each hands on the messages up to the next
 -- fault, tells it, and passes over that message.
-use Rattle.std.proofs.Common.{◌≡◌, ℕ, ◌+◌, ◌^◌, ◌<◌, ◌≤◌, Bool, List, [], ◌++◌, true, false, None, Some, Ok, Option, length, refl, sym, ap, ◌∙◌, subst, arith, inl, inr, append-nil, length-append}
+use Rattle.std.proofs.Common.{◌≡◌, ◌⊎◌, ◌||◌, ℕ, ◌+◌, ◌^◌, ◌<◌, ◌≤◌, Bool, List, [], ◌++◌, true, false, None, Some, Ok, Option, length, refl, sym, ap, ◌∙◌, subst, arith, inl, inr, append-nil, length-append}
 use Rattle.std.proofs.Math.Path.{transport}
 use Rattle.std.specs.Io.KnownBytes.{Consumes}
 use Rattle.std.proofs.KnownBytes.{Consumes-nil, Consumes-trans}
@@ -23,7 +23,7 @@ use Rattle.dbus_stream.specs.declared.raw_reader.RawReader.{RawReader}
 use Rattle.cli_options.specs.declared.settings.Settings.{Settings}
 use Rattle.cli_report.specs.Devices.{Reading, reading, taken, Taken}
 use Rattle.cli_run.specs.Going.{Covers, EndsWhole, IsMore, IsStopOf, IsThrough, StopsWithin, AreTold, passed_count, passed_sizes, tally_of}
-use Rattle.cli_run.specs.Inputs.{ArePlaced, BeginWithParts, Part, Placed, Whole, sizes_of, wholes}
+use Rattle.cli_run.specs.Inputs.{ArePlaced, BeginWithParts, Part, Placed, Whole, reach_end, sizes_of, wholes}
 use Rattle.cli_run.specs.Needed.{IsReadFor, ReadsFor}
 use Rattle.cli_run.specs.Onward.{HasKnownPackets, HasRead, HandsEnough, HandsRawOn, HandsSomeOn, IsTrueEnd, RawHandsOn, stop_of}
 use Rattle.cli_run.specs.Refusals.{IsRefusedIn, number_of}
@@ -36,7 +36,12 @@ use Rattle.cli_run.specs.declared.visitor.RunStop.{RunStop}
 use Rattle.cli_run.specs.declared.visitor.RunStop.TheVariants.{Cause as ByCause}
 use Rattle.cli_run.proofs.KnownPackets.{refused_there}
 use Rattle.cli_run.proofs.Wanted.{ends_whole, filled_next, wanted_next}
-use Rattle.cli_run.proofs.PartLaws.{parts_more, parts_both, parts_of, few_parts, few_passed, few_passed_sizes, sizes-both, passed-both, passed_sizes-both, sizes-wholes, passed-wholes, passed_sizes-wholes, placed_both, told_both, told_of}
+use Rattle.cli_run.proofs.PartLaws.{reach-both, reach_wholes, parts_more, parts_both, parts_of, few_parts, few_passed, few_passed_sizes, sizes-both, passed-both, passed_sizes-both, sizes-wholes, passed-wholes, passed_sizes-wholes, placed_both, told_both, told_of}
+
+-- one of two
+either_true : (a b : Bool) → a || b ≡ true → (a ≡ true) ⊎ (b ≡ true)
+either_true true b e = inl refl
+either_true false b e = inr e
 
 -- a refusal is no end of the input
 pub refused_is : (limits : Limits) (w : List ℕ) (fault : Fault) (outcome : CutOutcome) → IsOutcome limits w outcome → Some fault ≡ fault_at_end w outcome → is_truncated fault.reason ≡ false
@@ -117,20 +122,27 @@ module _ {R A S : Type 0} (run : Begun R A S) where
     pub limits_are : limits_of new ≡ run.settings.limits
     pub at_end : IsTrueEnd run.left new.reader
     pub begin : BeginWithParts run.settings.limits bytes parts rest
+    pub ends : reach_end parts ≡ true → is_ended new ≡ true
     pub tells : AreTold packets_of run.settings 1 0 parts told
+
+  -- nothing more is read after the end
+  ends_none : (mid new : RawReader R A) (parts : List Part) (from rest told w : List ℕ) (items : List CutMessage) → HasCovered mid parts from told → (r : HasRead gathering run.left run.calls run.settings.limits from mid.reader new.reader items w)
+      → reach_end parts ≡ true → r.bytes ≡ []
+  ends_none mid new parts from rest told w items h r e = (r.settled (h.ends e)).0
 
   -- more was read, and begins with more parts
   pub covers_read : (mid new : RawReader R A) (parts more : List Part) (from rest told t w : List ℕ) (items : List CutMessage) → HasCovered mid parts from told
       → (r : HasRead gathering run.left run.calls run.settings.limits from mid.reader new.reader items w) → BeginWithParts run.settings.limits (from ++ r.bytes) more rest
-      → AreTold packets_of run.settings (1 + length parts) (0 + sizes_of parts) more t → HasCovered new (parts ++ more) rest (told ++ t)
-  covers_read mid new parts more from rest told t w items h r begin tells = record {
+      → (reach_end more ≡ true → is_ended new ≡ true) → AreTold packets_of run.settings (1 + length parts) (0 + sizes_of parts) more t → HasCovered new (parts ++ more) rest (told ++ t)
+  covers_read mid new parts more from rest told t w items h r begin end tells = record {
     bytes = h.bytes ++ r.bytes;
     consumed = Consumes-trans _ _ _ _ _ h.consumed r.consumed;
     called = omega (arith, h.called, r.called, r.reads);
     most_reads = r.most_reads ∙ h.most_reads;
     limits_are = r.limits_are;
     at_end = r.at_end h.at_end;
-    begin = parts_both run.settings.limits (h.bytes ++ r.bytes) parts more (from ++ r.bytes) rest (parts_more run.settings.limits h.bytes parts from r.bytes h.begin) begin;
+    begin = parts_both run.settings.limits (h.bytes ++ r.bytes) parts more (from ++ r.bytes) rest (parts_more run.settings.limits h.bytes parts from r.bytes (ends_none mid new parts from rest told w items h r) h.begin) begin;
+    ends = λ e. elim (either_true (reach_end parts) (reach_end more) (sym (reach-both parts more) ∙ e)) [ inl first ↦ (r.settled (h.ends first)).1 | inr second ↦ end second ];
     tells = told_both packets_of run.settings 1 0 parts more told t h.tells tells;
   }
 
@@ -141,6 +153,7 @@ module _ {R A S : Type 0} (run : Begun R A S) where
     consumed = h.consumed;
     called = (reads_of new, subst (λ (n : ℕ). reads_of new ≤ n) h.most_reads new.reader.few_reads, h.called);
     begin = h.begin;
+    ends = λ e. h.at_end (h.ends e);
     tells = h.tells;
   }
 
@@ -191,6 +204,7 @@ module _ {R A S : Type 0} (run : Begun R A S) where
         limits_are = new_reader.limits;
         at_end = λ e. absurd (false≢true (sym new_reader.ended ∙ e));
         begin = sym new_reader.kept;
+        ends = λ e. absurd (false≢true e);
         tells = refl;
       };
       tally_is = refl;
@@ -299,6 +313,7 @@ module _ {R A S : Type 0} {takes : S → S → List Placed → (told : List ℕ)
         subst (λ (l : List ℕ). HasCovered run new (h.parts ++ wholes items) last l) (append-nil h.told)
         (covers_read run mid new h.parts (wholes items) (kept mid) last h.told [] rest items h.covered r
         (subst (λ (l : List ℕ). BeginWithParts run.settings.limits (kept mid ++ r.bytes) (wholes items) l) e (parts_of run.settings.limits (kept mid ++ r.bytes) items rest r.messages))
+        (λ reached. absurd (false≢true (sym (reach_wholes items) ∙ reached)))
         (told_of (packets_of run) run.settings (1 + length h.parts) (0 + sizes_of h.parts) items))
 
     -- up to a fault, or up to the end

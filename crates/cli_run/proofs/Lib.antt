@@ -9,6 +9,7 @@ pub mod GivenSteps
 pub mod HandSteps
 pub mod CountSteps
 pub mod CheckSteps
+pub mod Ways
 pub mod GoSteps
 pub mod GoEnds
 pub mod CloseSteps

@@ -1,6 +1,7 @@
 -- What becomes of a visitor that lists messages by a message and by a text that is told, and how a run
 -- ends that lists messages.
 use Rattle.std.proofs.Common.{◌≡◌, ◌≢◌, ◌⊎◌, ℕ, Bool, false, List, [], ◌∷◌, ◌++◌, length, Option, None, Result, Ok, Err, inl, inr, refl, sym, ap, ◌∙◌, subst, arith, append-nil}
+use Rattle.std.proofs.lemmas.Bool.{false≢true}
 use Rattle.std.proofs.KnownBytes.{Consumes-nil}
 use Rattle.std.proofs.Math.Path.{transport}
 use Rattle.dbus_value_model.specs.declared.order.Order.{Order}
@@ -279,7 +280,7 @@ unread left calls read_failures packets r held failures w second_held second_fai
         parts = [];
         rest = [];
         told = [];
-        covers = record { bytes = []; consumed = Consumes-nil (left r); called = (0, omega arith, omega arith); begin = refl; tells = refl };
+        covers = record { bytes = []; consumed = Consumes-nil (left r); called = (0, omega arith, omega arith); begin = refl; ends = λ e. absurd (false≢true e); tells = refl };
         more = [];
         all = inl refl;
         caused = refl;

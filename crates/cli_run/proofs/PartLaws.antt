@@ -1,18 +1,26 @@
 -- Parts of an input that follow one another, what is told of them, and the messages among them.
-use Rattle.std.proofs.Common.{is_some, ◌≡◌, ℕ, suc, ◌+◌, ◌-◌, ◌<◌, ◌≤◌, Bool, true, false, List, [], ◌∷◌, ◌++◌, Option, None, Some, length, drop, refl, sym, ap, ◌∙◌, subst, arith, append_assoc, append-nil, length-append}
+use Rattle.std.proofs.Common.{is_some, ◌≡◌, ◌⊎◌, ℕ, zero, suc, ◌+◌, ◌-◌, ◌<◌, ◌≤◌, Bool, true, false, List, [], ◌∷◌, ◌++◌, Option, None, Some, length, take, drop, refl, sym, ap, ◌∙◌, subst, arith, inl, inr, ◌||◌, append_assoc, append-nil, length-append, take-append-drop}
 use Rattle.std.proofs.Math.Path.{transport}
 use Rattle.std.proofs.lemmas.Bool.{false≢true}
-use Rattle.std.proofs.lemmas.List.{drop-append-le}
+use Rattle.std.proofs.lemmas.List.{drop-append-le, length-take, take-append-le}
 use Rattle.dbus_device.specs.Packets.{Packets}
 use Rattle.dbus_value_model.specs.declared.fault.Fault.{Fault}
 use Rattle.dbus_value_model.specs.declared.limits.Limits.{Limits}
-use Rattle.dbus_header.proofs.OutcomeLaws.{nothing_partial, whole_for_good, whole_inside}
-use Rattle.dbus_stream.specs.Cut.{BeginWith, CutMessage, CutOutcome, Refused}
+use Rattle.dbus_header.specs.MessageOutcomes.{IsPartial, IsRefused, IsWhole}
+use Rattle.dbus_header.specs.NoMessage.{BeginsWithNone}
+use Rattle.dbus_header.proofs.OutcomeLaws.{not_both, nothing_partial, one_outcome, refused_for_good, whole_for_good, whole_inside}
+use Rattle.dbus_resync.specs.declared.found.Found.{Found}
+use Rattle.dbus_resync.specs.declared.found.Found.TheVariants.{At}
+use Rattle.dbus_resync.proofs.DamagedLaws.{begins_inside}
+use Rattle.dbus_stream.specs.Cut.{BeginWith, CutMessage, CutOutcome, Ended, Unfinished, Refused}
+use Rattle.dbus_stream.specs.GoingOn.{Resumes}
+use Rattle.dbus_stream.specs.Next.{IsCutShort}
 use Rattle.dbus_stream.specs.CutEnds.{sizes}
 use Rattle.dbus_stream.proofs.FaultPackets.{refused_later}
 use Rattle.dbus_stream.proofs.SizeSteps.{one_size, size_some}
 use Rattle.cli_options.specs.declared.settings.Settings.{Settings}
-use Rattle.cli_run.specs.Inputs.{ArePlaced, IsPlaced, IsPacketBefore, IsTimeBefore, Part, Whole, PassedOver, Placed, size_of, sizes_of, time_of, wholes, HasSize, IsLast, IsPart, BeginWithParts}
+use Rattle.cli_run.specs.Inputs.{ArePlaced, IsPlaced, IsPacketBefore, IsTimeBefore, Part, Whole, PassedOver, Placed, size_of, sizes_of, time_of, wholes, By, Stated, InPacket, Resumed, HasSize, IsFaultOf, IsLast, IsPart, BeginWithParts, ResumeIn, effort_of, is_to_end, reach_end}
+use Rattle.cli_report.specs.Gathering.{IsPrefixTo}
 use Rattle.cli_run.specs.Output.{check_line, fault_line}
 use Rattle.cli_run.specs.Going.{AreTold, closing_line, passed_count, passed_sizes}
 use Rattle.cli_run.specs.declared.place.MessagePlace.{MessagePlace}
@@ -20,29 +28,137 @@ use Rattle.cli_run.specs.declared.tally.Tally.{Tally}
 
 -- ---- the input
 
+-- whether one of two does
+or_none : (a b : Bool) → a || b ≡ false → (a ≡ false) × (b ≡ false)
+or_none true b e = absurd (false≢true (sym e))
+or_none false b e = (refl, e)
+
+-- the bytes of a window are the same, if all of them are there
+pub window_more : (window : ℕ) (bytes more : List ℕ) → window ≤ length bytes → take window (bytes ++ more) ≡ take window bytes
+window_more window bytes more wide = take-append-le window bytes more wide
+
+-- one offset
+at_same : (n k : ℕ) → At n ≡ At k → n ≡ k
+at_same n k e = cc
+
 module _ (limits : Limits) where
-  size_more : (bytes more kept : List ℕ) (by : Option ℕ) (size : ℕ) → HasSize limits kept bytes by size → HasSize limits kept (bytes ++ more) by size × (size ≤ length bytes)
-  size_more bytes more kept None size h = (((one_size limits bytes more size size h.0).0, omega (arith, h.1, length-append bytes more)), h.1)
-  size_more bytes more kept (Some number) size h = ((h.0, omega (arith, h.1, length-append bytes more)), omega (arith, h.1))
+  -- it is refused, or the input ends within it
+  pub either_fault : (bytes kept : List ℕ) (fault : Fault) (by : By) → IsFaultOf limits kept bytes fault by → IsRefused limits kept fault ⊎ ((kept ≡ bytes) × IsCutShort limits kept fault)
+  either_fault bytes kept fault Stated f = inl f
+  either_fault bytes kept fault (InPacket number) f = inl f
+  either_fault bytes kept fault (Resumed window false) f = inl f
+  either_fault bytes kept fault (Resumed window true) f = f
+
+  -- messages begin again among the bytes
+  resumes_inside : (window : ℕ) (bytes : List ℕ) (size : ℕ) → ResumeIn limits window bytes (At size) → size ≤ length bytes
+  resumes_inside window bytes size r =
+      let short = length-take window bytes in
+      elim r [
+        | inl led ↦ (
+            let same : led.0 ≡ size = at_same led.0 size (sym led.2) in
+            elim led.1.to [
+              | inl begins ↦ (let inside = begins_inside limits (take window bytes) led.0 begins in omega (arith, inside, same, short))
+              | inr ends ↦ (let end = ends.0 in omega (arith, end, same, short))
+            ]
+            )
+        | inr first ↦ (let inside = begins_inside limits (take window bytes) size first.1.finds.begins in omega (arith, inside, short))
+      ]
+
+  -- and not where the bytes begin, if no message does
+  resumes_later : (window : ℕ) (bytes : List ℕ) (size : ℕ) → BeginsWithNone limits bytes → ResumeIn limits window bytes (At size) → 0 < size
+  resumes_later window bytes zero none r = elim r [
+    | inl led ↦ (
+        let same : led.0 ≡ 0 = at_same led.0 0 (sym led.2) in
+        let some = size_some limits (take window bytes) led.0 led.1.states in
+        omega (arith, some, same)
+        )
+    | inr first ↦ (
+        let b = first.1.finds.begins in
+        absurd (none b.0 b.1 b.2 (subst (λ (l : List ℕ). IsWhole limits l b.0 b.1 b.2) (take-append-drop window bytes) (whole_for_good limits (take window bytes) (drop window bytes) b.0 b.1 b.2 b.3)))
+        )
+  ]
+  resumes_later window bytes (suc size) none r = omega arith
+
+  size_inside : (bytes kept : List ℕ) (by : By) (size : ℕ) → HasSize limits kept bytes by size → size ≤ length bytes
+  size_inside bytes kept Stated size h = h.1
+  size_inside bytes kept (InPacket number) size h = omega (arith, h.1)
+  size_inside bytes kept (Resumed window to_end) size h = resumes_inside window bytes size h.0
+
+  size_more : (bytes more kept : List ℕ) (by : By) (size : ℕ) → is_to_end by ≡ false → HasSize limits kept bytes by size → HasSize limits kept (bytes ++ more) by size
+  size_more bytes more kept Stated size open_ h = ((one_size limits bytes more size size h.0).0, omega (arith, h.1, length-append bytes more))
+  size_more bytes more kept (InPacket number) size open_ h = (h.0, omega (arith, h.1, length-append bytes more))
+  size_more bytes more kept (Resumed window to_end) size open_ h =
+      let wide = h.1 open_ in (
+        subst (λ (l : List ℕ). Resumes limits window (effort_of window) l (At size)) (sym (window_more window bytes more wide)) h.0,
+        λ _. omega (arith, wide, length-append bytes more),
+      )
+
+  fault_more : (bytes more kept : List ℕ) (fault : Fault) (by : By) → is_to_end by ≡ false → IsFaultOf limits kept bytes fault by → IsRefused limits kept fault
+  fault_more bytes more kept fault Stated open_ f = f
+  fault_more bytes more kept fault (InPacket number) open_ f = f
+  fault_more bytes more kept fault (Resumed window false) open_ f = f
+  fault_more bytes more kept fault (Resumed window true) open_ f = absurd (false≢true (sym open_))
+
+  pub is_fault_of : (bytes kept : List ℕ) (fault : Fault) (by : By) → IsRefused limits kept fault → IsFaultOf limits kept bytes fault by
+  is_fault_of bytes kept fault Stated f = f
+  is_fault_of bytes kept fault (InPacket number) f = f
+  is_fault_of bytes kept fault (Resumed window false) f = f
+  is_fault_of bytes kept fault (Resumed window true) f = inl f
+
+  -- what is refused, or what the input ends within, begins with no message
+  pub none_begins : (bytes kept : List ℕ) (fault : Fault) (by : By) → IsPrefixTo kept bytes → IsFaultOf limits kept bytes fault by → BeginsWithNone limits bytes
+  none_begins bytes kept fault by front f = λ order m n whole. elim (either_fault bytes kept fault by f) [
+    | inl refused ↦ not_both limits bytes order m n fault whole (subst (λ (l : List ℕ). IsRefused limits l fault) (sym front.1) (refused_for_good limits kept front.0 fault refused))
+    | inr cut ↦ (one_outcome limits bytes).1 order m n whole (subst (λ (l : List ℕ). IsPartial limits l) cut.0 cut.1.1)
+  ]
 
   -- what is refused has bytes
-  pub size_kept : (bytes kept : List ℕ) (by : Option ℕ) (size : ℕ) → 0 < length kept → HasSize limits kept bytes by size → 0 < size
-  size_kept bytes kept None size some h = let long = size_some limits bytes size h.0 in omega (arith, long)
-  size_kept bytes kept (Some number) size some h = omega (arith, h.0, some)
+  pub part_some : (bytes kept : List ℕ) (fault : Fault) (by : By) (size : ℕ) → IsPart limits bytes (PassedOver kept fault by size) → 0 < size
+  part_some bytes kept fault Stated size p = let long = size_some limits bytes size p.2.0 in omega (arith, long)
+  part_some bytes kept fault (InPacket number) size p = omega (arith, p.2.0, refused_later limits 0 kept fault (nothing_partial limits) p.1)
+  part_some bytes kept fault (Resumed window to_end) size p = resumes_later window bytes size (none_begins bytes kept fault (Resumed window to_end) p.0 p.1) p.2.0
 
-  part_more : (bytes more : List ℕ) (part : Part) → IsPart limits bytes part → IsPart limits (bytes ++ more) part × (size_of part ≤ length bytes)
-  part_more bytes more (Whole item) p = (whole_for_good limits bytes more item.order item.message item.size p, (whole_inside limits bytes item.order item.message item.size p).1)
-  part_more bytes more (PassedOver kept fault by size) p =
-      let sized = size_more bytes more kept by size p.2 in
-      (((p.0.0 ++ more, ap (λ l. l ++ more) p.0.1 ∙ append_assoc kept p.0.0 more), p.1, sized.0), sized.1)
+  part_inside : (bytes : List ℕ) (part : Part) → IsPart limits bytes part → size_of part ≤ length bytes
+  part_inside bytes (Whole item) p = (whole_inside limits bytes item.order item.message item.size p).1
+  part_inside bytes (PassedOver kept fault by size) p = size_inside bytes kept by size p.2
 
-  -- more bytes after
-  pub parts_more : (bytes : List ℕ) (parts : List Part) (rest more : List ℕ) → BeginWithParts limits bytes parts rest → BeginWithParts limits (bytes ++ more) parts (rest ++ more)
-  parts_more bytes [] rest more b = ap (λ l. l ++ more) b
-  parts_more bytes (part ∷ parts) rest more b =
-      let p = part_more bytes more part b.0 in
-      let joined : drop (size_of part) (bytes ++ more) ≡ drop (size_of part) bytes ++ more = drop-append-le (size_of part) bytes more p.1 in
-      (p.0, subst (λ l. BeginWithParts limits l parts (rest ++ more)) (sym joined) (parts_more (drop (size_of part) bytes) parts rest more b.1))
+  part_more : (bytes more : List ℕ) (part : Part) → reach_end (part ∷ []) ≡ false → IsPart limits bytes part → IsPart limits (bytes ++ more) part
+  part_more bytes more (Whole item) open_ p = whole_for_good limits bytes more item.order item.message item.size p
+  part_more bytes more (PassedOver kept fault by size) open_ p =
+      let far = (or_none (is_to_end by) false open_).0 in (
+        (p.0.0 ++ more, ap (λ l. l ++ more) p.0.1 ∙ append_assoc kept p.0.0 more),
+        is_fault_of (bytes ++ more) kept fault by (fault_more bytes more kept fault by far p.1),
+        size_more bytes more kept by size far p.2,
+      )
+
+  -- each of the parts
+  reach_first : (part : Part) (parts : List Part) → reach_end (part ∷ parts) ≡ false → (reach_end (part ∷ []) ≡ false) × (reach_end parts ≡ false)
+  reach_first (Whole item) parts e = (refl, e)
+  reach_first (PassedOver kept fault Stated size) parts e = (refl, e)
+  reach_first (PassedOver kept fault (InPacket number) size) parts e = (refl, e)
+  reach_first (PassedOver kept fault (Resumed window false) size) parts e = (refl, e)
+  reach_first (PassedOver kept fault (Resumed window true) size) parts e = absurd (false≢true (sym e))
+
+  parts_open : (bytes : List ℕ) (parts : List Part) (rest more : List ℕ) → reach_end parts ≡ false → BeginWithParts limits bytes parts rest → BeginWithParts limits (bytes ++ more) parts (rest ++ more)
+  parts_open bytes [] rest more open_ b = ap (λ l. l ++ more) b
+  parts_open bytes (part ∷ parts) rest more open_ b =
+      let both = reach_first part parts open_ in
+      let joined : drop (size_of part) (bytes ++ more) ≡ drop (size_of part) bytes ++ more = drop-append-le (size_of part) bytes more (part_inside bytes part b.0) in (
+        part_more bytes more part both.0 b.0,
+        subst (λ l. BeginWithParts limits l parts (rest ++ more)) (sym joined) (parts_open (drop (size_of part) bytes) parts rest more both.1 b.1),
+      )
+
+  -- more bytes after, unless the input ends with these
+  pub parts_more : (bytes : List ℕ) (parts : List Part) (rest more : List ℕ) → (reach_end parts ≡ true → more ≡ []) → BeginWithParts limits bytes parts rest → BeginWithParts limits (bytes ++ more) parts (rest ++ more)
+  parts_more bytes parts rest more none b = by_end (reach_end parts) refl
+    where
+      by_end : (end : Bool) → reach_end parts ≡ end → BeginWithParts limits (bytes ++ more) parts (rest ++ more)
+      by_end false e = parts_open bytes parts rest more e b
+      by_end true e =
+          let no = none e in
+          let first : bytes ++ more ≡ bytes = ap (λ (l : List ℕ). bytes ++ l) no ∙ append-nil bytes in
+          let last : rest ++ more ≡ rest = ap (λ (l : List ℕ). rest ++ l) no ∙ append-nil rest in
+          transport (λ i. BeginWithParts limits (sym first i) parts (sym last i)) b
 
   -- parts after others
   pub parts_both : (bytes : List ℕ) (parts more : List Part) (mid rest : List ℕ) → BeginWithParts limits bytes parts mid → BeginWithParts limits mid more rest → BeginWithParts limits bytes (parts ++ more) rest
@@ -55,18 +171,32 @@ module _ (limits : Limits) where
 
   some_bytes : (bytes : List ℕ) (part : Part) → IsPart limits bytes part → 0 < size_of part
   some_bytes bytes (Whole item) p = (whole_inside limits bytes item.order item.message item.size p).0
-  some_bytes bytes (PassedOver kept fault by size) p = size_kept bytes kept by size (refused_later limits 0 kept fault (nothing_partial limits) p.1) p.2
+  some_bytes bytes (PassedOver kept fault by size) p = part_some bytes kept fault by size p
 
   -- no more parts than bytes
   pub few_parts : (bytes : List ℕ) (parts : List Part) (rest : List ℕ) → BeginWithParts limits bytes parts rest → length parts ≤ sizes_of parts
   few_parts bytes [] rest b = omega arith
   few_parts bytes (part ∷ parts) rest b = omega (arith, some_bytes bytes part b.0, few_parts (drop (size_of part) bytes) parts rest b.1)
 
+pub reach_wholes : (items : List CutMessage) → reach_end (wholes items) ≡ false
+reach_wholes [] = refl
+reach_wholes (item ∷ items) = reach_wholes items
+
+or_assoc : (a b c : Bool) → a || (b || c) ≡ (a || b) || c
+or_assoc true b c = refl
+or_assoc false b c = refl
+
+pub reach-both : (parts more : List Part) → reach_end (parts ++ more) ≡ reach_end parts || reach_end more
+reach-both [] more = refl
+reach-both (Whole item ∷ parts) more = reach-both parts more
+reach-both (PassedOver kept fault by size ∷ parts) more = ap (λ (b : Bool). is_to_end by || b) (reach-both parts more) ∙ or_assoc (is_to_end by) (reach_end parts) (reach_end more)
+
 -- the rest ends a run that is not to go on
-pub is_last : (packets : Option Packets) (goes : Bool) (limits : Limits) (offset : ℕ) (rest : List ℕ) (outcome : CutOutcome) (at_end : Type 0) → goes ≡ false → (((f : Fault) → outcome ≡ Refused f → ⊥) → at_end)
-    → IsLast packets None goes limits offset rest rest outcome at_end
-is_last packets goes limits offset rest (Refused fault) at_end halts all = (([], sym (append-nil rest)), λ _. refl, λ on. absurd (false≢true (sym halts ∙ on)))
-is_last packets goes limits offset rest outcome at_end halts all = (refl, all (λ f e. absurd (let both = e in cc)))
+pub is_last : (packets : Option Packets) (settings : Settings) (limits : Limits) (offset : ℕ) (rest : List ℕ) (outcome : CutOutcome) (at_end : Type 0) → settings.keeps_going ≡ false → (((f : Fault) → outcome ≡ Refused f → ⊥) → at_end)
+    → IsLast packets None settings limits offset rest rest outcome at_end
+is_last packets settings limits offset rest (Refused fault) at_end halts all = (([], sym (append-nil rest)), λ _. refl, λ on. absurd (false≢true (sym halts ∙ on)))
+is_last packets settings limits offset rest Ended at_end halts all = (refl, all (λ f e. absurd (let both = e in cc)))
+is_last packets settings limits offset rest Unfinished at_end halts all = (refl, all (λ f e. absurd (let both = e in cc)), λ on. absurd (false≢true (sym halts ∙ on)))
 
 -- ---- counts
 
@@ -193,7 +323,7 @@ module _ (packets : Option Packets) where
       (p.0, placed_last (n + 1) (offset + x.size) items item messages m p.1 (transport (λ i. IsPlaced packets (number i) (place i) item m) q))
 
   -- one more is passed over
-  pub placed_past : (n offset : ℕ) (parts : List Part) (kept : List ℕ) (fault : Fault) (by : Option ℕ) (size : ℕ) (messages : List Placed) → ArePlaced packets n offset parts messages
+  pub placed_past : (n offset : ℕ) (parts : List Part) (kept : List ℕ) (fault : Fault) (by : By) (size : ℕ) (messages : List Placed) → ArePlaced packets n offset parts messages
       → ArePlaced packets n offset (parts ++ PassedOver kept fault by size ∷ []) messages
   placed_past n offset parts kept fault by size messages p =
       subst (λ (l : List Placed). ArePlaced packets n offset (parts ++ PassedOver kept fault by size ∷ []) l) (append-nil messages)

@@ -66,6 +66,7 @@ module _ {R T B A G : Type 0} {b : Ghosts B} (k : Taking T G) (left : R → Opti
     most_reads = refl;
     limits_are = within;
     at_end = λ e. e;
+    settled = λ e. (refl, e);
   }
 
   module _ (Needed : List ℕ → Type 0) where
@@ -86,6 +87,7 @@ module _ {R T B A G : Type 0} {b : Ghosts B} (k : Taking T G) (left : R → Opti
       most_reads = r.most_reads ∙ h.most_reads;
       limits_are = r.limits ∙ h.limits_are;
       at_end = λ e. still_at_end mid new (is_ended mid) refl (h.at_end e) r;
+      settled = λ e. (let before = h.settled e in let more = r.settled before.1 in ((λ i. before.0 i ++ more.0 i), more.2));
     }
 
   pub read_more : (old mid new : Reader R T B A b) (items : List CutMessage) (rest : List ℕ) → HasRead k left calls limits kept old mid items rest → (r : Reads k left calls rest mid new)
@@ -105,6 +107,7 @@ module _ {R T B A G : Type 0} {b : Ghosts B} (k : Taking T G) (left : R → Opti
     most_reads = h.most_reads;
     limits_are = h.limits_are;
     at_end = h.at_end;
+    settled = h.settled;
   }
 
   -- no more was read than for the messages

@@ -13,7 +13,7 @@ use Rattle.dbus_value_model.specs.declared.limits.Limits.{Limits}
 use Rattle.dbus_header.specs.MessageOutcomes.{IsPartial}
 use Rattle.dbus_device.specs.Device.{Wrote, Stopped}
 use Rattle.dbus_device.specs.Packets.{Packets}
-use Rattle.dbus_stream.specs.Cut.{CutMessage, BeginWith, CutOutcome, Refused, IsOutcome, IsCut}
+use Rattle.dbus_stream.specs.Cut.{CutMessage, BeginWith, CutOutcome, Ended, Unfinished, Refused, IsOutcome, IsCut}
 use Rattle.dbus_stream.specs.CutEnds.{fault_at_end, sizes}
 use Rattle.dbus_stream.proofs.CutLaws.{BeginWith-first, IsCut-one}
 use Rattle.cli_options.specs.Limiting.{ask_more}
@@ -114,17 +114,20 @@ no_closing is_check tally None other none = λ i. closing_line false (other i) f
 no_closing is_check tally (Some fault) other none = λ i. closing_line false (other i) false tally (none i) (Some fault)
 
 -- all that was kept is the rest
-rest_is : (packets : Option Packets) (cut : Option (Option ℕ)) (limits : Limits) (offset : ℕ) (kept rest : List ℕ) (outcome : CutOutcome) (at_end : Type 0) → IsLast packets cut false limits offset kept rest outcome at_end
+rest_is : (packets : Option Packets) (cut : Option (Option ℕ)) (asked : Settings) (limits : Limits) (offset : ℕ) (kept rest : List ℕ) (outcome : CutOutcome) (at_end : Type 0) → IsLast packets cut (plain asked) limits offset kept rest outcome at_end
     → (rest ≡ kept) × (((f : Fault) → outcome ≡ Refused f → ⊥) → at_end) × (cut ≡ None)
-rest_is packets None limits offset kept rest (Refused fault) at_end last = (last.1 refl, λ none. absurd (none fault refl), refl)
-rest_is packets None limits offset kept rest outcome at_end last = (last.0, λ _. last.1, refl)
-rest_is packets (Some by) limits offset kept rest (Refused fault) at_end last = absurd (false≢true last.2)
-rest_is packets (Some by) limits offset kept rest outcome at_end last = absurd last
+rest_is packets None asked limits offset kept rest (Refused fault) at_end last = (last.1 refl, λ none. absurd (none fault refl), refl)
+rest_is packets None asked limits offset kept rest Unfinished at_end last = (last.0, λ _. last.1, refl)
+rest_is packets None asked limits offset kept rest Ended at_end last = (last.0, λ _. last.1, refl)
+rest_is packets (Some by) asked limits offset kept rest (Refused fault) at_end last = absurd (false≢true last.2)
+rest_is packets (Some by) asked limits offset kept rest Unfinished at_end last = absurd last
+rest_is packets (Some by) asked limits offset kept rest Ended at_end last = absurd last
 
 -- what shows of a fault ends a run that is not to go on
-last_shown : (packets : Option Packets) (limits : Limits) (offset : ℕ) (kept rest : List ℕ) (outcome : CutOutcome) (at_end : Type 0) → IsTellable kept rest outcome at_end → IsLast packets None false limits offset kept rest outcome at_end
-last_shown packets limits offset kept rest (Refused fault) at_end shown = (([], shown ∙ sym (append-nil kept)), λ _. shown, λ goes. absurd (false≢true goes))
-last_shown packets limits offset kept rest outcome at_end shown = shown
+last_shown : (packets : Option Packets) (asked : Settings) (limits : Limits) (offset : ℕ) (kept rest : List ℕ) (outcome : CutOutcome) (at_end : Type 0) → IsTellable kept rest outcome at_end → IsLast packets None (plain asked) limits offset kept rest outcome at_end
+last_shown packets asked limits offset kept rest (Refused fault) at_end shown = (([], shown ∙ sym (append-nil kept)), λ _. shown, λ goes. absurd (false≢true goes))
+last_shown packets asked limits offset kept rest Unfinished at_end shown = (shown.0, shown.1, λ goes. absurd (false≢true goes))
+last_shown packets asked limits offset kept rest Ended at_end shown = shown
 
 -- the line of the fault is told, with its packet
 told_line : (packets : Option Packets) (asked : Settings) (n offset : ℕ) (kept text : List ℕ) (fault : Option Fault) → IsToldLast packets (plain asked) n offset kept fault text
@@ -175,7 +178,7 @@ module _ {R W E : Type 0} (r : Reading R) (w : Writing W) (e : Writing E) (asked
     line_of = second_output command (sizes messages.items) last_fault last_packet
 
     rest_kept : (h.rest ≡ h.kept) × (((f : Fault) → h.tells.outcome ≡ Refused f → ⊥) → IsAtEnd (r.left r.new)) × (h.cut ≡ None)
-    rest_kept = rest_is packets h.cut limits (sizes_of h.parts) h.kept h.rest h.tells.outcome (IsAtEnd (r.left r.new)) h.last
+    rest_kept = rest_is packets h.cut asked limits (sizes_of h.parts) h.kept h.rest h.tells.outcome (IsAtEnd (r.left r.new)) h.last
 
     -- no message is passed over
     tally_is : tally ≡ tally_of h.parts
@@ -278,15 +281,18 @@ module _ {R W E : Type 0} (r : Reading R) (w : Writing W) (e : Writing E) (asked
     none_more : (cause : Cause) (s : Within (ByCause cause)) → s.more ≡ []
     none_more Memory s = elim s.all [
       | inl none ↦ none
-      | inr lacks ↦ (
-          let uncut = (rest_is packets lacks.3 limits (sizes_of s.parts) lacks.0 s.rest lacks.2.outcome _ lacks.4).2 in
-          let none = ap (λ (b : Option (Option ℕ)). (tally_with b s.parts s.rest).passed) uncut ∙ (messages_of (ByCause Memory) s).none_passed in
-          let faultless : lacks.1 ≡ None = elim (lacks.5 none) [ inl whole ↦ whole.0 | inr goes ↦ absurd (false≢true goes.1) ] in
-          none_last (plain asked) packets (length s.parts + 1) (sizes_of s.parts) lacks.0 lacks.1 s.more faultless lacks.2.told
-          )
+      | inr some ↦ elim some [
+        | inl lacks ↦ (
+            let uncut = (rest_is packets lacks.3 asked limits (sizes_of s.parts) lacks.0 s.rest lacks.2.outcome _ lacks.4).2 in
+            let none = ap (λ (b : Option (Option ℕ)). (tally_with b s.parts s.rest).passed) uncut ∙ (messages_of (ByCause Memory) s).none_passed in
+            let faultless : lacks.1 ≡ None = elim (lacks.5 none) [ inl whole ↦ whole.0 | inr goes ↦ absurd (false≢true goes.1) ] in
+            none_last (plain asked) packets (length s.parts + 1) (sizes_of s.parts) lacks.0 lacks.1 s.more faultless lacks.2.told
+            )
+        | inr seeks ↦ absurd (false≢true seeks.4)
+      ]
     ]
     none_more WriteFailed s = s.all
-    none_more cause s = elim s.all [ inl none ↦ none.1 | inr cut ↦ absurd (false≢true cut.5) ]
+    none_more cause s = elim s.all [ inl none ↦ none.1 | inr more ↦ elim more [ inl cut ↦ absurd (false≢true cut.5) | inr seeks ↦ absurd (false≢true seeks.4) ] ]
 
     none_told : (cause : Cause) (s : Within (ByCause cause)) → s.told ++ s.more ≡ []
     none_told cause s = λ i. (messages_of (ByCause cause) s).none_told i ++ none_more cause s i
@@ -324,7 +330,7 @@ module _ {R W E : Type 0} (r : Reading R) (w : Writing W) (e : Writing E) (asked
     all_messages : (cause : Cause) (s : Within (ByCause cause)) → IsAllOf (taken r) (plain asked) most (is_check command) s.parts s.rest s.more → WritesMessages packets limits command s.covers.bytes (all_of s.messages s.came.texts)
     all_messages cause s all =
         let m = messages_of (ByCause cause) s in
-        let partial : IsPartial limits s.rest = elim all [ inl none ↦ none.0 | inr cut ↦ absurd (false≢true cut.5) ] in
+        let partial : IsPartial limits s.rest = elim all [ inl none ↦ none.0 | inr more ↦ elim more [ inl cut ↦ absurd (false≢true cut.5) | inr seeks ↦ absurd (false≢true seeks.4) ] ] in
         record {
           items = m.items;
           rest = s.rest;
@@ -366,18 +372,18 @@ module _ {R W E : Type 0} (r : Reading R) (w : Writing W) (e : Writing E) (asked
       kept = (due_of s).0;
       tells = (due_of s).3;
       last = elim (due_of s).4 [
-        | inl shown ↦ last_shown packets limits (sizes_of s.parts) (due_of s).0 s.rest (due_of s).3.outcome _ shown.0
-        | inr last ↦ subst (λ (b : Option (Option ℕ)). IsLast packets b false limits (sizes_of s.parts) (due_of s).0 s.rest (due_of s).3.outcome _) (rest_is packets last.0 limits (sizes_of s.parts) (due_of s).0 s.rest (due_of s).3.outcome _ last.1).2 last.1
+        | inl shown ↦ last_shown packets asked limits (sizes_of s.parts) (due_of s).0 s.rest (due_of s).3.outcome _ shown.0
+        | inr last ↦ subst (λ (b : Option (Option ℕ)). IsLast packets b (plain asked) limits (sizes_of s.parts) (due_of s).0 s.rest (due_of s).3.outcome _) (rest_is packets last.0 asked limits (sizes_of s.parts) (due_of s).0 s.rest (due_of s).3.outcome _ last.1).2 last.1
       ];
       read_failed = s.caused;
     }
 
     -- and the last line after it, if it was reached
-    last_due : (s : Within Untold) (cut : Option (Option ℕ)) → IsLast packets cut false limits (sizes_of s.parts) (due_of s).0 s.rest (due_of s).3.outcome (IsAtEnd (r.left r.new))
+    last_due : (s : Within Untold) (cut : Option (Option ℕ)) → IsLast packets cut (plain asked) limits (sizes_of s.parts) (due_of s).0 s.rest (due_of s).3.outcome (IsAtEnd (r.left r.new))
         → s.more ≡ (due_of s).2 ++ closing_line false (is_check command) false (tally_with cut s.parts s.rest) (tally_with cut s.parts s.rest).passed (due_of s).1
         → s.more ≡ (due_of s).2 ++ closing_line false (is_check command) false (tally_of s.parts) (passed_count s.parts) (due_of s).1
     last_due s cut last more =
-        more ∙ ap (λ (b : Option (Option ℕ)). (due_of s).2 ++ closing_line false (is_check command) false (tally_with b s.parts s.rest) (tally_with b s.parts s.rest).passed (due_of s).1) (rest_is packets cut limits (sizes_of s.parts) (due_of s).0 s.rest (due_of s).3.outcome _ last).2
+        more ∙ ap (λ (b : Option (Option ℕ)). (due_of s).2 ++ closing_line false (is_check command) false (tally_with b s.parts s.rest) (tally_with b s.parts s.rest).passed (due_of s).1) (rest_is packets cut asked limits (sizes_of s.parts) (due_of s).0 s.rest (due_of s).3.outcome _ last).2
 
     untold : (b : Bool) → is_check command ≡ b → (end : ExitStatus) → (s : Within Untold) → end ≡ status.Failed → GotFirst w.held w.failures b Untold (first_of b (output_of (form_of command) false (plain asked).window s.messages s.came.texts) (s.told ++ s.more)) w.old w.new
         → GotSecond e.held e.failures b Untold (second_of b (s.told ++ s.more)) e.old before → TellsStop e.held e.failures b Untold before e.new → Runs r w e limits most command end

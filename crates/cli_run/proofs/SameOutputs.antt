@@ -46,7 +46,7 @@ use Rattle.cli_run.specs.Going.{AreTold, IsTold, IsToldIn, IsToldLast, ShowsNone
 use Rattle.cli_run.specs.Shown.{AreOneEach, Shown, last_of, passed_of}
 use Rattle.cli_run.specs.declared.place.MessagePlace.{MessagePlace}
 use Rattle.cli_run.proofs.Outputs.{output_all_one}
-use Rattle.cli_run.proofs.SameParts.{ArePassed, AreSame, IsKeptOf, bare, one_packet, packet_by}
+use Rattle.cli_run.proofs.SameParts.{ArePassed, AreSame, IsKeptOf, bare, packet_by, part_packet}
 
 -- ---- parts
 
@@ -91,7 +91,7 @@ bare_tally (PassedOver kept fault by size ∷ parts) =
 -- ---- what is told
 
 -- a part is passed over only if the run is to go on
-pub are_passed : (packets : Option Packets) (settings : Settings) (n offset : ℕ) (parts : List Part) (told : List ℕ) → AreTold packets settings n offset parts told → ArePassed packets settings.limits settings.keeps_going offset parts
+pub are_passed : (packets : Option Packets) (settings : Settings) (n offset : ℕ) (parts : List Part) (told : List ℕ) → AreTold packets settings n offset parts told → ArePassed packets settings.limits settings offset parts
 are_passed packets settings n offset [] told t = tt
 are_passed packets settings n offset (Whole item ∷ parts) told t = are_passed packets settings (n + 1) (offset + item.size) parts t.1 t.4
 are_passed packets settings n offset (PassedOver kept fault by size ∷ parts) told t = (t.3.0, t.3.1, are_passed packets settings (n + 1) (offset + size) parts t.1 t.4)
@@ -182,7 +182,7 @@ module _ (settings : Settings) where
         let more : AreSame parts others = cc in
         let there = subst (λ k. BeginWithParts settings.limits (drop k bytes) others last) (sym long) y.1 in
         let told = subst (λ k. AreTold (Some all) settings (n + 1) (offset + k) others q.1) (sym long) q.4 in
-        let packet = one_packet settings.limits all offset bytes kept also fault other p.3.2.0 q.3.2.0 x.0.0 y.0.0 x.0.1 y.0.1 p.3.2.1 q.3.2.1 in
+        let packet = part_packet settings.limits all offset bytes kept also fault other by with size wide p.3.2.0 q.3.2.0 x.0 y.0 p.3.2.1 q.3.2.1 in
         let line : p.0 ≡ q.0 = one_text n n offset offset fault other p.3.2.0 q.3.2.0 kept also p.0 q.0 refl refl one packet (prefix_one bytes kept also x.0.0 y.0.0) (show_first (record { kept = kept; fault = fault }) (record { kept = also; fault = other }) (passed_of parts) (passed_of others) shows) p.3.2.2 q.3.2.2 in
         p.2 ∙ ((λ i. line i ++ same_told (n + 1) (offset + size) (drop size bytes) parts others rest last p.1 q.1 more (show_others (record { kept = kept; fault = fault }) (record { kept = also; fault = other }) (passed_of parts) (passed_of others) shows) x.1 there p.4 told i) ∙ sym q.2)
 

@@ -1,8 +1,8 @@
 -- An input has one list of parts, and one rest after them that ends a run; but what was kept of a
 -- part that is passed over is as much as happened to be read.
-use Rattle.std.proofs.Common.{◌≡◌, ◌⊎◌, ℕ, ◌+◌, ◌-◌, ◌<◌, ◌≤◌, Bool, true, List, [], ◌∷◌, ◌++◌, Option, None, Some, length, drop, take, refl, sym, ap, ◌∙◌, subst, arith, append-nil, append_assoc, inl, inr, length-append}
+use Rattle.std.proofs.Common.{◌≡◌, ◌⊎◌, ℕ, ◌+◌, ◌-◌, ◌<◌, ◌≤◌, Bool, true, false, List, [], ◌∷◌, ◌++◌, Option, None, Some, length, drop, take, refl, sym, ap, ◌∙◌, subst, arith, append-nil, append_assoc, inl, inr, length-append}
 use Rattle.std.proofs.Math.Path.{transport}
-use Rattle.std.proofs.lemmas.Bool.{cases_lt}
+use Rattle.std.proofs.lemmas.Bool.{cases_lt, false≢true}
 use Rattle.std.proofs.lemmas.List.{take_at, take-append-le, take-take}
 use Rattle.dbus_device.specs.Packets.{Packets}
 use Rattle.dbus_device.specs.declared.packet.Packet.{Packet}
@@ -13,16 +13,25 @@ use Rattle.dbus_value_model.specs.declared.limits.Limits.{Limits}
 use Rattle.dbus_header.specs.MessageOutcomes.{IsWhole, IsRefused, IsPartial}
 use Rattle.dbus_header.proofs.OutcomeLaws.{not_both, nothing_partial, one_fault, one_outcome, one_whole, refused_for_good}
 use Rattle.dbus_stream.specs.Cut.{CutMessage, CutOutcome, Ended, Unfinished, Refused, IsOutcome}
-use Rattle.dbus_stream.specs.CutEnds.{fault_at_end}
+use Rattle.dbus_resync.specs.declared.found.Found.{Found}
+use Rattle.dbus_resync.specs.declared.found.Found.TheVariants.{At}
+use Rattle.dbus_stream.specs.CutEnds.{fault_at_end, truncated}
+use Rattle.dbus_stream.specs.GoingOn.{Resumes}
+use Rattle.dbus_stream.specs.Next.{IsCutShort}
 use Rattle.dbus_stream.specs.Packed.{number_of as packed_number}
 use Rattle.dbus_stream.specs.Packets.{ShowsIn}
 use Rattle.dbus_stream.specs.PassingPackets.{AreOfNumber}
-use Rattle.dbus_stream.specs.StatedSizes.{StatesNone}
+use Rattle.dbus_stream.specs.StatedSizes.{StatesNone, WantsMore}
+use Rattle.dbus_stream.proofs.AheadSteps.{one_resumed}
 use Rattle.dbus_stream.proofs.FaultPackets.{partial_take, refused_later}
 use Rattle.dbus_stream.proofs.SizeSteps.{none_more, size_once, sizes_tell}
 use Rattle.cli_report.specs.Gathering.{IsPrefixTo}
 use Rattle.cli_run.specs.Going.{passed_count}
-use Rattle.cli_run.specs.Inputs.{BeginWithParts, GoesPast, HasSize, IsLast, IsPart, IsPassedBy, Part, PassedOver, Whole, sizes_of}
+use Rattle.cli_options.specs.declared.resync.Resync.{Resync}
+use Rattle.cli_options.specs.declared.resync.Resync.TheVariants.{Off, Within}
+use Rattle.cli_options.specs.declared.settings.Settings.{Settings}
+use Rattle.cli_run.specs.Inputs.{BeginNowhere, BeginWithParts, By, GoesPast, HasSize, InPacket, IsCutUnpassed, IsFaultOf, IsLast, IsPart, IsPassedBy, IsUnpassed, Part, PassedOver, ResumeIn, Resumed, Stated, Whole, effort_of, is_there, is_to_end, sizes_of}
+use Rattle.cli_run.proofs.PartLaws.{either_fault, none_begins, window_more}
 use Rattle.cli_run.specs.Refusals.{IsRefusedIn, number_of}
 use Rattle.dbus_stream.proofs.MessageEnds.{refused_reason}
 
@@ -30,7 +39,7 @@ use Rattle.dbus_stream.proofs.MessageEnds.{refused_reason}
 abbrev pub bare : List Part → List Part
 bare [] = []
 bare (Whole item ∷ parts) = Whole item ∷ bare parts
-bare (PassedOver kept fault by n ∷ parts) = PassedOver [] fault None n ∷ bare parts
+bare (PassedOver kept fault by n ∷ parts) = PassedOver [] fault Stated n ∷ bare parts
 
 abbrev pub AreSame : List Part → List Part → Type 0
 AreSame parts others = bare parts ≡ bare others
@@ -103,22 +112,69 @@ module _ (limits : Limits) (all : Packets) (offset : ℕ) where
   packet_by w kept also outcome p q x y s t = packet_of_both kept p q s (subst (λ (l : List ℕ). IsRefusedIn (Some all) limits offset l q) (y ∙ sym x) t)
 
 -- if any is passed over, the run goes on, and so many bytes are passed over as are due
-abbrev pub ArePassed : Option Packets → Limits → (goes_on : Bool) → (offset : ℕ) → List Part → Type 0
-ArePassed packets limits goes_on offset [] = Unit {0}
-ArePassed packets limits goes_on offset (Whole item ∷ parts) = ArePassed packets limits goes_on (offset + item.size) parts
-ArePassed packets limits goes_on offset (PassedOver kept fault by n ∷ parts) = (goes_on ≡ true) × IsPassedBy packets limits offset kept by n × ArePassed packets limits goes_on (offset + n) parts
+abbrev pub ArePassed : Option Packets → Limits → Settings → (offset : ℕ) → List Part → Type 0
+ArePassed packets limits how offset [] = Unit {0}
+ArePassed packets limits how offset (Whole item ∷ parts) = ArePassed packets limits how (offset + item.size) parts
+ArePassed packets limits how offset (PassedOver kept fault by n ∷ parts) = (how.keeps_going ≡ true) × IsPassedBy packets how.resync limits offset kept by n × ArePassed packets limits how (offset + n) parts
 
 -- both inputs are of the same packets
 abbrev pub AreSamePackets : Option Packets → Option Packets → Type 0
 AreSamePackets packets others = (all : Packets) × (packets ≡ Some all) × (others ≡ Some all)
 
+-- ---- one fault
+
+module _ (limits : Limits) where
+  pub refused_from : (kept w : List ℕ) (fault : Fault) → IsPrefixTo kept w → IsRefused limits kept fault → IsRefused limits w fault
+  refused_from kept w fault p r = subst (λ l. IsRefused limits l fault) (sym p.1) (refused_for_good limits kept p.0 fault r)
+
+  -- the same, and that it was looked at to the end
+  fault_end : (w kept : List ℕ) (fault : Fault) (by : By) → IsFaultOf limits kept w fault by → IsRefused limits kept fault ⊎ ((is_to_end by ≡ true) × ((kept ≡ w) × IsCutShort limits kept fault))
+  fault_end w kept fault Stated f = inl f
+  fault_end w kept fault (InPacket number) f = inl f
+  fault_end w kept fault (Resumed window false) f = inl f
+  fault_end w kept fault (Resumed window true) f = elim f [ inl refused ↦ inl refused | inr cut ↦ inr (refl, cut) ]
+
+  -- what is refused is not what the input ends within
+  not_cut : (w kept also : List ℕ) (fault other : Fault) → IsPrefixTo kept w → IsRefused limits kept fault → (also ≡ w) × IsCutShort limits also other → ⊥
+  not_cut w kept also fault other front refused cut = (one_outcome limits w).2 fault (refused_from kept w fault front refused) (subst (λ (l : List ℕ). IsPartial limits l) cut.0 cut.1.1)
+
+  pub part_fault : (w kept also : List ℕ) (fault other : Fault) (by from : By) (n m : ℕ) → IsPart limits w (PassedOver kept fault by n) → IsPart limits w (PassedOver also other from m) → fault ≡ other
+  part_fault w kept also fault other by from n m x y = elim (either_fault limits w kept fault by x.1) [
+    | inl refused ↦ elim (either_fault limits w also other from y.1) [
+      | inl too ↦ one_fault limits w fault other (refused_from kept w fault x.0 refused) (refused_from also w other y.0 too)
+      | inr cut ↦ absurd (not_cut w kept also fault other x.0 refused cut)
+    ]
+    | inr cut ↦ elim (either_fault limits w also other from y.1) [
+      | inl too ↦ absurd (not_cut w also kept other fault y.0 too cut)
+      | inr cut_too ↦ cut.1.2 ∙ (ap truncated (cut.0 ∙ sym cut_too.0) ∙ sym cut_too.1.2)
+    ]
+  ]
+
+  -- and their faults are of one packet
+  pub part_packet : (all : Packets) (offset : ℕ) (w kept also : List ℕ) (fault other : Fault) (by from : By) (n m : ℕ) (p q : Option ℕ) → IsPart limits w (PassedOver kept fault by n) → IsPart limits w (PassedOver also other from m)
+      → IsRefusedIn (Some all) limits offset kept p → IsRefusedIn (Some all) limits offset also q → p ≡ q
+  part_packet all offset w kept also fault other by from n m p q x y s t = elim (either_fault limits w kept fault by x.1) [
+    | inl refused ↦ elim (either_fault limits w also other from y.1) [
+      | inl too ↦ one_packet limits all offset w kept also fault other p q x.0 y.0 refused too s t
+      | inr cut ↦ absurd (not_cut w kept also fault other x.0 refused cut)
+    ]
+    | inr cut ↦ elim (either_fault limits w also other from y.1) [
+      | inl too ↦ absurd (not_cut w also kept other fault y.0 too cut)
+      | inr cut_too ↦ packet_of_both limits all offset kept p q s (subst (λ (l : List ℕ). IsRefusedIn (Some all) limits offset l q) (cut_too.0 ∙ sym cut.0) t)
+    ]
+  ]
+
+  pub no_whole_part : (w kept : List ℕ) (fault : Fault) (by : By) (n : ℕ) (item : CutMessage) → IsPart limits w (PassedOver kept fault by n) → IsWhole limits w item.order item.message item.size → ⊥
+  no_whole_part w kept fault by n item p whole = none_begins limits w kept fault by p.0 p.1 item.order item.message item.size whole
+
 -- ---- the bytes that are passed over
 
-module _ (limits : Limits) (all : Packets) (offset : ℕ) where
-  in_fault : (kept : List ℕ) (by : Option ℕ) (n : ℕ) → IsPassedBy (Some all) limits offset kept by n → IsRefusedIn (Some all) limits offset kept by
-  in_fault kept None n p = p
-  in_fault kept (Some number) n p = p.0
+-- a message at the end is not passed over; or goes on to the end of the input
+abbrev pub IsStuck : Limits → Resync → (offset : ℕ) → Option Packets → (cut : Option (Option ℕ)) → (kept w : List ℕ) → Type 0
+IsStuck limits resync offset packets None kept w = IsUnpassed packets resync limits offset kept w (Unit {0})
+IsStuck limits resync offset packets (Some by) kept w = GoesPast packets resync limits offset kept w by × IsRefusedIn packets limits offset kept by
 
+module _ (limits : Limits) (all : Packets) (resync : Resync) (offset : ℕ) where
   -- if the bytes after those that were kept are of the packet of the fault, so are those before
   -- them, from the fault on, however many others kept
   in_packet_from : (w kept also : List ℕ) (fault other : Fault) (number end i : ℕ) → IsPrefixTo kept w → IsPrefixTo also w → IsRefused limits kept fault → IsRefused limits also other
@@ -133,43 +189,122 @@ module _ (limits : Limits) (all : Packets) (offset : ℕ) where
 
   -- no two sizes
   size_below : (w kept also : List ℕ) (fault other : Fault) (number n m : ℕ) → IsPrefixTo kept w → IsPrefixTo also w → IsRefused limits kept fault → IsRefused limits also other
-      → IsPassedBy (Some all) limits offset kept (Some number) m → IsPassedBy (Some all) limits offset also (Some number) n → length also ≤ n → n < m → ⊥
+      → IsPassedBy (Some all) resync limits offset kept (InPacket number) m → IsPassedBy (Some all) resync limits offset also (InPacket number) n → length also ≤ n → n < m → ⊥
   size_below w kept also fault other number n m x y one too p q from less = q.2 (in_packet_from w kept also fault other number m n x y one too p.0 p.1 from less)
 
-  one_passed : (w kept also : List ℕ) (fault other : Fault) (by : Option ℕ) (n m : ℕ) → IsPrefixTo kept w → IsPrefixTo also w → IsRefused limits kept fault → IsRefused limits also other
-      → IsPassedBy (Some all) limits offset kept by n → IsPassedBy (Some all) limits offset also by m → HasSize limits kept w by n → HasSize limits also w by m → n ≡ m
-  one_passed w kept also fault other None n m x y one too p q h k = size_once limits w m n k.0 h.0
-  one_passed w kept also fault other (Some number) n m x y one too p q h k = elim (cases_lt n m) [
-    | inl less ↦ absurd (size_below w also kept other fault number n m y x too one q p h.0 less)
+  one_in_packet : (w kept also : List ℕ) (fault other : Fault) (number n m : ℕ) → IsPart limits w (PassedOver kept fault (InPacket number) n) → IsPart limits w (PassedOver also other (InPacket number) m)
+      → IsPassedBy (Some all) resync limits offset kept (InPacket number) n → IsPassedBy (Some all) resync limits offset also (InPacket number) m → n ≡ m
+  one_in_packet w kept also fault other number n m x y p q = elim (cases_lt n m) [
+    | inl less ↦ absurd (size_below w also kept other fault number n m y.0 x.0 y.1 x.1 q p x.2.0 less)
     | inr more ↦ elim (cases_lt m n) [
-      | inl less ↦ absurd (size_below w kept also fault other number m n x y one too p q k.0 less)
+      | inl less ↦ absurd (size_below w kept also fault other number m n x.0 y.0 x.1 y.1 p q y.2.0 less)
       | inr same ↦ omega (arith, more, same)
     ]
   ]
 
+  -- a fault that is of a packet is not one of none
+  other_packet : (w kept also : List ℕ) (fault other : Fault) (number : ℕ) → IsPrefixTo kept w → IsPrefixTo also w → IsRefused limits kept fault → IsRefused limits also other ⊎ ((also ≡ w) × IsCutShort limits also other)
+      → IsRefusedIn (Some all) limits offset kept (Some number) → IsRefusedIn (Some all) limits offset also None → ⊥
+  other_packet w kept also fault other number x y one too s t = elim too [
+    | inl refused ↦ (let same : Some number ≡ None = one_packet limits all offset w kept also fault other (Some number) None x y one refused s t in cc)
+    | inr cut ↦ not_cut limits w kept also fault other x one cut
+  ]
+
+  -- messages begin again in one place
+  one_resume : (window : ℕ) (w : List ℕ) (found other : Found) → ResumeIn limits window w found → ResumeIn limits window w other → found ≡ other
+  one_resume window w found other r s = one_resumed limits window (effort_of window) (take window w) found other r s
+
+  -- two that are passed over have one size
+  pub same_size : (w kept also : List ℕ) (fault other : Fault) (by from : By) (n m : ℕ) → IsPart limits w (PassedOver kept fault by n) → IsPart limits w (PassedOver also other from m)
+      → IsPassedBy (Some all) resync limits offset kept by n → IsPassedBy (Some all) resync limits offset also from m → n ≡ m
+  same_size w kept also fault other Stated Stated n m x y p q = size_once limits w m n y.2.0 x.2.0
+  same_size w kept also fault other Stated (InPacket number) n m x y p q = absurd (other_packet w also kept other fault number y.0 x.0 y.1 (inl x.1) q.0 p.1)
+  same_size w kept also fault other Stated (Resumed window to_end) n m x y p q = absurd (let both = sym p.0 ∙ q.0 in cc)
+  same_size w kept also fault other (InPacket number) Stated n m x y p q = absurd (other_packet w kept also fault other number x.0 y.0 x.1 (inl y.1) p.0 q.1)
+  same_size w kept also fault other (InPacket number) (InPacket second) n m x y p q =
+      let both : Some number ≡ Some second = one_packet limits all offset w kept also fault other (Some number) (Some second) x.0 y.0 x.1 y.1 p.0 q.0 in
+      let same : second ≡ number = cc in
+      one_in_packet w kept also fault other number n m x (subst (λ k. IsPart limits w (PassedOver also other (InPacket k) m)) same y) p (subst (λ k. IsPassedBy (Some all) resync limits offset also (InPacket k) m) same q)
+  same_size w kept also fault other (InPacket number) (Resumed window to_end) n m x y p q =
+      absurd (other_packet w kept also fault other number x.0 y.0 x.1 (either_fault limits w also other (Resumed window to_end) y.1) p.0 q.1)
+  same_size w kept also fault other (Resumed window to_end) Stated n m x y p q = absurd (let both = sym p.0 ∙ q.0 in cc)
+  same_size w kept also fault other (Resumed window to_end) (InPacket number) n m x y p q =
+      absurd (other_packet w also kept other fault number y.0 x.0 y.1 (either_fault limits w kept fault (Resumed window to_end) x.1) q.0 p.1)
+  same_size w kept also fault other (Resumed window to_end) (Resumed wide end) n m x y p q =
+      let both : Within window ≡ Within wide = sym p.0 ∙ q.0 in
+      let same : wide ≡ window = cc in
+      let one : At n ≡ At m = one_resume window w (At n) (At m) x.2.0 (subst (λ k. ResumeIn limits k w (At m)) same y.2.0) in
+      cc
+
   -- nor does one end that goes on to the end of the input
-  not_past : (w kept also : List ℕ) (fault other : Fault) (by : Option ℕ) (n : ℕ) → IsPrefixTo kept w → IsPrefixTo also w → IsRefused limits kept fault → IsRefused limits also other
-      → IsRefusedIn (Some all) limits offset kept by → GoesPast (Some all) limits offset kept w by → IsPassedBy (Some all) limits offset also by n → HasSize limits also w by n → ⊥
-  not_past w kept also fault other None n x y one too s past p h = ((sizes_tell limits w).1 n h.0).1 h.1 past
-  not_past w kept also fault other (Some number) n x y one too s past p h = p.2 (in_packet_from w kept also fault other number (length w) n x y one too s past h.0 h.1)
+  not_past : (w kept also : List ℕ) (fault other : Fault) (number n : ℕ) → IsPrefixTo kept w → IsPrefixTo also w → IsRefused limits kept fault → IsRefused limits also other
+      → IsRefusedIn (Some all) limits offset kept (Some number) → GoesPast (Some all) resync limits offset kept w (Some number) → IsPassedBy (Some all) resync limits offset also (InPacket number) n → HasSize limits also w (InPacket number) n → ⊥
+  not_past w kept also fault other number n x y one too s past p h = p.2 (in_packet_from w kept also fault other number (length w) n x y one too s past h.0 h.1)
+
+  -- where they begin again nowhere, they do not begin again
+  not_nowhere : (window : ℕ) (w : List ℕ) (n : ℕ) → BeginNowhere limits window w (Unit {0}) → ResumeIn limits window w (At n) → ⊥
+  not_nowhere window w n none r =
+      let same : none.found ≡ At n = one_resume window w none.found (At n) none.resumes r in
+      false≢true (sym none.nowhere ∙ ap is_there same)
+
+  -- one that states no size does not go on to the end of the input by that
+  not_stuck : (w kept also : List ℕ) (fault : Fault) (by : Option ℕ) → IsPrefixTo kept w → IsPrefixTo also w → IsRefused limits kept fault → IsRefused limits also fault → IsStuck limits resync offset (Some all) (Some by) kept w → IsStuck limits resync offset (Some all) None also w → ⊥
+  not_stuck w kept also fault by x y one too s t = by_resync resync refl t
+    where
+      past : (also_in : IsRefusedIn (Some all) limits offset also None) → (resync ≡ Off) × WantsMore limits w
+      past also_in =
+          let same : by ≡ None = one_packet limits all offset w kept also fault fault by None x y one too s.1 also_in in
+          subst (λ b. GoesPast (Some all) resync limits offset kept w b) same s.0
+
+      by_resync : (r : Resync) → resync ≡ r → IsUnpassed (Some all) r limits offset also w (Unit {0}) → ⊥
+      by_resync Off is t = (sizes_tell limits w).0 t.1 (past t.0).1
+      by_resync (Within window) is t = let off = sym is ∙ (past t.0).0 in absurd cc
+
+  -- a message that is refused, and ends a run, is not passed over
+  stuck_part : (cut : Option (Option ℕ)) (w kept also : List ℕ) (fault other : Fault) (by : By) (n : ℕ) → IsPrefixTo kept w → IsRefused limits kept fault → IsRefused limits also other → IsStuck limits resync offset (Some all) cut kept w
+      → IsPassedBy (Some all) resync limits offset also by n → IsPart limits w (PassedOver also other by n) → ⊥
+  stuck_part None w kept also fault other Stated n x one too s p h =
+      let t = subst (λ (r : Resync). IsUnpassed (Some all) r limits offset kept w (Unit {0})) p.0 s in
+      ((sizes_tell limits w).1 n h.2.0).0 t.1
+  stuck_part None w kept also fault other (Resumed window to_end) n x one too s p h =
+      let t = subst (λ (r : Resync). IsUnpassed (Some all) r limits offset kept w (Unit {0})) p.0 s in
+      not_nowhere window w n t.1 h.2.0
+  stuck_part None w kept also fault other (InPacket number) n x one too s p h = other_packet w also kept other fault number h.0 x too (inl one) p.0 (in_none resync s)
+    where
+      in_none : (r : Resync) → IsUnpassed (Some all) r limits offset kept w (Unit {0}) → IsRefusedIn (Some all) limits offset kept None
+      in_none Off t = t.0
+      in_none (Within window) t = t.0
+  stuck_part (Some from) w kept also fault other Stated n x one too s p h =
+      let same : from ≡ None = one_packet limits all offset w kept also fault other from None x h.0 one too s.1 p.1 in
+      let past = subst (λ b. GoesPast (Some all) resync limits offset kept w b) same s.0 in
+      ((sizes_tell limits w).1 n h.2.0).1 h.2.1 past.1
+  stuck_part (Some from) w kept also fault other (Resumed window to_end) n x one too s p h =
+      let same : from ≡ None = one_packet limits all offset w kept also fault other from None x h.0 one too s.1 p.1 in
+      let past = subst (λ b. GoesPast (Some all) resync limits offset kept w b) same s.0 in
+      absurd (let both = sym past.0 ∙ p.0 in cc)
+  stuck_part (Some from) w kept also fault other (InPacket number) n x one too s p h =
+      let same : from ≡ Some number = one_packet limits all offset w kept also fault other from (Some number) x h.0 one too s.1 p.0 in
+      not_past w kept also fault other number n x h.0 one too (subst (λ b. IsRefusedIn (Some all) limits offset kept b) same s.1) (subst (λ b. GoesPast (Some all) resync limits offset kept w b) same s.0) p h.2
+
+  -- nor is one that the input ends within, if messages begin again nowhere
+  cut_part : (w kept also : List ℕ) (other : Fault) (by : By) (n : ℕ) → kept ≡ w → (also ≡ w) × IsCutShort limits also other → (is_to_end by ≡ true) → IsCutUnpassed (Some all) resync limits offset kept w (Unit {0}) → IsPassedBy (Some all) resync limits offset also by n
+      → IsPart limits w (PassedOver also other by n) → ⊥
+  cut_part w kept also other Stated n x cut end s p h = false≢true end
+  cut_part w kept also other (InPacket number) n x cut end s p h = false≢true end
+  cut_part w kept also other (Resumed window to_end) n x cut end s p h =
+      let t = subst (λ (r : Resync). IsCutUnpassed (Some all) r limits offset kept w (Unit {0})) p.0 s in
+      let there = subst (λ (l : List ℕ). IsRefusedIn (Some all) limits offset l None) (cut.0 ∙ sym x) p.1 in
+      not_nowhere window w n (t.2 (packet_of_both limits all offset kept t.0 None t.1 there)) h.2.0
 
 module _ (limits : Limits) where
-  -- a message at the end is not passed over: it states no size, and is of no packet; or goes on to
-  -- the end of the input
-  abbrev pub IsStuck : Option Packets → (offset : ℕ) → (cut : Option (Option ℕ)) → (kept w : List ℕ) → Type 0
-  IsStuck packets offset None kept w = StatesNone limits w × IsRefusedIn packets limits offset kept None
-  IsStuck packets offset (Some by) kept w = GoesPast packets limits offset kept w by × IsRefusedIn packets limits offset kept by
-
   -- these bytes, which are all that is left of the input, end a run. kept was kept of them
-  pub record EndsHere (packets : Option Packets) (cut : Option (Option ℕ)) (goes_on : Bool) (offset : ℕ) (w : List ℕ) (outcome : CutOutcome) : Type 0 where
+  pub record EndsHere (packets : Option Packets) (cut : Option (Option ℕ)) (how : Settings) (offset : ℕ) (w : List ℕ) (outcome : CutOutcome) : Type 0 where
     pub outcome_is : IsOutcome limits w outcome
     pub kept : List ℕ
     pub kept_is : IsKeptOf limits outcome kept w
-    pub cut_off : (by : Option ℕ) → cut ≡ Some by → (fault : Fault) × (outcome ≡ Refused fault) × (goes_on ≡ true)
-    pub stuck : (fault : Fault) → outcome ≡ Refused fault → goes_on ≡ true → IsStuck packets offset cut kept w
-
-  pub refused_from : (kept w : List ℕ) (fault : Fault) → IsPrefixTo kept w → IsRefused limits kept fault → IsRefused limits w fault
-  refused_from kept w fault p r = subst (λ l. IsRefused limits l fault) (sym p.1) (refused_for_good limits kept p.0 fault r)
+    pub cut_off : (by : Option ℕ) → cut ≡ Some by → (fault : Fault) × (outcome ≡ Refused fault) × (how.keeps_going ≡ true)
+    pub stuck : (fault : Fault) → outcome ≡ Refused fault → how.keeps_going ≡ true → IsStuck limits how.resync offset packets cut kept w
+    pub unsought : outcome ≡ Unfinished → how.keeps_going ≡ true → IsCutUnpassed packets how.resync limits offset kept w (Unit {0})
 
   -- ---- one list of parts
 
@@ -180,10 +315,7 @@ module _ (limits : Limits) where
 
   -- nothing is refused, or both are of the same packets
   abbrev pub AreKnown : (packets others : Option Packets) → CutOutcome → List Part → Type 0
-  AreKnown packets others outcome parts = AreSamePackets packets others ⊎ ((passed_count parts ≡ 0) × ((fault : Fault) → outcome ≡ Refused fault → ⊥))
-
-  known_next : (packets others : Option Packets) (outcome : CutOutcome) (item : CutMessage) (parts : List Part) → AreKnown packets others outcome (Whole item ∷ parts) → AreKnown packets others outcome parts
-  known_next packets others outcome item parts k = k
+  AreKnown packets others outcome parts = AreSamePackets packets others ⊎ ((passed_count parts ≡ 0) × (outcome ≡ Ended))
 
   -- a message that has one fault is refused for that
   is_refused : (w : List ℕ) (outcome : CutOutcome) (fault : Fault) → IsOutcome limits w outcome → IsRefused limits w fault → outcome ≡ Refused fault
@@ -191,84 +323,82 @@ module _ (limits : Limits) where
   is_refused w Unfinished fault o refused = absurd ((one_outcome limits w).2 fault refused o.1)
   is_refused w (Refused other) fault o refused = ap Refused (one_fault limits w other fault o refused)
 
-  -- two that are passed over have one size
-  same_size : (all : Packets) (offset : ℕ) (w kept also : List ℕ) (fault other : Fault) (by from : Option ℕ) (n m : ℕ) → IsPart limits w (PassedOver kept fault by n) → IsPart limits w (PassedOver also other from m)
-      → IsPassedBy (Some all) limits offset kept by n → IsPassedBy (Some all) limits offset also from m → n ≡ m
-  same_size all offset w kept also fault other by from n m x y p q =
-      let same : by ≡ from = one_packet limits all offset w kept also fault other by from x.0 y.0 x.1 y.1 (in_fault limits all offset kept by n p) (in_fault limits all offset also from m q) in
-      one_passed limits all offset w kept also fault other by n m x.0 y.0 x.1 y.1 p (subst (λ b. IsPassedBy (Some all) limits offset also b m) (sym same) q) x.2 (subst (λ b. HasSize limits also w b m) (sym same) y.2)
+  is_unfinished : (w kept : List ℕ) (outcome : CutOutcome) (fault : Fault) → IsOutcome limits w outcome → (kept ≡ w) × IsCutShort limits kept fault → outcome ≡ Unfinished
+  is_unfinished w kept Ended fault o cut = absurd (cut.1.0 (cut.0 ∙ o))
+  is_unfinished w kept Unfinished fault o cut = refl
+  is_unfinished w kept (Refused other) fault o cut = absurd ((one_outcome limits w).2 other o (subst (λ (l : List ℕ). IsPartial limits l) cut.0 cut.1.1))
 
-  pub both_size : (packets others : Option Packets) → AreSamePackets packets others → (offset at : ℕ) → offset ≡ at → (w kept also : List ℕ) (fault other : Fault) (by from : Option ℕ) (n m : ℕ)
-      → IsPart limits w (PassedOver kept fault by n) → IsPart limits w (PassedOver also other from m) → IsPassedBy packets limits offset kept by n → IsPassedBy others limits at also from m → n ≡ m
-  both_size packets others same offset at there w kept also fault other by from n m x y p q =
-      same_size same.0 offset w kept also fault other by from n m x y (subst (λ (l : Option Packets). IsPassedBy l limits offset kept by n) same.1 p)
-      (transport (λ i. IsPassedBy (same.2 i) limits (sym there i) also from m) q)
-
-  -- one that states no size, and is of no packet, does not go on
-  not_stuck : (all : Packets) (offset : ℕ) (w kept also : List ℕ) (fault : Fault) (by : Option ℕ) → IsPrefixTo kept w → IsPrefixTo also w → IsRefused limits kept fault → IsRefused limits also fault
-      → IsStuck (Some all) offset (Some by) kept w → IsStuck (Some all) offset None also w → ⊥
-  not_stuck all offset w kept also fault by x y one too s t =
-      let same : by ≡ None = one_packet limits all offset w kept also fault fault by None x y one too s.1 t.1 in
-      (sizes_tell limits w).0 t.0 (subst (λ b. GoesPast (Some all) limits offset kept w b) same s.0)
-
-  -- a message that is refused, and goes on to the end of the input, is not passed over
-  stuck_part : (all : Packets) (offset : ℕ) (cut : Option (Option ℕ)) (w kept also : List ℕ) (fault other : Fault) (by : Option ℕ) (n : ℕ) → IsPrefixTo kept w → IsPrefixTo also w → IsRefused limits kept fault → IsRefused limits also other
-      → IsStuck (Some all) offset cut kept w → IsPassedBy (Some all) limits offset also by n → HasSize limits also w by n → ⊥
-  stuck_part all offset None w kept also fault other by n x y one too s p h =
-      let same : None ≡ by = one_packet limits all offset w kept also fault other None by x y one too s.1 (in_fault limits all offset also by n p) in
-      let sized = subst (λ b. HasSize limits also w b n) (sym same) h in
-      ((sizes_tell limits w).1 n sized.0).0 s.0
-  stuck_part all offset (Some from) w kept also fault other by n x y one too s p h =
-      let same : from ≡ by = one_packet limits all offset w kept also fault other from by x y one too s.1 (in_fault limits all offset also by n p) in
-      not_past limits all offset w kept also fault other from n x y one too s.1 s.0 (subst (λ b. IsPassedBy (Some all) limits offset also b n) (sym same) p) (subst (λ b. HasSize limits also w b n) (sym same) h)
+  pub both_size : (packets others : Option Packets) → AreSamePackets packets others → (how : Settings) (offset at : ℕ) → offset ≡ at → (w kept also : List ℕ) (fault other : Fault) (by from : By) (n m : ℕ)
+      → IsPart limits w (PassedOver kept fault by n) → IsPart limits w (PassedOver also other from m) → IsPassedBy packets how.resync limits offset kept by n → IsPassedBy others how.resync limits at also from m → n ≡ m
+  both_size packets others same how offset at there w kept also fault other by from n m x y p q =
+      same_size limits same.0 how.resync offset w kept also fault other by from n m x y (subst (λ (l : Option Packets). IsPassedBy l how.resync limits offset kept by n) same.1 p)
+      (transport (λ i. IsPassedBy (same.2 i) how.resync limits (sym there i) also from m) q)
 
   -- if these bytes end a run, they do not begin with a part
-  pub no_part : (packets others : Option Packets) (cut : Option (Option ℕ)) (goes_on : Bool) (offset : ℕ) (w : List ℕ) (outcome : CutOutcome) (part : Part) (more : List Part)
-      → AreSamePackets packets others ⊎ (((fault : Fault) → outcome ≡ Refused fault → ⊥) ⊎ (passed_count (part ∷ more) ≡ 0))
-      → EndsHere packets cut goes_on offset w outcome → IsPart limits w part → ArePassed others limits goes_on offset (part ∷ more) → ⊥
-  no_part packets others cut goes_on offset w outcome (Whole item) more known e p h = no_whole w outcome item e.outcome_is p
-  no_part packets others cut goes_on offset w outcome (PassedOver also other by n) more known e p h =
-      let refused = refused_from also w other p.0 p.1 in
-      let is : outcome ≡ Refused other = is_refused w outcome other e.outcome_is refused in
-      elim known [
-        | inl same ↦ (
-            let kept = subst (λ (o : CutOutcome). IsKeptOf limits o e.kept w) is e.kept_is in
-            let stuck = subst (λ (q : Option Packets). IsStuck q offset cut e.kept w) same.1 (e.stuck other is h.0) in
-            stuck_part same.0 offset cut w e.kept also other other by n kept.0 p.0 kept.1 p.1 stuck (subst (λ (q : Option Packets). IsPassedBy q limits offset also by n) same.2 h.1) p.2
-            )
-        | inr none ↦ elim none [ inl unrefused ↦ unrefused other is | inr zero ↦ omega (arith, zero) ]
-      ]
+  pub no_part : (packets others : Option Packets) (cut : Option (Option ℕ)) (how : Settings) (offset : ℕ) (w : List ℕ) (outcome : CutOutcome) (part : Part) (more : List Part)
+      → AreSamePackets packets others ⊎ ((outcome ≡ Ended) ⊎ (passed_count (part ∷ more) ≡ 0))
+      → EndsHere packets cut how offset w outcome → IsPart limits w part → ArePassed others limits how offset (part ∷ more) → ⊥
+  no_part packets others cut how offset w outcome (Whole item) more known e p h = no_whole w outcome item e.outcome_is p
+  no_part packets others cut how offset w outcome (PassedOver also other by n) more known e p h = elim known [
+    | inl same ↦ (
+        let passed = subst (λ (q : Option Packets). IsPassedBy q how.resync limits offset also by n) same.2 h.1 in
+        elim (fault_end limits w also other by p.1) [
+          | inl refused ↦ (
+              let is : outcome ≡ Refused other = is_refused w outcome other e.outcome_is (refused_from limits also w other p.0 refused) in
+              let kept = subst (λ (o : CutOutcome). IsKeptOf limits o e.kept w) is e.kept_is in
+              let stuck = subst (λ (q : Option Packets). IsStuck limits how.resync offset q cut e.kept w) same.1 (e.stuck other is h.0) in
+              stuck_part limits same.0 how.resync offset cut w e.kept also other other by n kept.0 kept.1 refused stuck passed p
+              )
+          | inr short ↦ (
+              let is = is_unfinished w also outcome other e.outcome_is short.1 in
+              let kept = subst (λ (o : CutOutcome). IsKeptOf limits o e.kept w) is e.kept_is in
+              let unsought = subst (λ (q : Option Packets). IsCutUnpassed q how.resync limits offset e.kept w (Unit {0})) same.1 (e.unsought is h.0) in
+              cut_part limits same.0 how.resync offset w e.kept also other by n kept short.1 short.0 unsought passed p
+              )
+        ]
+        )
+    | inr none ↦ elim none [
+      | inl ended ↦ (
+          let empty : w ≡ [] = subst (λ (o : CutOutcome). IsOutcome limits w o) ended e.outcome_is in
+          elim (either_fault limits w also other by p.1) [
+            | inl refused ↦ (one_outcome limits w).2 other (refused_from limits also w other p.0 refused) (subst (λ l. IsPartial limits l) (sym empty) (nothing_partial limits))
+            | inr short ↦ short.1.0 (short.0 ∙ empty)
+          ]
+          )
+      | inr zero ↦ omega (arith, zero)
+    ]
+  ]
 
-  pub same_parts : (packets others : Option Packets) (cut snip : Option (Option ℕ)) (goes_on : Bool) (offset at : ℕ) (bytes : List ℕ) (parts more : List Part) (rest last : List ℕ) (a b : CutOutcome) → offset ≡ at → AreKnown packets others a parts
-      → BeginWithParts limits bytes parts rest → BeginWithParts limits bytes more last → ArePassed packets limits goes_on offset parts → ArePassed others limits goes_on at more
-      → EndsHere packets cut goes_on (offset + sizes_of parts) rest a → EndsHere others snip goes_on (at + sizes_of more) last b → AreSame parts more × (rest ≡ last)
-  same_parts packets others cut snip goes_on offset at bytes [] [] rest last a b there known p q g h e f = (refl, sym p ∙ q)
-  same_parts packets others cut snip goes_on offset at bytes [] (part ∷ more) rest last a b there known p q g h e f =
+  pub same_parts : (packets others : Option Packets) (cut snip : Option (Option ℕ)) (how : Settings) (offset at : ℕ) (bytes : List ℕ) (parts more : List Part) (rest last : List ℕ) (a b : CutOutcome) → offset ≡ at → AreKnown packets others a parts
+      → BeginWithParts limits bytes parts rest → BeginWithParts limits bytes more last → ArePassed packets limits how offset parts → ArePassed others limits how at more
+      → EndsHere packets cut how (offset + sizes_of parts) rest a → EndsHere others snip how (at + sizes_of more) last b → AreSame parts more × (rest ≡ last)
+  same_parts packets others cut snip how offset at bytes [] [] rest last a b there known p q g h e f = (refl, sym p ∙ q)
+  same_parts packets others cut snip how offset at bytes [] (part ∷ more) rest last a b there known p q g h e f =
       let here : offset + 0 ≡ at = omega (arith, there) in
-      absurd (no_part packets others cut goes_on at bytes a part more (elim known [ inl same ↦ inl same | inr none ↦ inr (inl none.1) ]) (transport (λ i. EndsHere packets cut goes_on (here i) (sym p i) a) e) q.0 h)
-  same_parts packets others cut snip goes_on offset at bytes (part ∷ parts) [] rest last a b there known p q g h e f =
+      absurd (no_part packets others cut how at bytes a part more (elim known [ inl same ↦ inl same | inr none ↦ inr (inl none.1) ]) (transport (λ i. EndsHere packets cut how (here i) (sym p i) a) e) q.0 h)
+  same_parts packets others cut snip how offset at bytes (part ∷ parts) [] rest last a b there known p q g h e f =
       let here : at + 0 ≡ offset = omega (arith, there) in
-      absurd (no_part others packets snip goes_on offset bytes b part parts (elim known [ inl same ↦ inl (same.0, same.2, same.1) | inr none ↦ inr (inr none.0) ]) (transport (λ i. EndsHere others snip goes_on (here i) (sym q i) b) f) p.0 g)
-  same_parts packets others cut snip goes_on offset at bytes (Whole x ∷ parts) (Whole y ∷ more) rest last a b there known p q g h e f =
+      absurd (no_part others packets snip how offset bytes b part parts (elim known [ inl same ↦ inl (same.0, same.2, same.1) | inr none ↦ inr (inr none.0) ]) (transport (λ i. EndsHere others snip how (here i) (sym q i) b) f) p.0 g)
+  same_parts packets others cut snip how offset at bytes (Whole x ∷ parts) (Whole y ∷ more) rest last a b there known p q g h e f =
       let one = one_whole limits bytes x.order y.order x.message y.message x.size y.size p.0 q.0 in
       let begin = subst (λ n. BeginWithParts limits (drop n bytes) more last) (sym one.2) q.1 in
       let first : offset + (x.size + sizes_of parts) ≡ offset + x.size + sizes_of parts = omega arith in
       let second : at + (y.size + sizes_of more) ≡ at + y.size + sizes_of more = omega arith in
-      let next = same_parts packets others cut snip goes_on (offset + x.size) (at + y.size) (drop x.size bytes) parts more rest last a b (omega (arith, there, one.2)) known p.1 begin g h
-      (subst (λ n. EndsHere packets cut goes_on n rest a) first e) (subst (λ n. EndsHere others snip goes_on n last b) second f) in
+      let next = same_parts packets others cut snip how (offset + x.size) (at + y.size) (drop x.size bytes) parts more rest last a b (omega (arith, there, one.2)) known p.1 begin g h
+      (subst (λ n. EndsHere packets cut how n rest a) first e) (subst (λ n. EndsHere others snip how n last b) second f) in
       ((λ i. Whole (record { order = one.0 i; message = one.1 i; size = one.2 i }) ∷ next.0 i), next.1)
-  same_parts packets others cut snip goes_on offset at bytes (Whole x ∷ parts) (PassedOver k f c n ∷ more) rest last a b there known p q g h d e = absurd (not_both limits bytes x.order x.message x.size f p.0 (refused_from k bytes f q.0.0 q.0.1))
-  same_parts packets others cut snip goes_on offset at bytes (PassedOver k f c n ∷ parts) (Whole y ∷ more) rest last a b there known p q g h d e = absurd (not_both limits bytes y.order y.message y.size f q.0 (refused_from k bytes f p.0.0 p.0.1))
-  same_parts packets others cut snip goes_on offset at bytes (PassedOver k x c n ∷ parts) (PassedOver l y d m ∷ more) rest last a b there known p q g h e f = elim known [
+  same_parts packets others cut snip how offset at bytes (Whole x ∷ parts) (PassedOver k f c n ∷ more) rest last a b there known p q g h d e = absurd (no_whole_part limits bytes k f c n x q.0 p.0)
+  same_parts packets others cut snip how offset at bytes (PassedOver k f c n ∷ parts) (Whole y ∷ more) rest last a b there known p q g h d e = absurd (no_whole_part limits bytes k f c n y p.0 q.0)
+  same_parts packets others cut snip how offset at bytes (PassedOver k x c n ∷ parts) (PassedOver l y d m ∷ more) rest last a b there known p q g h e f = elim known [
     | inl same ↦ (
-        let fault : x ≡ y = one_fault limits bytes x y (refused_from k bytes x p.0.0 p.0.1) (refused_from l bytes y q.0.0 q.0.1) in
-        let size : n ≡ m = both_size packets others same offset at there bytes k l x y c d n m p.0 q.0 g.1 h.1 in
+        let fault : x ≡ y = part_fault limits bytes k l x y c d n m p.0 q.0 in
+        let size : n ≡ m = both_size packets others same how offset at there bytes k l x y c d n m p.0 q.0 g.1 h.1 in
         let begin = subst (λ k. BeginWithParts limits (drop k bytes) more last) (sym size) q.1 in
         let first : offset + (n + sizes_of parts) ≡ offset + n + sizes_of parts = omega arith in
         let second : at + (m + sizes_of more) ≡ at + m + sizes_of more = omega arith in
-        let next = same_parts packets others cut snip goes_on (offset + n) (at + m) (drop n bytes) parts more rest last a b (omega (arith, there, size)) (inl same) p.1 begin g.2 h.2
-        (subst (λ n. EndsHere packets cut goes_on n rest a) first e) (subst (λ n. EndsHere others snip goes_on n last b) second f) in
-        ((λ i. PassedOver [] (fault i) None (size i) ∷ next.0 i), next.1)
+        let next = same_parts packets others cut snip how (offset + n) (at + m) (drop n bytes) parts more rest last a b (omega (arith, there, size)) (inl same) p.1 begin g.2 h.2
+        (subst (λ n. EndsHere packets cut how n rest a) first e) (subst (λ n. EndsHere others snip how n last b) second f) in
+        ((λ i. PassedOver [] (fault i) Stated (size i) ∷ next.0 i), next.1)
         )
     | inr none ↦ absurd (let zero = none.0 in omega (arith, zero))
   ]
@@ -276,52 +406,76 @@ module _ (limits : Limits) where
   -- ---- where a run ends
 
   -- an input ends within a message that is passed over, or not
-  pub same_cut : (packets others : Option Packets) (cut snip : Option (Option ℕ)) (goes_on : Bool) (offset : ℕ) (w : List ℕ) (a b : CutOutcome) → a ≡ b → AreSamePackets packets others ⊎ ((fault : Fault) → a ≡ Refused fault → ⊥)
-      → EndsHere packets cut goes_on offset w a → EndsHere others snip goes_on offset w b → cut ≡ snip
-  same_cut packets others None None goes_on offset w a b ab known e f = refl
-  same_cut packets others (Some by) (Some from) goes_on offset w a b ab known e f =
+  pub same_cut : (packets others : Option Packets) (cut snip : Option (Option ℕ)) (how : Settings) (offset : ℕ) (w : List ℕ) (a b : CutOutcome) → a ≡ b → AreSamePackets packets others ⊎ (a ≡ Ended)
+      → EndsHere packets cut how offset w a → EndsHere others snip how offset w b → cut ≡ snip
+  same_cut packets others None None how offset w a b ab known e f = refl
+  same_cut packets others (Some by) (Some from) how offset w a b ab known e f =
       let c = e.cut_off by refl in
       elim known [
         | inl same ↦ (
             let k = subst (λ (o : CutOutcome). IsKeptOf limits o e.kept w) c.1 e.kept_is in
             let l = subst (λ (o : CutOutcome). IsKeptOf limits o f.kept w) (sym ab ∙ c.1) f.kept_is in
-            let one = subst (λ (q : Option Packets). IsStuck q offset (Some by) e.kept w) same.1 (e.stuck c.0 c.1 c.2) in
-            let too = subst (λ (q : Option Packets). IsStuck q offset (Some from) f.kept w) same.2 (f.stuck c.0 (sym ab ∙ c.1) c.2) in
+            let one = subst (λ (q : Option Packets). IsStuck limits how.resync offset q (Some by) e.kept w) same.1 (e.stuck c.0 c.1 c.2) in
+            let too = subst (λ (q : Option Packets). IsStuck limits how.resync offset q (Some from) f.kept w) same.2 (f.stuck c.0 (sym ab ∙ c.1) c.2) in
             ap Some (one_packet limits same.0 offset w e.kept f.kept c.0 c.0 by from k.0 l.0 k.1 l.1 one.1 too.1)
             )
-        | inr none ↦ absurd (none c.0 c.1)
+        | inr none ↦ absurd (let ended = sym none ∙ c.1 in cc)
       ]
-  same_cut packets others (Some by) None goes_on offset w a b ab known e f =
+  same_cut packets others (Some by) None how offset w a b ab known e f =
       let c = e.cut_off by refl in
       elim known [
         | inl same ↦ (
             let k = subst (λ (o : CutOutcome). IsKeptOf limits o e.kept w) c.1 e.kept_is in
             let l = subst (λ (o : CutOutcome). IsKeptOf limits o f.kept w) (sym ab ∙ c.1) f.kept_is in
-            let one = subst (λ (q : Option Packets). IsStuck q offset (Some by) e.kept w) same.1 (e.stuck c.0 c.1 c.2) in
-            let too = subst (λ (q : Option Packets). IsStuck q offset None f.kept w) same.2 (f.stuck c.0 (sym ab ∙ c.1) c.2) in
-            absurd (not_stuck same.0 offset w e.kept f.kept c.0 by k.0 l.0 k.1 l.1 one too)
+            let one = subst (λ (q : Option Packets). IsStuck limits how.resync offset q (Some by) e.kept w) same.1 (e.stuck c.0 c.1 c.2) in
+            let too = subst (λ (q : Option Packets). IsStuck limits how.resync offset q None f.kept w) same.2 (f.stuck c.0 (sym ab ∙ c.1) c.2) in
+            absurd (not_stuck limits same.0 how.resync offset w e.kept f.kept c.0 by k.0 l.0 k.1 l.1 one too)
             )
-        | inr none ↦ absurd (none c.0 c.1)
+        | inr none ↦ absurd (let ended = sym none ∙ c.1 in cc)
       ]
-  same_cut packets others None (Some by) goes_on offset w a b ab known e f =
+  same_cut packets others None (Some by) how offset w a b ab known e f =
       let c = f.cut_off by refl in
       elim known [
         | inl same ↦ (
             let k = subst (λ (o : CutOutcome). IsKeptOf limits o e.kept w) (ab ∙ c.1) e.kept_is in
             let l = subst (λ (o : CutOutcome). IsKeptOf limits o f.kept w) c.1 f.kept_is in
-            let one = subst (λ (q : Option Packets). IsStuck q offset None e.kept w) same.1 (e.stuck c.0 (ab ∙ c.1) c.2) in
-            let too = subst (λ (q : Option Packets). IsStuck q offset (Some by) f.kept w) same.2 (f.stuck c.0 c.1 c.2) in
-            absurd (not_stuck same.0 offset w f.kept e.kept c.0 by l.0 k.0 l.1 k.1 too one)
+            let one = subst (λ (q : Option Packets). IsStuck limits how.resync offset q None e.kept w) same.1 (e.stuck c.0 (ab ∙ c.1) c.2) in
+            let too = subst (λ (q : Option Packets). IsStuck limits how.resync offset q (Some by) f.kept w) same.2 (f.stuck c.0 c.1 c.2) in
+            absurd (not_stuck limits same.0 how.resync offset w f.kept e.kept c.0 by l.0 k.0 l.1 k.1 too one)
             )
-        | inr none ↦ absurd (none c.0 (ab ∙ c.1))
+        | inr none ↦ absurd (let ended = sym none ∙ (ab ∙ c.1) in cc)
       ]
 
-  pub ends_here : (packets : Option Packets) (cut : Option (Option ℕ)) (goes_on : Bool) (offset : ℕ) (kept rest more : List ℕ) (outcome : CutOutcome) (at_end : Type 0) → (at_end → more ≡ []) → IsBytes (rest ++ more)
-      → IsOutcome limits kept outcome → IsLast packets cut goes_on limits offset kept rest outcome at_end → EndsHere packets cut goes_on offset (rest ++ more) outcome × (fault_at_end kept outcome ≡ fault_at_end (rest ++ more) outcome)
+  -- it is so of all of the input
+  nowhere_more : (window : ℕ) (rest more : List ℕ) (at_end : Type 0) → (at_end → more ≡ []) → BeginNowhere limits window rest at_end → BeginNowhere limits window (rest ++ more) (Unit {0})
+  nowhere_more window rest more at_end none b =
+      let same : take window (rest ++ more) ≡ take window rest = elim (cases_lt (length rest) window) [
+        | inl short ↦ ap (take window) (ap (λ (l : List ℕ). rest ++ l) (none (b.all short)) ∙ append-nil rest)
+        | inr wide ↦ window_more window rest more wide
+      ] in
+      record {
+        found = b.found;
+        nowhere = b.nowhere;
+        resumes = subst (λ (l : List ℕ). Resumes limits window (effort_of window) l b.found) (sym same) b.resumes;
+        all = λ _. tt;
+      }
+
+  unpassed : (packets : Option Packets) (resync : Resync) (offset : ℕ) (kept rest more : List ℕ) (at_end : Type 0) → (at_end → more ≡ []) → 1 ≤ length rest → IsUnpassed packets resync limits offset kept rest at_end
+      → IsUnpassed packets resync limits offset kept (rest ++ more) (Unit {0})
+  unpassed packets Off offset kept rest more at_end none some u = (u.0, none_more limits rest more some u.1)
+  unpassed packets (Within window) offset kept rest more at_end none some u = (u.0, nowhere_more window rest more at_end none u.1)
+
+  cut_unpassed : (packets : Option Packets) (resync : Resync) (offset : ℕ) (kept rest more : List ℕ) (at_end : Type 0) → (at_end → more ≡ []) → IsCutUnpassed packets resync limits offset kept rest at_end
+      → IsCutUnpassed packets resync limits offset kept (rest ++ more) (Unit {0})
+  cut_unpassed packets Off offset kept rest more at_end none u = tt
+  cut_unpassed packets (Within window) offset kept rest more at_end none u = (u.0, u.1, λ is. nowhere_more window rest more at_end none (u.2 is))
+
+  pub ends_here : (packets : Option Packets) (cut : Option (Option ℕ)) (how : Settings) (offset : ℕ) (kept rest more : List ℕ) (outcome : CutOutcome) (at_end : Type 0) → (at_end → more ≡ []) → IsBytes (rest ++ more)
+      → IsOutcome limits kept outcome → IsLast packets cut how limits offset kept rest outcome at_end → EndsHere packets cut how offset (rest ++ more) outcome × (fault_at_end kept outcome ≡ fault_at_end (rest ++ more) outcome)
       × IsKeptOf limits outcome kept (rest ++ more) × ((by : Option ℕ) → cut ≡ Some by → rest ++ more ≡ rest)
-  ends_here packets (Some by) goes_on offset kept rest more Ended at_end none bytes o last = absurd last
-  ends_here packets (Some by) goes_on offset kept rest more Unfinished at_end none bytes o last = absurd last
-  ends_here packets None goes_on offset kept rest more Ended at_end none bytes o last =
+  ends_here packets (Some by) how offset kept rest more Ended at_end none bytes o last = absurd last
+  ends_here packets (Some by) how offset kept rest more Unfinished at_end none bytes o last = absurd last
+  ends_here packets None how offset kept rest more Ended at_end none bytes o last =
       let all : rest ++ more ≡ kept = (λ i. last.0 i ++ none last.1 i) ∙ append-nil kept in (
         record {
           outcome_is = all ∙ o;
@@ -329,12 +483,13 @@ module _ (limits : Limits) where
           kept_is = sym all;
           cut_off = λ by cut. absurd cc;
           stuck = λ fault is. absurd cc;
+          unsought = λ is. absurd cc;
         },
         refl,
         sym all,
         λ by cut. absurd cc,
       )
-  ends_here packets None goes_on offset kept rest more Unfinished at_end none bytes o last =
+  ends_here packets None how offset kept rest more Unfinished at_end none bytes o last =
       let all : rest ++ more ≡ kept = (λ i. last.0 i ++ none last.1 i) ∙ append-nil kept in (
         record {
           outcome_is = subst (λ l. IsOutcome limits l Unfinished) (sym all) o;
@@ -342,37 +497,40 @@ module _ (limits : Limits) where
           kept_is = sym all;
           cut_off = λ by cut. absurd cc;
           stuck = λ fault is. absurd cc;
+          unsought = λ is goes. cut_unpassed packets how.resync offset kept rest more at_end none (last.2 goes);
         },
         ap (λ l. fault_at_end l Unfinished) (sym all),
         sym all,
         λ by cut. absurd cc,
       )
-  ends_here packets None goes_on offset kept rest more (Refused fault) at_end none bytes o last =
+  ends_here packets None how offset kept rest more (Refused fault) at_end none bytes o last =
       let front : IsPrefixTo kept (rest ++ more) = (last.0.0 ++ more, ap (λ l. l ++ more) last.0.1 ∙ append_assoc kept last.0.0 more) in
       let kept_bytes = IsBytes-front (rest ++ more) kept front.0 front.1 bytes in
       let some = refused_later limits 0 kept fault (nothing_partial limits) o in
       let long = ap length last.0.1 in
       let both = length-append kept last.0.0 in (
         record {
-          outcome_is = refused_from kept (rest ++ more) fault front o;
+          outcome_is = refused_from limits kept (rest ++ more) fault front o;
           kept = kept;
           kept_is = (front, o);
           cut_off = λ by cut. absurd cc;
-          stuck = λ other is goes. let l = last.2 goes (refused_reason limits kept fault kept_bytes o) in (none_more limits rest more (omega (arith, some, long, both)) l.0, l.1);
+          stuck = λ other is goes. unpassed packets how.resync offset kept rest more at_end none (omega (arith, some, long, both)) (last.2 goes (refused_reason limits kept fault kept_bytes o));
+          unsought = λ is. absurd cc;
         },
         refl,
         (front, o),
         λ by cut. absurd cc,
       )
-  ends_here packets (Some by) goes_on offset kept rest more (Refused fault) at_end none bytes o last =
+  ends_here packets (Some by) how offset kept rest more (Refused fault) at_end none bytes o last =
       let front : IsPrefixTo kept (rest ++ more) = (last.0.front.0 ++ more, ap (λ l. l ++ more) last.0.front.1 ∙ append_assoc kept last.0.front.0 more) in
       let all : rest ++ more ≡ rest = ap (λ l. rest ++ l) (none last.1) ∙ append-nil rest in (
         record {
-          outcome_is = refused_from kept (rest ++ more) fault front o;
+          outcome_is = refused_from limits kept (rest ++ more) fault front o;
           kept = kept;
           kept_is = (front, o);
           cut_off = λ from is. (fault, refl, last.2);
-          stuck = λ other is goes. (subst (λ l. GoesPast packets limits offset kept l by) (sym all) last.0.past, last.0.refused_in);
+          stuck = λ other is goes. (subst (λ l. GoesPast packets how.resync limits offset kept l by) (sym all) last.0.past, last.0.refused_in);
+          unsought = λ is. absurd cc;
         },
         refl,
         (front, o),

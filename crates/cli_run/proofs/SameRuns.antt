@@ -18,11 +18,12 @@ use Rattle.dbus_call_lines.proofs.Stray.{one_stray}
 use Rattle.dbus_call_members.specs.Summing.{members, sums}
 use Rattle.dbus_call_members.specs.Tables.{IsTable}
 use Rattle.dbus_call_members.proofs.OneTable.{one_table as one_member_table}
-use Rattle.dbus_stream.specs.Cut.{IsOutcome, BeginWith, CutMessage, CutOutcome, Refused, IsCut}
+use Rattle.dbus_stream.specs.Cut.{IsOutcome, BeginWith, CutMessage, CutOutcome, Ended, Refused, IsCut}
 use Rattle.dbus_stream.specs.CutEnds.{fault_at_end, sizes}
 use Rattle.dbus_stream.proofs.CutLaws.{IsCut-one, BeginWith-more}
 use Rattle.cli_options.specs.Selections.{AreSameCommand}
 use Rattle.cli_options.specs.declared.command.Command.{Command}
+use Rattle.cli_options.specs.declared.resync.Resync.TheVariants.{Off}
 use Rattle.cli_options.specs.declared.settings.Settings.{Settings}
 use Rattle.cli_report.specs.Devices.{Reading, Taken, Writing, taken, writing}
 use Rattle.cli_report.specs.declared.ending.Cause.{Cause}
@@ -43,6 +44,7 @@ use Rattle.cli_run.specs.Told.{first_of, second_of}
 use Rattle.cli_run.specs.VisitorLaws.{wrote_both}
 use Rattle.cli_run.specs.declared.tally.Tally.{Tally}
 use Rattle.cli_options.specs.declared.file_form.FileForm.{FileForm}
+use Rattle.cli_run.proofs.GoSteps.{none_is as none_refused_is}
 use Rattle.cli_run.proofs.Outputs.{header_one}
 use Rattle.cli_run.proofs.PartLaws.{is_last, parts_more, parts_of}
 use Rattle.cli_run.proofs.SameOutputs.{ShowAlike, acts_as, are_passed, bare_placed, bare_tally, none_last, none_refused, none_told, one_placed, same_counts, same_last, same_outputs, same_told}
@@ -100,7 +102,7 @@ module _ (settings : Settings) (is_check : Bool) (input : List ℕ) (bytes : IsB
   record IsReached {t : Taken} {most : ℕ} {tally : Tally} {fault : Option Fault} {told text : List ℕ} (h : IsThrough t settings most is_check tally fault told text) : Type 0 where
     last : List ℕ
     begin : BeginWithParts settings.limits input h.parts last
-    ends : EndsHere settings.limits t.packets h.cut settings.keeps_going (sizes_of h.parts) last h.tells.outcome
+    ends : EndsHere settings.limits t.packets h.cut settings (sizes_of h.parts) last h.tells.outcome
     all_is : (by : Option ℕ) → h.cut ≡ Some by → last ≡ h.rest
     fault_is : fault ≡ fault_at_end last h.tells.outcome
     kept_is : IsKeptOf settings.limits h.tells.outcome h.kept last
@@ -109,22 +111,22 @@ module _ (settings : Settings) (is_check : Bool) (input : List ℕ) (bytes : IsB
   reached {t} h known =
       let after = left_over t.left0 t.left1 input h.covers.bytes known h.covers.consumed in
       let last = h.rest ++ after.0 in
-      let begin = subst (λ l. BeginWithParts settings.limits l h.parts last) (sym after.2) (parts_more settings.limits h.covers.bytes h.parts h.rest after.0 h.covers.begin) in
       let none : IsAtEnd t.left1 → after.0 ≡ [] = λ e. subst IsAtEnd after.1 e in
-      let all = ends_here settings.limits t.packets h.cut settings.keeps_going (sizes_of h.parts) h.kept h.rest after.0 h.tells.outcome (IsAtEnd t.left1) none (parts_bytes settings.limits input h.parts last begin bytes) h.tells.outcome_is h.last in
+      let begin = subst (λ l. BeginWithParts settings.limits l h.parts last) (sym after.2) (parts_more settings.limits h.covers.bytes h.parts h.rest after.0 (λ e. none (h.covers.ends e)) h.covers.begin) in
+      let all = ends_here settings.limits t.packets h.cut settings (sizes_of h.parts) h.kept h.rest after.0 h.tells.outcome (IsAtEnd t.left1) none (parts_bytes settings.limits input h.parts last begin bytes) h.tells.outcome_is h.last in
       record { last = last; begin = begin; ends = all.0; fault_is = h.tells.fault_is ∙ all.1; kept_is = all.2; all_is = all.3 }
 
   -- the place after all parts
-  after_all : (packets : Option Packets) (cut : Option (Option ℕ)) (n : ℕ) (w : List ℕ) (outcome : CutOutcome) → EndsHere settings.limits packets cut settings.keeps_going n w outcome → EndsHere settings.limits packets cut settings.keeps_going (0 + n) w outcome
-  after_all packets cut n w outcome e = let same : n ≡ 0 + n = omega arith in subst (λ (k : ℕ). EndsHere settings.limits packets cut settings.keeps_going k w outcome) same e
+  after_all : (packets : Option Packets) (cut : Option (Option ℕ)) (n : ℕ) (w : List ℕ) (outcome : CutOutcome) → EndsHere settings.limits packets cut settings n w outcome → EndsHere settings.limits packets cut settings (0 + n) w outcome
+  after_all packets cut n w outcome e = let same : n ≡ 0 + n = omega arith in subst (λ (k : ℕ). EndsHere settings.limits packets cut settings k w outcome) same e
 
   -- nothing is refused then
   unrefused : {t : Taken} {most : ℕ} {F : List Placed → Bool → Type 0} {P : List Placed → (told : List ℕ) → Type 0} {end : ExitStatus} (g : GoesThrough t settings most is_check F P end) → end ≡ status.Done
-      → (passed_count g.through.parts ≡ 0) × ((fault : Fault) → g.through.tells.outcome ≡ Refused fault → ⊥)
+      → (passed_count g.through.parts ≡ 0) × (g.through.tells.outcome ≡ Ended)
   unrefused g done =
       let none = none_refused g.tally.passed g.fault (sym g.end_is ∙ done) in (
         none_passed g.through.cut g.through.parts g.through.rest (ap (λ (t : Tally). t.passed) (sym g.through.tally_is) ∙ none.0),
-        λ fault is. let never : None ≡ Some fault = sym none.1 ∙ (g.through.tells.fault_is ∙ ap (fault_at_end g.through.kept) is) in absurd cc,
+        none_refused_is g.through.kept g.through.tells.outcome (sym none.1 ∙ g.through.tells.fault_is),
       )
 
   -- ---- two runs
@@ -141,7 +143,7 @@ module _ (settings : Settings) (is_check : Bool) (input : List ℕ) (bytes : IsB
     known_alike = elim alike [ inl packets ↦ inl packets | inr done ↦ inr (unrefused g done) ]
 
     same : AreSame g.through.parts h.through.parts × (a.last ≡ b.last)
-    same = same_parts settings.limits t.packets u.packets g.through.cut h.through.cut settings.keeps_going 0 0 input g.through.parts h.through.parts a.last b.last g.through.tells.outcome h.through.tells.outcome refl known_alike a.begin b.begin
+    same = same_parts settings.limits t.packets u.packets g.through.cut h.through.cut settings 0 0 input g.through.parts h.through.parts a.last b.last g.through.tells.outcome h.through.tells.outcome refl known_alike a.begin b.begin
         (are_passed t.packets settings 1 0 g.through.parts g.told g.through.covers.tells) (are_passed u.packets settings 1 0 h.through.parts h.told h.through.covers.tells) (after_all t.packets g.through.cut (sizes_of g.through.parts) a.last g.through.tells.outcome a.ends) (after_all u.packets h.through.cut (sizes_of h.through.parts) b.last h.through.tells.outcome b.ends)
 
     outcome_is : g.through.tells.outcome ≡ h.through.tells.outcome
@@ -158,8 +160,8 @@ module _ (settings : Settings) (is_check : Bool) (input : List ℕ) (bytes : IsB
     cut_is : g.through.cut ≡ h.through.cut
     cut_is =
         let offset : sizes_of h.through.parts ≡ sizes_of g.through.parts = ap (λ (t : Tally). t.size) (sym parts_tally) in
-        same_cut settings.limits t.packets u.packets g.through.cut h.through.cut settings.keeps_going (sizes_of g.through.parts) a.last _ _ outcome_is (elim alike [ inl packets ↦ inl packets | inr done ↦ inr (unrefused g done).1 ]) a.ends
-        (transport (λ i. EndsHere settings.limits u.packets h.through.cut settings.keeps_going (offset i) (sym same.1 i) h.through.tells.outcome) b.ends)
+        same_cut settings.limits t.packets u.packets g.through.cut h.through.cut settings (sizes_of g.through.parts) a.last _ _ outcome_is (elim alike [ inl packets ↦ inl packets | inr done ↦ inr (unrefused g done).1 ]) a.ends
+        (transport (λ i. EndsHere settings.limits u.packets h.through.cut settings (offset i) (sym same.1 i) h.through.tells.outcome) b.ends)
 
     -- with what the input ends within
     both_tally : (cut snip : Option (Option ℕ)) → cut ≡ snip → ((by : Option ℕ) → cut ≡ Some by → a.last ≡ g.through.rest) → ((by : Option ℕ) → snip ≡ Some by → b.last ≡ h.through.rest)
@@ -230,13 +232,13 @@ module _ (settings : Settings) (is_check : Bool) (input : List ℕ) (bytes : IsB
       → (last : List ℕ) × BeginWithParts settings.limits input g.parts last
   far_begins {t} g known =
       let after = left_over t.left0 t.left1 input g.covers.bytes known g.covers.consumed in
-      (g.rest ++ after.0, subst (λ l. BeginWithParts settings.limits l g.parts (g.rest ++ after.0)) (sym after.2) (parts_more settings.limits g.covers.bytes g.parts g.rest after.0 g.covers.begin))
+      (g.rest ++ after.0, subst (λ l. BeginWithParts settings.limits l g.parts (g.rest ++ after.0)) (sym after.2) (parts_more settings.limits g.covers.bytes g.parts g.rest after.0 (λ e. subst IsAtEnd after.1 (g.covers.ends e)) g.covers.begin))
 
   module _ {t u : Taken} {most more : ℕ} {F G : List Placed → Bool → Type 0} {P Q : List Placed → (told : List ℕ) → Type 0} {end other : ExitStatus} (one : (s l : List Placed) (x y : Bool) → items_of s ≡ items_of l → F s x → G l y → x ≡ y)
       (known : t.left0 ≡ Some input) (known_too : u.left0 ≡ Some input) (alike : AreTakenAlike t u end) where
     module _ {N M : (size : ℕ) → Type 0} (g : GoesFar t settings most is_check F N P end) (h : GoesFar u settings more is_check G M Q other) (explains : TellsAlike settings end (shown_far g) (shown_far h)) where
       far_same : AreSame g.parts h.parts × ((far_begins g known).0 ≡ (far_begins h known_too).0)
-      far_same = same_far settings.limits F G one t.packets u.packets settings.keeps_going 1 0 1 0 input g.parts h.parts _ _ g.messages h.messages [] [] refl (far_begins g known).1 (far_begins h known_too).1 g.placed h.placed g.wanted h.wanted
+      far_same = same_far settings.limits F G one t.packets u.packets settings 1 0 1 0 input g.parts h.parts _ _ g.messages h.messages [] [] refl (far_begins g known).1 (far_begins h known_too).1 g.placed h.placed g.wanted h.wanted
           g.enough.0 h.enough.0 (are_passed t.packets settings 1 0 g.parts g.told g.covers.tells) (are_passed u.packets settings 1 0 h.parts h.told h.covers.tells) g.enough.1 h.enough.1 refl
           (elim alike [ inl packets ↦ inl packets | inr done ↦ inr (none_refused (passed_count g.parts) None (sym g.end_is ∙ done)).0 ])
 
@@ -280,7 +282,7 @@ module _ (settings : Settings) (is_check : Bool) (input : List ℕ) (bytes : IsB
     far_not g h =
         let a = reached g.through known in
         let b = far_begins h known_too in
-        not_through settings.limits F G one t.packets u.packets g.through.cut settings.keeps_going 1 0 1 0 input g.through.parts h.parts a.last b.0 g.through.tells.outcome g.messages h.messages [] [] refl a.begin b.1 g.placed h.placed g.wanted h.wanted
+        not_through settings.limits F G one t.packets u.packets g.through.cut settings 1 0 1 0 input g.through.parts h.parts a.last b.0 g.through.tells.outcome g.messages h.messages [] [] refl a.begin b.1 g.placed h.placed g.wanted h.wanted
         (after_all t.packets g.through.cut (sizes_of g.through.parts) a.last g.through.tells.outcome a.ends) (are_passed t.packets settings 1 0 g.through.parts g.told g.through.covers.tells) (are_passed u.packets settings 1 0 h.parts h.told h.covers.tells) g.unfilled h.enough.1 refl
         (elim alike [ inl packets ↦ inl packets | inr done ↦ inr (inl (unrefused g done)) ])
 
@@ -288,7 +290,7 @@ module _ (settings : Settings) (is_check : Bool) (input : List ℕ) (bytes : IsB
     not_far g h =
         let a = far_begins g known in
         let b = reached h.through known_too in
-        not_through settings.limits G F (λ s l x y e p q. sym (one l s y x (sym e) q p)) u.packets t.packets h.through.cut settings.keeps_going 1 0 1 0 input h.through.parts g.parts b.last a.0 h.through.tells.outcome h.messages g.messages [] [] refl b.begin a.1
+        not_through settings.limits G F (λ s l x y e p q. sym (one l s y x (sym e) q p)) u.packets t.packets h.through.cut settings 1 0 1 0 input h.through.parts g.parts b.last a.0 h.through.tells.outcome h.messages g.messages [] [] refl b.begin a.1
         h.placed g.placed h.wanted g.wanted (after_all u.packets h.through.cut (sizes_of h.through.parts) b.last h.through.tells.outcome b.ends) (are_passed u.packets settings 1 0 h.through.parts h.told h.through.covers.tells) (are_passed t.packets settings 1 0 g.parts g.told g.covers.tells) h.unfilled g.enough.1 refl
         (elim alike [ inl packets ↦ inl (packets.0, packets.2, packets.1) | inr done ↦ inr (inr (none_refused (passed_count g.parts) None (sym g.end_is ∙ done)).0) ])
 
@@ -484,6 +486,10 @@ one_sums R S W V E F r s w v e f settings wanted most more end other is packets 
 
 -- ---- runs under limits alone
 
+-- settings that ask for no more than these
+abbrev limits_alone : Limits → Settings
+limits_alone limits = record { limits = limits; as_json = false; explains = false; keeps_going = false; resync = Off; handshake = None; window = record { skip = 0; limit = None; checks_rest = false } }
+
 whole_cut : (limits : Limits) (input bytes rest : List ℕ) (left0 left1 : Option (List ℕ)) (items : List CutMessage) (outcome : CutOutcome) → left0 ≡ Some input → IsBytes input → Consumes left0 left1 bytes
     → IsCut limits bytes items rest outcome → (((f : Fault) → outcome ≡ Refused f → ⊥) → IsAtEnd left1)
     → (last : List ℕ) × IsCut limits input items last outcome × (fault_at_end rest outcome ≡ fault_at_end last outcome) × IsKeptOf limits outcome rest last
@@ -493,7 +499,7 @@ whole_cut limits input bytes rest left0 left1 items outcome known are consumed c
     let begin = subst (λ l. BeginWith limits l items last) (sym after.2) (BeginWith-more limits bytes items rest after.0 cut.messages) in
     let all = parts_bytes limits input (wholes items) last (parts_of limits input items last begin) are in
     let none : IsAtEnd left1 → after.0 ≡ [] = λ e. subst IsAtEnd after.1 e in
-    let ends = ends_here limits None None false (sizes items) rest rest after.0 outcome (IsAtEnd left1) none all cut.outcome_is (is_last None false limits (sizes items) rest outcome (IsAtEnd left1) refl at_end) in
+    let ends = ends_here limits None None (limits_alone limits) (sizes items) rest rest after.0 outcome (IsAtEnd left1) none all cut.outcome_is (is_last None (limits_alone limits) limits (sizes items) rest outcome (IsAtEnd left1) refl at_end) in
     (last, record { messages = begin; outcome_is = ends.0.outcome_is }, ends.1, ends.2)
 
 -- the lines of a fault are the same if its packet is

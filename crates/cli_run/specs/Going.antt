@@ -5,6 +5,7 @@ use Rattle.std.specs.Prelude.{◌≡◌, ◌≢◌, ℕ, zero, suc, ◌+◌, ◌
 use Rattle.std.specs.Option.{is_none}
 use Rattle.std.specs.Io.KnownBytes.{Consumes, IsAtEnd}
 use Rattle.dbus_value_model.specs.declared.fault.Fault.{Fault}
+use Rattle.cli_options.specs.declared.resync.Resync.TheVariants.{Within}
 use Rattle.cli_options.specs.declared.settings.Settings.{Settings}
 use Rattle.cli_report.specs.Telling.{IsJsonRefusal, IsToldBy}
 use Rattle.cli_report.specs.declared.telling.RefusedMessage.{RefusedMessage}
@@ -17,10 +18,11 @@ use Rattle.dbus_stream.specs.Cut.{CutOutcome, IsOutcome}
 use Rattle.dbus_stream.specs.CutEnds.{fault_at_end}
 use Rattle.dbus_stream.specs.declared.read_fault.ReadFault.{ReadFault}
 use Rattle.dbus_stream.specs.declared.read_fault.ReadFault.TheVariants as read
+use Rattle.cli_report.specs.Gathering.{IsPrefixTo}
 use Rattle.cli_report.specs.Devices.{Reading, RisesAtMost, Taken, Writing, taken}
 use Rattle.cli_report.specs.declared.ending.Cause.{Cause}
 use Rattle.cli_report.specs.declared.ending.Cause.TheVariants.{Memory, ReadFailed, WriteFailed, TooManyReads}
-use Rattle.cli_run.specs.Inputs.{Part, Whole, PassedOver, size_of, sizes_of, BeginWithParts, IsCutOff, IsLast, IsPassedBy, IsTellable, ArePlaced, Placed}
+use Rattle.cli_run.specs.Inputs.{Part, Whole, PassedOver, size_of, sizes_of, reach_end, BeginWithParts, IsCutOff, IsLast, IsPassedBy, IsTellable, ArePlaced, Placed}
 use Rattle.cli_run.specs.Output.{ok_line, status_of}
 use Rattle.cli_run.specs.declared.tally.Tally.{Tally}
 use Rattle.cli_run.specs.Needed.{IsReadFor}
@@ -55,7 +57,7 @@ module _ (packets : Option Packets) (settings : Settings) where
   -- what is told of a part: of a message nothing. One is passed over only if the run is to go on
   abbrev pub IsToldOf : (n offset : ℕ) → Part → List ℕ → Type 0
   IsToldOf n offset (Whole item) text = text ≡ []
-  IsToldOf n offset (PassedOver kept fault by size) text = (settings.keeps_going ≡ true) × IsPassedBy packets settings.limits offset kept by size × IsToldRefused n offset kept fault text
+  IsToldOf n offset (PassedOver kept fault by size) text = (settings.keeps_going ≡ true) × IsPassedBy packets settings.resync settings.limits offset kept by size × IsToldRefused n offset kept fault text
 
   -- of several
   abbrev pub AreTold : (n offset : ℕ) → List Part → List ℕ → Type 0
@@ -160,6 +162,7 @@ module _ (t : Taken) (settings : Settings) (most : ℕ) (is_check : Bool) where
     pub consumed : Consumes t.left0 t.left1 bytes
     pub called : RisesAtMost most t.calls0 t.calls1
     pub begin : BeginWithParts settings.limits bytes parts rest
+    pub ends : reach_end parts ≡ true → IsAtEnd t.left1
     pub tells : AreTold t.packets settings 1 0 parts told
 
   -- this is told of the fault of the rest, if it has one
@@ -179,7 +182,7 @@ module _ (t : Taken) (settings : Settings) (most : ℕ) (is_check : Bool) where
     pub tally_is : tally ≡ tally_with cut parts rest
     pub kept : List ℕ
     pub tells : TellsRest parts kept fault text
-    pub last : IsLast t.packets cut settings.keeps_going settings.limits (sizes_of parts) kept rest tells.outcome (IsAtEnd t.left1)
+    pub last : IsLast t.packets cut settings settings.limits (sizes_of parts) kept rest tells.outcome (IsAtEnd t.left1)
     pub read_failed : t.failures1 ≡ t.failures0
 
   -- these texts are due after the parts: what is told of the fault of the rest, once it shows; and
@@ -187,19 +190,27 @@ module _ (t : Taken) (settings : Settings) (most : ℕ) (is_check : Bool) where
   abbrev pub AreDue : List Part → (rest more : List ℕ) → Type 0
   AreDue parts rest more = (kept : List ℕ) × (fault : Option Fault) × (text : List ℕ) × (tells : TellsRest parts kept fault text)
       × ((IsTellable kept rest tells.outcome (IsAtEnd t.left1) × (more ≡ text))
-      ⊎ ((cut : Option (Option ℕ)) × IsLast t.packets cut settings.keeps_going settings.limits (sizes_of parts) kept rest tells.outcome (IsAtEnd t.left1)
+      ⊎ ((cut : Option (Option ℕ)) × IsLast t.packets cut settings settings.limits (sizes_of parts) kept rest tells.outcome (IsAtEnd t.left1)
       × (more ≡ text ++ closing_line settings.as_json is_check settings.keeps_going (tally_with cut parts rest) (tally_with cut parts rest).passed fault)))
 
   -- all is told but the last line
   abbrev pub LacksLast : List Part → (rest more : List ℕ) → Type 0
   LacksLast parts rest more = (kept : List ℕ) × (fault : Option Fault) × (tells : TellsRest parts kept fault more)
-      × (cut : Option (Option ℕ)) × IsLast t.packets cut settings.keeps_going settings.limits (sizes_of parts) kept rest tells.outcome (IsAtEnd t.left1) × HasLastLine is_check settings.keeps_going (tally_with cut parts rest).passed fault
+      × (cut : Option (Option ℕ)) × IsLast t.packets cut settings settings.limits (sizes_of parts) kept rest tells.outcome (IsAtEnd t.left1) × HasLastLine is_check settings.keeps_going (tally_with cut parts rest).passed fault
+
+  -- a refused message was told, of which not all bytes came
+  abbrev pub IsHalfPassed : List Part → (rest more : List ℕ) → Type 0
+  IsHalfPassed parts rest more = (kept : List ℕ) × (fault : Fault) × IsRefused settings.limits kept fault × (by : Option ℕ) × IsCutOff t.packets settings.resync settings.limits (sizes_of parts) kept rest by
+      × (settings.keeps_going ≡ true) × IsToldLast t.packets settings (length parts + 1) (sizes_of parts) kept (Some fault) more
+
+  -- one was told, and it is looked for where messages begin again
+  abbrev pub IsSought : List Part → (rest more : List ℕ) → Type 0
+  IsSought parts rest more = (kept : List ℕ) × IsPrefixTo kept rest × (fault : Fault) × TellsRest parts kept (Some fault) more × (settings.keeps_going ≡ true) × (window : ℕ) × (settings.resync ≡ Within window)
 
   -- all that was read was taken and told: the rest is neither a message nor refused, or a refused
-  -- message was told of which not all bytes came
+  -- message was told, and is to be passed over
   abbrev pub IsAllOf : List Part → (rest more : List ℕ) → Type 0
-  IsAllOf parts rest more = (IsPartial settings.limits rest × (more ≡ [])) ⊎ ((kept : List ℕ) × (fault : Fault) × IsRefused settings.limits kept fault × (by : Option ℕ) × IsCutOff t.packets settings.limits (sizes_of parts) kept rest by
-      × (settings.keeps_going ≡ true) × IsToldLast t.packets settings (length parts + 1) (sizes_of parts) kept (Some fault) more)
+  IsAllOf parts rest more = (IsPartial settings.limits rest × (more ≡ [])) ⊎ (IsHalfPassed parts rest more ⊎ IsSought parts rest more)
 
 -- a message that is passed over is not the last part
 abbrev pub EndsWhole : List Part → Type 0
@@ -216,7 +227,7 @@ module _ (t : Taken) (settings : Settings) (most : ℕ) (is_check : Bool) (fille
 
   -- this was told after the parts, or was to be told if a write of it failed
   abbrev pub IsMore : RunStop → List Part → (rest : List ℕ) → List Placed → (more : List ℕ) → Type 0
-  IsMore (ByCause Memory) parts rest messages more = (more ≡ []) ⊎ LacksLast t settings most is_check parts rest more
+  IsMore (ByCause Memory) parts rest messages more = (more ≡ []) ⊎ (LacksLast t settings most is_check parts rest more ⊎ IsSought t settings most is_check parts rest more)
   IsMore (ByCause ReadFailed) parts rest messages more = IsAllOf t settings most is_check parts rest more
   IsMore (ByCause WriteFailed) parts rest messages more = more ≡ []
   IsMore (ByCause TooManyReads) parts rest messages more = IsAllOf t settings most is_check parts rest more

@@ -1,14 +1,21 @@
--- What an input is made of: messages, and others that are refused and passed over, in a capture up to
--- the next packet, and else by the size that their first sixteen bytes state. D-Bus Specification,
--- "Message Format".
-use Rattle.std.specs.Prelude.{◌≡◌, ℕ, ◌+◌, ◌-◌, ◌<◌, ◌≤◌, Bool, true, false, List, [], ◌∷◌, length, drop, map, Option, None, Some, is_some}
+-- What an input is made of: messages, and others that are refused and passed over: in a capture up
+-- to the next packet, else by the size that their first sixteen bytes state, or up to where messages
+-- begin again, if that is looked for. D-Bus Specification, "Message Format".
+use Rattle.std.specs.Prelude.{◌≡◌, ◌⊎◌, ℕ, ◌+◌, ◌*◌, ◌-◌, ◌<◌, ◌≤◌, Bool, true, false, ◌||◌, List, [], ◌∷◌, length, take, drop, map, Option, None, Some, is_some}
 use Rattle.dbus_device.specs.Packets.{Packets}
 use Rattle.dbus_device.specs.declared.packet.Packet.{Packet}
 use Rattle.dbus_value_model.specs.declared.fault.Fault.{Fault}
 use Rattle.dbus_value_model.specs.declared.limits.Limits.{Limits}
 use Rattle.dbus_header.specs.MessageOutcomes.{IsWhole, IsRefused}
+use Rattle.dbus_resync.specs.declared.found.Found.{Found}
+use Rattle.dbus_resync.specs.declared.found.Found.TheVariants.{At}
+use Rattle.cli_options.specs.declared.resync.Resync.{Resync}
+use Rattle.cli_options.specs.declared.resync.Resync.TheVariants.{Off, Within}
+use Rattle.cli_options.specs.declared.settings.Settings.{Settings}
 use Rattle.dbus_stream.specs.Cut.{CutMessage, CutOutcome, Ended, Unfinished, Refused}
+use Rattle.dbus_stream.specs.GoingOn.{Resumes}
 use Rattle.dbus_stream.specs.Lasting.{is_truncated}
+use Rattle.dbus_stream.specs.Next.{IsCutShort}
 use Rattle.dbus_stream.specs.Packed.{IsOther}
 use Rattle.dbus_stream.specs.PassingPackets.{AreOfNumber}
 use Rattle.dbus_stream.specs.StatedSizes.{StatesNone, StatesSize, WantsMore}
@@ -16,12 +23,19 @@ use Rattle.cli_report.specs.Gathering.{IsPrefixTo}
 use Rattle.cli_run.specs.Refusals.{IsRefusedIn}
 use Rattle.cli_run.specs.declared.place.MessagePlace.{MessagePlace}
 
+-- by what the size of a refused message is known: by its first sixteen bytes; by the next packet,
+-- after that of its fault, of this number; or by where messages begin again within a window, and
+-- whether the input ends there
+pub data By : Type 0 where
+  Stated : By
+  InPacket : ℕ → By
+  Resumed : ℕ → Bool → By
+
 -- a part of an input: a message; or one that is refused and passed over, which has so many bytes,
--- with those that were kept of the input from there on when it was refused, and the number of the
--- packet of the fault, if that is of one
+-- with those that were kept of the input from there on when it was refused
 pub data Part : Type 0 where
   Whole : CutMessage → Part
-  PassedOver : List ℕ → Fault → Option ℕ → ℕ → Part
+  PassedOver : List ℕ → Fault → By → ℕ → Part
 
 abbrev pub size_of : Part → ℕ
 size_of (Whole item) = item.size
@@ -31,16 +45,41 @@ abbrev pub sizes_of : List Part → ℕ
 sizes_of [] = 0
 sizes_of (part ∷ parts) = size_of part + sizes_of parts
 
+-- how many bytes are looked at for messages, if they begin again in a window of so many
+abbrev pub effort_of : (window : ℕ) → ℕ
+effort_of window = 16 * window
+
+-- where messages begin again among the first bytes, as many as the window has
+abbrev pub ResumeIn : Limits → (window : ℕ) → List ℕ → Found → Type 0
+ResumeIn limits window bytes found = Resumes limits window (effort_of window) (take window bytes) found
+
 -- a refused message has this size: that which it states, and so many bytes are there; or, of a
--- packet, that of more bytes than were kept, or as many, and others follow
-abbrev pub HasSize : Limits → (kept bytes : List ℕ) → Option ℕ → ℕ → Type 0
-HasSize limits kept bytes None size = StatesSize limits bytes size × (size ≤ length bytes)
-HasSize limits kept bytes (Some number) size = (length kept ≤ size) × (size < length bytes)
+-- packet, that of more bytes than were kept, or as many, and others follow; or messages begin again
+-- behind it, and all bytes of the window are there, unless the input ends there
+abbrev pub HasSize : Limits → (kept bytes : List ℕ) → By → ℕ → Type 0
+HasSize limits kept bytes Stated size = StatesSize limits bytes size × (size ≤ length bytes)
+HasSize limits kept bytes (InPacket number) size = (length kept ≤ size) × (size < length bytes)
+HasSize limits kept bytes (Resumed window to_end) size = ResumeIn limits window bytes (At size) × (to_end ≡ false → window ≤ length bytes)
+
+-- it is refused for this; or the input ends within it, and messages begin again before
+abbrev pub IsFaultOf : Limits → (kept bytes : List ℕ) → Fault → By → Type 0
+IsFaultOf limits kept bytes fault (Resumed window true) = IsRefused limits kept fault ⊎ ((kept ≡ bytes) × IsCutShort limits kept fault)
+IsFaultOf limits kept bytes fault by = IsRefused limits kept fault
 
 -- the bytes begin with this part
 abbrev pub IsPart : Limits → List ℕ → Part → Type 0
 IsPart limits bytes (Whole item) = IsWhole limits bytes item.order item.message item.size
-IsPart limits bytes (PassedOver kept fault by size) = IsPrefixTo kept bytes × IsRefused limits kept fault × HasSize limits kept bytes by size
+IsPart limits bytes (PassedOver kept fault by size) = IsPrefixTo kept bytes × IsFaultOf limits kept bytes fault by × HasSize limits kept bytes by size
+
+-- the input ends within a window that was looked at for one of the parts
+abbrev pub is_to_end : By → Bool
+is_to_end (Resumed window to_end) = to_end
+is_to_end by = false
+
+abbrev pub reach_end : List Part → Bool
+reach_end [] = false
+reach_end (Whole item ∷ parts) = reach_end parts
+reach_end (PassedOver kept fault by size ∷ parts) = is_to_end by || reach_end parts
 
 -- the bytes are these parts, one after the other, and then the rest
 abbrev pub BeginWithParts : Limits → List ℕ → List Part → List ℕ → Type 0
@@ -57,24 +96,50 @@ abbrev pub IsInOther : Option Packets → (number place : ℕ) → Type 0
 IsInOther None number place = Unit {0}
 IsInOther (Some packets) number place = IsOther number (packets place)
 
--- A message at this offset is refused by a byte of the packet of this number, and so many of its
--- bytes are passed over: all that follow in the packet, up to the first one of another.
-abbrev pub IsPassedBy : Option Packets → Limits → (offset : ℕ) → (kept : List ℕ) → Option ℕ → (size : ℕ) → Type 0
-IsPassedBy packets limits offset kept None size = IsRefusedIn packets limits offset kept None
-IsPassedBy packets limits offset kept (Some number) size =
+-- A message at this offset is refused, and passed over as is asked for: by a byte of no packet; or by
+-- one of the packet of this number, and so many of its bytes are passed over: all that follow in the
+-- packet, up to the first one of another.
+abbrev pub IsPassedBy : Option Packets → Resync → Limits → (offset : ℕ) → (kept : List ℕ) → By → (size : ℕ) → Type 0
+IsPassedBy packets resync limits offset kept Stated size = (resync ≡ Off) × IsRefusedIn packets limits offset kept None
+IsPassedBy packets resync limits offset kept (Resumed window to_end) size = (resync ≡ Within window) × IsRefusedIn packets limits offset kept None
+IsPassedBy packets resync limits offset kept (InPacket number) size =
     IsRefusedIn packets limits offset kept (Some number) × AreInPacket packets number (offset + length kept) (offset + size) × IsInOther packets number (offset + size)
 
 -- a refused message goes on to the end of the rest: it states more bytes than there are, or does not
--- state its size yet; or all that follows is of the packet of its fault
-abbrev pub GoesPast : Option Packets → Limits → (offset : ℕ) → (kept rest : List ℕ) → Option ℕ → Type 0
-GoesPast packets limits offset kept rest None = WantsMore limits rest
-GoesPast packets limits offset kept rest (Some number) = AreInPacket packets number (offset + length kept) (offset + length rest)
+-- state its size yet, by which it is passed over; or all that follows is of the packet of its fault
+abbrev pub GoesPast : Option Packets → Resync → Limits → (offset : ℕ) → (kept rest : List ℕ) → Option ℕ → Type 0
+GoesPast packets resync limits offset kept rest None = (resync ≡ Off) × WantsMore limits rest
+GoesPast packets resync limits offset kept rest (Some number) = AreInPacket packets number (offset + length kept) (offset + length rest)
 
 -- so it does, and this is the packet of its fault, if that is of one
-pub record IsCutOff (packets : Option Packets) (limits : Limits) (offset : ℕ) (kept rest : List ℕ) (by : Option ℕ) : Type 0 where
+pub record IsCutOff (packets : Option Packets) (resync : Resync) (limits : Limits) (offset : ℕ) (kept rest : List ℕ) (by : Option ℕ) : Type 0 where
   pub front : IsPrefixTo kept rest
   pub refused_in : IsRefusedIn packets limits offset kept by
-  pub past : GoesPast packets limits offset kept rest by
+  pub past : GoesPast packets resync limits offset kept rest by
+
+-- ---- what is not passed over
+
+abbrev pub is_there : Found → Bool
+is_there (At offset) = true
+is_there found = false
+
+-- messages begin again nowhere in the window, of which fewer bytes are there only at the end
+pub record BeginNowhere (limits : Limits) (window : ℕ) (rest : List ℕ) (at_end : Type 0) : Type 0 where
+  pub found : Found
+  pub nowhere : is_there found ≡ false
+  pub resumes : ResumeIn limits window rest found
+  pub all : length rest < window → at_end
+
+-- a refused message is not passed over, though that is asked for: its fault is of no packet, and it
+-- states no size within the limits, or messages begin again nowhere
+abbrev pub IsUnpassed : Option Packets → Resync → Limits → (offset : ℕ) → (kept rest : List ℕ) → Type 0 → Type 0
+IsUnpassed packets Off limits offset kept rest at_end = IsRefusedIn packets limits offset kept None × StatesNone limits rest
+IsUnpassed packets (Within window) limits offset kept rest at_end = IsRefusedIn packets limits offset kept None × BeginNowhere limits window rest at_end
+
+-- nor is one that the input ends within: it came in a packet, or messages begin again nowhere
+abbrev pub IsCutUnpassed : Option Packets → Resync → Limits → (offset : ℕ) → (kept rest : List ℕ) → Type 0 → Type 0
+IsCutUnpassed packets Off limits offset kept rest at_end = Unit {0}
+IsCutUnpassed packets (Within window) limits offset kept rest at_end = (packet : Option ℕ) × IsRefusedIn packets limits offset kept packet × (packet ≡ None → BeginNowhere limits window rest at_end)
 
 -- the fault of the rest shows by what is kept of it: the rest is refused, or the input ends there
 abbrev pub IsTellable : (kept rest : List ℕ) → CutOutcome → Type 0 → Type 0
@@ -83,17 +148,17 @@ IsTellable kept rest Unfinished at_end = (rest ≡ kept) × at_end
 IsTellable kept rest (Refused fault) at_end = rest ≡ kept
 
 -- why nothing follows the parts but the rest, which is at this offset: the input ends there, or
--- within a message; or a message is refused, and the run is not to go on, or it states no size within
--- the limits, and its fault is of no packet; or cut says that one is passed over that goes on to the
--- end of the input, and of which packet its fault is. kept is what was kept of the rest when that
--- was found
-abbrev pub IsLast : Option Packets → (cut : Option (Option ℕ)) → (goes_on : Bool) → Limits → (offset : ℕ) → (kept rest : List ℕ) → CutOutcome → Type 0 → Type 0
-IsLast packets None goes_on limits offset kept rest Ended at_end = (rest ≡ kept) × at_end
-IsLast packets None goes_on limits offset kept rest Unfinished at_end = (rest ≡ kept) × at_end
-IsLast packets None goes_on limits offset kept rest (Refused fault) at_end =
-    IsPrefixTo kept rest × (goes_on ≡ false → rest ≡ kept) × (goes_on ≡ true → is_truncated fault.reason ≡ false → StatesNone limits rest × IsRefusedIn packets limits offset kept None)
-IsLast packets (Some by) goes_on limits offset kept rest (Refused fault) at_end = IsCutOff packets limits offset kept rest by × at_end × (goes_on ≡ true)
-IsLast packets (Some by) goes_on limits offset kept rest outcome at_end = ⊥
+-- within a message; or a message is refused, and the run is not to go on, or it is not passed over;
+-- or cut says that one is passed over that goes on to the end of the input, and of which packet its
+-- fault is. kept is what was kept of the rest when that was found
+abbrev pub IsLast : Option Packets → (cut : Option (Option ℕ)) → Settings → Limits → (offset : ℕ) → (kept rest : List ℕ) → CutOutcome → Type 0 → Type 0
+IsLast packets None settings limits offset kept rest Ended at_end = (rest ≡ kept) × at_end
+IsLast packets None settings limits offset kept rest Unfinished at_end =
+    (rest ≡ kept) × at_end × (settings.keeps_going ≡ true → IsCutUnpassed packets settings.resync limits offset kept rest at_end)
+IsLast packets None settings limits offset kept rest (Refused fault) at_end =
+    IsPrefixTo kept rest × (settings.keeps_going ≡ false → rest ≡ kept) × (settings.keeps_going ≡ true → is_truncated fault.reason ≡ false → IsUnpassed packets settings.resync limits offset kept rest at_end)
+IsLast packets (Some by) settings limits offset kept rest (Refused fault) at_end = IsCutOff packets settings.resync limits offset kept rest by × at_end × (settings.keeps_going ≡ true)
+IsLast packets (Some by) settings limits offset kept rest outcome at_end = ⊥
 
 -- ---- the messages among the parts
 

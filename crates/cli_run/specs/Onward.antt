@@ -70,6 +70,8 @@ module _ {R T B A G : Type 0} {b : Ghosts B} (k : Taking T G) (left : R → Opti
     pub most_reads : most_reads_of new ≡ most_reads_of old
     pub limits_are : limits_of k new ≡ limits
     pub at_end : IsTrueEnd left old → IsTrueEnd left new
+    -- after the end there is nothing to read
+    pub settled : is_ended old ≡ true → (bytes ≡ []) × (is_ended new ≡ true)
 
   module _ {S : Type 0} (failures : R → ℕ) (takes : S → S → List Placed → (told : List ℕ) → Type 0) (leaves : S → S → List Placed → (told : List ℕ) → RunStop → Type 0)
       (full : S → Bool) (before : ℕ) (Are : Option Packets → Type 0) where

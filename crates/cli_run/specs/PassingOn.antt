@@ -1,27 +1,61 @@
--- How a run passes over a refused message: in a capture up to the next packet, and else by the size
--- that it states.
-use Rattle.std.specs.Prelude.{◌≡◌, ℕ, Bool, true, false, ◌&&◌, List, Option, Some, is_some, not, Result}
+-- How a run passes over a refused message: in a capture up to the next packet, else by the size that
+-- it states, or up to where messages begin again, if that is looked for.
+use Rattle.std.specs.Prelude.{◌≡◌, ℕ, Bool, true, false, ◌++◌, List, Option, Some, is_some, Result, Ok, Err}
 use Rattle.dbus_device.specs.Packets.{Packets}
 use Rattle.dbus_device.specs.declared.packet.Packet.{Packet}
+use Rattle.dbus_resync.specs.declared.found.Found.{Found}
+use Rattle.dbus_resync.specs.declared.found.Found.TheVariants.{At}
+use Rattle.dbus_stream.specs.GoingOn.{ReadsToGoOn, Resyncs}
 use Rattle.dbus_stream.specs.Lasting.{is_truncated}
 use Rattle.dbus_stream.specs.Packed.{number_of}
 use Rattle.dbus_stream.specs.Passing.{Passing}
 use Rattle.dbus_stream.specs.PassingPackets.{AreOfNumber, IsBeforeOther, PassesPacket}
-use Rattle.dbus_stream.specs.RawReading.{HasPackets, done_of, read_of, source_of}
+use Rattle.dbus_stream.specs.RawReading.{HasPackets, done_of, kept, read_of, source_of}
 use Rattle.dbus_stream.specs.declared.passed.Passed.{Passed}
+use Rattle.dbus_stream.specs.declared.passed.Passed.TheVariants.{Over, Not}
 use Rattle.dbus_stream.specs.declared.raw_reader.RawReader.{RawReader}
 use Rattle.dbus_stream.specs.declared.read_fault.ReadFault.{ReadFault}
+use Rattle.cli_options.specs.declared.resync.Resync.{Resync}
+use Rattle.cli_options.specs.declared.resync.Resync.TheVariants.{Off, Within}
 use Rattle.cli_report.specs.declared.telling.RefusedMessage.{RefusedMessage}
+use Rattle.cli_run.specs.Inputs.{effort_of}
 
--- it is passed over up to the next packet: the byte by which it is refused is of one, and is not the
--- last byte of an input that ends within it
-abbrev pub is_by_packet : RefusedMessage → Bool
-is_by_packet refusal = is_some refusal.packet && not (is_truncated refusal.fault.reason)
+-- up to the next packet; by the size that it states; or up to where messages begin again in a window
+-- of so many bytes
+pub data Way : Type 0 where
+  ToPacket : Way
+  BySize : Way
+  ToNext : ℕ → Way
+
+abbrev pub way_by : (in_packet is_cut : Bool) → Resync → Way
+way_by true false resync = ToPacket
+way_by true true resync = BySize
+way_by false is_cut Off = BySize
+way_by false is_cut (Within window) = ToNext window
+
+-- to the next packet, if the byte by which it is refused is of one, and is not the last byte of an
+-- input that ends within it; and if it is of none, to the next message, if that is asked for
+abbrev pub way_of : RefusedMessage → Resync → Way
+way_of refusal resync = way_by (is_some refusal.packet) (is_truncated refusal.fault.reason) resync
+
+-- that messages begin again somewhere
+abbrev pub passed_by : Result Found ReadFault → Result Passed ReadFault
+passed_by (Ok (At offset)) = Ok Over
+passed_by (Ok found) = Ok Not
+passed_by (Err fault) = Err fault
 
 module _ {R A : Type 0} (left : R → Option (List ℕ)) (calls : R → ℕ) (packet : R → Option Packet) (old new : RawReader R A) where
-  abbrev pub PassesOn : (by_packet : Bool) → Result Passed ReadFault → Type 0
-  PassesOn true result = PassesPacket left calls packet old new result
-  PassesOn false result = Passing left calls old new result
+  -- a call that goes on where messages begin again
+  pub record Resyncing (window : ℕ) (result : Result Passed ReadFault) : Type 0 where
+    pub found : Result Found ReadFault
+    pub passed : result ≡ passed_by found
+    pub reads : ReadsToGoOn window left calls old new
+    pub goes : Resyncs (kept old ++ reads.bytes) old new window (effort_of window) found
+
+  abbrev pub PassesOn : Way → Result Passed ReadFault → Type 0
+  PassesOn ToPacket result = PassesPacket left calls packet old new result
+  PassesOn BySize result = Passing left calls old new result
+  PassesOn (ToNext window) result = Resyncing window result
 
 -- all that is read and dropped is of the packet of the last read, and what is next is not
 abbrev pub PassesInPacket : {R A : Type 0} (packets : R → Option Packets) (packet : R → Option Packet) → (old new : RawReader R A) → Result Passed ReadFault → Type 0

@@ -2,11 +2,12 @@
 //! passed over.
 ghost use Rattle.std.specs.Prelude.{◌≡◌, ◌≤◌, ◌^◌, IfOk, string_bytes, true};
 ghost use Rattle.dbus_stream.specs.GoingOn.{HasFault};
+ghost use Rattle.dbus_stream.specs.Lasting.{is_truncated};
 ghost use Rattle.dbus_stream.specs.Next.{DeviceCounts};
 ghost use Rattle.dbus_stream.specs.RawReading.{IsNewReader, KeepsPackets, kept, most_reads_of, source_of, stopped_of};
 ghost use Rattle.cli_report.specs.Devices.{reading};
 ghost use Rattle.cli_run.specs.Going.{Closes, PassesAll, cause_of, IsTold};
-ghost use Rattle.cli_run.specs.PassingOn.{PassesInPacket, PassesOn, is_by_packet};
+ghost use Rattle.cli_run.specs.PassingOn.{PassesInPacket, PassesOn, ToPacket, passed_by, way_of};
 ghost use Rattle.cli_run.specs.Told.{TellsStop};
 ghost use Rattle.cli_run.specs.Visiting.{Tells};
 
@@ -14,11 +15,11 @@ use crate::closing::number_of;
 use crate::handing::hand_all;
 use crate::tally::{Tally, closing_line};
 use crate::visitor::{MessageVisitor, RunStop};
-use cli_options::Settings;
+use cli_options::{Resync, Settings};
 use cli_report::{
     Cause, ExitStatus, RefusedMessage, Unwritten, give_up, refusal_json, refusal_text,
 };
-use dbus_stream::{Passed, RawReader, ReadFault, Sink, Source};
+use dbus_stream::{Found, Passed, RawReader, ReadFault, Sink, Source};
 use dbus_value_model::{Fault, Reason};
 use std::alloc::{AllocError, Allocator};
 
@@ -97,7 +98,7 @@ fn hand_parts<R: Source, A: Allocator + Copy, V: MessageVisitor>(
         if !settings.keeps_going {
             return close(alloc, settings, is_check, tally, Some(fault), visitor);
         }
-        match pass(refusal, messages) {
+        match pass(settings.resync, refusal, messages) {
             Ok(Passed::Over) => tally = tally.past(messages.done()),
             Ok(Passed::CutOff) => {
                 let ended = tally.at_end(messages.done(), refusal.packet.is_none());
@@ -109,28 +110,58 @@ fn hand_parts<R: Source, A: Allocator + Copy, V: MessageVisitor>(
     }
 }
 
-// Passes over a refused message: in a capture up to the next packet, and else by the size that it
-// states.
+// How many bytes are looked at for messages that begin again, for each one of the window.
+const EFFORT: usize = 16;
+
+// Passes over a refused message: in a capture up to the next packet, else up to where messages begin
+// again, if that is looked for, or by the size that it states.
 fn pass<R: Source, A: Allocator + Copy>(
+    resync: Resync,
     refusal: RefusedMessage,
     messages: &mut RawReader<R, A>,
 ) -> Result<Passed, ReadFault>
     requires { HasFault (stopped_of messages.old) }
     ensures passes { PassesOn R.left R.calls R.packet messages.old messages.new
-        (is_by_packet refusal) result }
-    ensures in_packet { is_by_packet refusal ≡ true →
+        (way_of refusal resync) result }
+    ensures in_packet { way_of refusal resync ≡ ToPacket →
         PassesInPacket R.packets R.packet messages.old messages.new result }
     ensures failed { DeviceCounts (R.failures (source_of messages.old))
         (R.failures (source_of messages.new)) result }
     ensures same_reference { R.reference (source_of messages.new) ≡
         R.reference (source_of messages.old) }
-    ensures packets { KeepsPackets R.packets R.packet messages.old messages.new }
+    ensures packets { IfOk result (λ _. KeepsPackets R.packets R.packet messages.old messages.new) }
 {
-    let is_whole = !matches!(refusal.fault.reason, Reason::Truncated);
-    if refusal.packet.is_some() && is_whole {
-        messages.next_packet()
-    } else {
-        messages.pass_over()
+    if refusal.packet.is_some() {
+        if is_truncated(refusal.fault) {
+            return messages.pass_over();
+        }
+        return messages.next_packet();
+    }
+    match resync {
+        Resync::Off => messages.pass_over(),
+        Resync::Within(window) => {
+            let window = window as usize;
+            passed_by(messages.resync(window, EFFORT * window))
+        }
+    }
+}
+
+// Whether the input ends within the message.
+fn is_truncated(fault: Fault) -> bool
+    ensures { result ≡ is_truncated fault.reason }
+{
+    matches!(fault.reason, Reason::Truncated)
+}
+
+// Whether messages begin again somewhere.
+fn passed_by(found: Result<Found, ReadFault>) -> Result<Passed, ReadFault>
+    ensures { result ≡ passed_by found }
+{
+    match found {
+        Ok(Found::At(_offset)) => Ok(Passed::Over),
+        Ok(Found::Nowhere) => Ok(Passed::Not),
+        Ok(Found::Spent) => Ok(Passed::Not),
+        Err(fault) => Err(fault),
     }
 }
 

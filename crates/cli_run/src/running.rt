@@ -11,7 +11,7 @@ use crate::going::{pass_through, tell_stop};
 use crate::output::{is_check, output_of};
 use crate::output_writer::OutputWriter;
 use crate::place::Carried;
-use cli_options::{Command, Settings, Window};
+use cli_options::{Command, Resync, Settings, Window};
 use cli_report::{Cause, ExitStatus, OutputBuffer, give_up};
 use dbus_stream::{MOST_READS, Sink, Source};
 use dbus_value_model::Limits;
@@ -111,6 +111,7 @@ pub fn run_within<A: Allocator + Copy, R: Source, W: Sink, E: Sink>(
         as_json: false,
         explains: false,
         keeps_going: false,
+        resync: Resync::Off,
         handshake: None,
         window: Window {
             skip: 0,

@@ -1,6 +1,6 @@
 -- Words name one thing: a command but for where its rules and owners are kept, one list of
 -- settings, one form of tables, one side.
-use Rattle.std.proofs.Common.{◌≡◌, ◌≢◌, ◌↔◌, ℕ, ◌+◌, ◌*◌, ◌≤◌, Bool, true, false, List, [], ◌∷◌, ◌++◌, map, None, Some, Option, IsTrue, codes, slice_index, refl, sym, ap, ◌∙◌, subst, arith, inl, inr, Result, Ok, Err, append-nil}
+use Rattle.std.proofs.Common.{◌≡◌, ◌≢◌, ◌⊎◌, ◌↔◌, ℕ, ◌+◌, ◌*◌, ◌≤◌, Bool, true, false, List, [], ◌∷◌, ◌++◌, map, None, Some, Option, IsTrue, codes, slice_index, refl, sym, ap, ◌∙◌, subst, arith, inl, inr, Result, Ok, Err, append-nil}
 use Rattle.std.specs.List.{AllByRecursion, flat_map}
 use Rattle.std.specs.Option.{option_map}
 use Rattle.std.specs.declared.alloc.Global.{Global}
@@ -24,7 +24,7 @@ use Rattle.dbus_rule.specs.declared.rule.Rule.{Rule}
 use Rattle.dbus_match.specs.Matching.{Ownership, ownership, ownerships}
 use Rattle.dbus_rule.specs.RuleViews.{rule_pairs}
 use Rattle.cli_options.specs.CommandLine.{wire_app}
-use Rattle.cli_options.specs.Limiting.{HasLimits, HasWindow, IsGivenNumber, IsNumberOf, IsRuleOf, fds_word}
+use Rattle.cli_options.specs.Limiting.{HasLimits, HasResync, HasWindow, IsGiven, IsGivenNumber, IsNumberOf, IsRuleOf, fds_word, is_on}
 use Rattle.cli_options.specs.Named.{AreRulesOf, HasEncoding, HasSettings, HasWanted, IsNamedBy, IsSelectionGiven, Names, NamesCommand, order_word, rules_given, side_word, words_of}
 use Rattle.cli_options.specs.Owners.{AreOwnersOf, IsOwnerWord}
 use Rattle.cli_options.specs.Selections.{AreSameCommand, AreSameSelection}
@@ -34,6 +34,8 @@ use Rattle.cli_options.specs.declared.command.Command.{Command}
 use Rattle.cli_options.specs.declared.file_form.FileForm.{FileForm}
 use Rattle.cli_options.specs.declared.file_form.FileForm.TheVariants as files
 use Rattle.cli_options.specs.declared.command.Command.TheVariants.{Show, Json, Check, Swap, Filter}
+use Rattle.cli_options.specs.declared.resync.Resync.{Resync}
+use Rattle.cli_options.specs.declared.resync.Resync.TheVariants.{Off, Within}
 use Rattle.cli_options.specs.declared.selection.Selection.{Selection}
 use Rattle.cli_options.specs.declared.settings.Settings.{Settings}
 use Rattle.cli_options.specs.declared.wanted_calls.WantedCalls.{WantedCalls}
@@ -137,15 +139,37 @@ same_window rows a b p q =
     let checks_rest = same_flag a.checks_rest b.checks_rest p.checks_rest q.checks_rest in
     λ i. record { skip = skip i; limit = limit i; checks_rest = checks_rest i }
 
+same_resync : (rows : List Row) (a b : Resync) → HasResync rows a → HasResync rows b → a ≡ b
+same_resync rows Off Off p q = refl
+same_resync rows Off (Within n) p q = elim q [
+  | inl given ↦ absurd (let same = same_given _ None (Some n) p.0 given in cc)
+  | inr usual ↦ absurd (p.1 usual.1)
+]
+same_resync rows (Within n) Off p q = elim p [
+  | inl given ↦ absurd (let same = same_given _ None (Some n) q.0 given in cc)
+  | inr usual ↦ absurd (q.1 usual.1)
+]
+same_resync rows (Within n) (Within m) p q = elim p [
+  | inl given ↦ elim q [
+    | inl too ↦ (let same : Some n ≡ Some m = same_given _ (Some n) (Some m) given too in let one : n ≡ m = cc in ap Within one)
+    | inr usual ↦ absurd (let same = same_given _ None (Some n) usual.0 given in cc)
+  ]
+  | inr usual ↦ elim q [
+    | inl given ↦ absurd (let same = same_given _ None (Some m) usual.0 given in cc)
+    | inr too ↦ ap Within (usual.2 ∙ sym too.2)
+  ]
+]
+
 pub same_settings : (rows : List Row) (a b : Settings) → HasSettings rows a → HasSettings rows b → a ≡ b
 same_settings rows a b p q =
     let limits = same_limits rows a.limits b.limits p.limits q.limits in
     let as_json = same_flag a.as_json b.as_json p.as_json q.as_json in
     let explains = same_flag a.explains b.explains p.explains q.explains in
-    let keeps_going = same_flag a.keeps_going b.keeps_going p.keeps_going q.keeps_going in
+    let resync = same_resync rows a.resync b.resync p.resync q.resync in
+    let keeps_going = same_flag a.keeps_going b.keeps_going (subst (λ (r : Resync). (a.keeps_going ≡ true) ↔ ((is_on r ≡ true) ⊎ IsGiven (codes "keep-going") rows)) resync p.keeps_going) q.keeps_going in
     let handshake = same_side a.handshake b.handshake (sym p.handshake ∙ q.handshake) in
     let window = same_window rows a.window b.window p.window q.window in
-    λ i. record { limits = limits i; as_json = as_json i; explains = explains i; keeps_going = keeps_going i; handshake = handshake i; window = window i }
+    λ i. record { limits = limits i; as_json = as_json i; explains = explains i; keeps_going = keeps_going i; resync = resync i; handshake = handshake i; window = window i }
 
 -- ---- owners: a bus name has no `=`
 

@@ -1,7 +1,7 @@
 -- What the program says of a file that holds the messages, as pcap or pcapng: how many packets it
 -- passed over since they were cut, and the fault of the file, if it has one.
-use Rattle.std.specs.Prelude.{◌≡◌, ℕ, zero, suc, ◌⊎◌, ◌++◌, ◌==◌, if◌then◌else◌, Bool, false, List, [], Option, Some, None, Result, Ok, Err, Vec, String, codes, decimal, string_bytes}
-use Rattle.std.specs.List.{list_any}
+use Rattle.std.specs.Prelude.{◌≡◌, ℕ, zero, suc, ◌⊎◌, ◌++◌, ◌==◌, if◌then◌else◌, ◌||◌, nat_eq, Bool, false, List, [], Option, Some, None, Result, Ok, Err, Vec, String, codes, decimal, string_bytes}
+use Rattle.std.specs.List.{list_any, starts_with}
 use Rattle.std.specs.Str.{bytes_eq}
 use Rattle.std.specs.declared.alloc.Global.{Global}
 use Rattle.cli_report.specs.declared.ending.Cause.TheVariants as cause
@@ -11,9 +11,9 @@ use Rattle.dbus_capture.specs.CaptureTexts.{capture_reason_text}
 use Rattle.dbus_capture.specs.declared.fault.CaptureFault.{CaptureFault}
 use Rattle.dbus_tool.specs.Handshaking.{Shows, StopsBy}
 
--- one of the words asks to keep going
+-- one of the words asks to keep going: it does, or begins as `--resync` and `--resync-window` do
 abbrev pub keep_going : List (String Global) → Bool
-keep_going words = list_any (λ w. bytes_eq (string_bytes w) (codes "--keep-going")) words
+keep_going words = list_any (λ w. bytes_eq (string_bytes w) (codes "--keep-going") || starts_with nat_eq (string_bytes w) (codes "--resync")) words
 
 -- packets that were cut are passed over: the words are there, and ask for it
 abbrev pub passes_cut : {A : Type 0} → Result (Vec (String Global) Global) A → Bool

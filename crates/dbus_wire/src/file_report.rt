@@ -13,7 +13,8 @@ use std::alloc::{AllocError, Global};
 pub(crate) fn keep_going(words: &[String]) -> bool
     ensures { result ≡ keep_going words.now }
 {
-    words.iter().any(|word| word.as_str() == "--keep-going")
+    words.iter().any(|word| word.as_str() == "--keep-going"
+        || word.as_bytes().starts_with(b"--resync"))
 }
 
 // Whether one of the words is `encode`, which reads lines. No other command takes that word.

@@ -1,6 +1,6 @@
 use Rattle.std.proofs.lemmas.Result.{err_from_is_err_and}
 use Rattle.clap.specs.Words.{found_of, rows_of}
-use Rattle.cli_options.specs.Limiting.{HasLimits, HasWindow}
+use Rattle.cli_options.specs.Limiting.{HasLimits, HasResync, HasWindow}
 use Rattle.cli_options.specs.Named.{HasSettings, HasSide}
 use Rattle.cli_options.proofs.Tells.{part_told}
 use Rattle.cli_options.proofs.command_line.settings_named.Goals as goal
@@ -22,3 +22,9 @@ returns-in_err-window c =
     let rows = rows_of (found_of c.args.inner.now) in
     let p = err_from_is_err_and c.from_residual-in_err-window.result c.from_residual-in_err-window.ensures.1 in
     rw (p.1, p.2) (part_told (HasWindow rows) (HasSettings rows) (λ settings has. (settings.window, has.window)) c.in_err-window.field-0.0 c.in_err-window.ensures)
+
+pub returns-in_err-resync : goal.returns-in_err-resync
+returns-in_err-resync c =
+    let rows = rows_of (found_of c.args.inner.now) in
+    let p = err_from_is_err_and c.from_residual-in_err-resync.result c.from_residual-in_err-resync.ensures.1 in
+    rw (p.1, p.2) (part_told (HasResync rows) (HasSettings rows) (λ settings has. (settings.resync, has.resync)) c.in_err-resync.field-0.0 c.in_err-resync.ensures)

@@ -151,7 +151,7 @@ parts-preserved g c =
       (grows laws r c.in-Some.is c.number_of.result (c.number_of.ensures ∙ ap number_of c.packet.ensures) c.pass.new.messages known passes input).0,
       c.in-Ok-tell.ensures.settled,
       c.pass.ensures.same_reference ∙ (c.hand_all.ensures.same_reference ∙ c.parts.invariant.3),
-      known_still g.R.Source.packets g.R.Source.packet c.hand_all.new.messages c.pass.new.messages _ c.pass.ensures.packets
+      known_still g.R.Source.packets g.R.Source.packet c.hand_all.new.messages c.pass.new.messages _ c.in-Ok-Over.ensures.packets
           (known_still g.R.Source.packets g.R.Source.packet c.parts.messages c.hand_all.new.messages _ c.hand_all.ensures.packets c.parts.invariant.4),
       λ none. absurd (omega (arith, none, ap (λ (t : Tally). t.passed) c.past-tally.ensures)),
     )
