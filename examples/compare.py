@@ -1,9 +1,9 @@
 #!/usr/bin/env python3
-"""compare.py PROGRAM LISTERS SWAPPERS FILTERS BUILDER EXPLAINERS CHECKER..: compares what each CHECKER writes of messages with what `PROGRAM check` does.
+"""compare.py PROGRAM LISTERS LINERS SWAPPERS FILTERS BUILDER EXPLAINERS CHECKER..: compares what each CHECKER writes of messages with what `PROGRAM check` does.
 
 The messages are the captures in samples/, whole and cut short, and those of the first messages of each capture of which one
 byte is changed. Both the text and the exit status are compared. What each of LISTERS, which commas separate, writes of the captures is compared with
-what `PROGRAM show` writes; what each of SWAPPERS writes of them in either byte order, with `PROGRAM swap`; what each of FILTERS writes of them for a rule and owners of names, with `PROGRAM filter`. What BUILDER builds of the
+what `PROGRAM show` writes, and what each of LINERS writes of them with `PROGRAM json`; what each of SWAPPERS writes of them in either byte order, with `PROGRAM swap`; what each of FILTERS writes of them for a rule and owners of names, with `PROGRAM filter`. What BUILDER builds of the
 parts of their messages has these parts, as `PROGRAM json` writes them. What each of EXPLAINERS writes of a message that is refused is what
 `PROGRAM check --explain` does. All but PROGRAM are run by the words in RUN, if it has any. The exit status is 1
 if they differ.
@@ -77,14 +77,14 @@ def answer(words, data):
     return ran.stdout.decode(errors="replace").strip(), ran.returncode
 
 
-def compare_lists(program, lister, folder):
-    """How many lines of the captures are listed otherwise."""
+def compare_lists(program, command, lister, folder):
+    """How many lines the lister writes otherwise of the captures than the program's command."""
     differing = 0
     for sample in SAMPLES:
         data = capture(folder, sample)
-        right, other = (answer(words, data)[0].split("\n") for words in ([program, "show"], [*RUN, lister]))
+        right, other = (answer(words, data)[0].split("\n") for words in ([program, command], [*RUN, lister]))
         differing += abs(len(right) - len(other)) + sum(a != b for a, b in zip(right, other))
-        print(f"{sample}: {len(right)} lines listed, {differing} otherwise")
+        print(f"{sample}: {len(right)} lines listed by {command}, {differing} otherwise")
     return differing
 
 
@@ -170,9 +170,10 @@ def compare_explained(program, explainer, folder):
     return differing + (explained == 0)
 
 
-def main(program, listers, swappers, filters, builder, explainers, *checkers):
+def main(program, listers, liners, swappers, filters, builder, explainers, *checkers):
     folder = os.path.join(os.path.dirname(os.path.abspath(__file__)), "..", "samples")
-    kinds, differing = collections.Counter(), sum(compare_lists(program, lister, folder) for lister in listers.split(","))
+    kinds, differing = collections.Counter(), sum(compare_lists(program, "show", lister, folder) for lister in listers.split(","))
+    differing += sum(compare_lists(program, "json", liner, folder) for liner in liners.split(","))
     differing += sum(compare_swaps(program, swapper, folder) for swapper in swappers.split(","))
     differing += sum(compare_filters(program, filter_program, folder) for filter_program in filters.split(","))
     differing += compare_builds(program, builder, folder)

@@ -48,7 +48,7 @@ echo '#include <dbus_wire.h>' | "$CXX" $flags -x c++ -fsyntax-only -
 "$CC" -std=c99 -O2 $flags -o "$built/check" "$here/c/check.c" -L"$built" -ldbus_wire
 "$CC" -std=c99 -O2 $flags -o "$built/check_shared" "$here/c/check.c" "$shared" -Wl,-rpath,"$(cd "$(dirname "$shared")" && pwd)"
 "$CC" $sanitized -o "$built/check_sanitized" "$here/c/check.c" -L"$built" -ldbus_wire
-for name in list swap rules build signal room habits texts lines watch pieces threads sharing explain; do
+for name in list json swap rules build signal room habits texts lines watch pieces threads sharing explain; do
 	"$CC" $sanitized -pthread -o "$built/$name" "$here/c/$name.c" -L"$built" -ldbus_wire
 	"$CC" -std=c99 -O2 -g $flags -pthread -o "$built/plain_$name" "$here/c/$name.c" -L"$built" -ldbus_wire
 done
@@ -131,25 +131,29 @@ try_echo() {
 	rm -rf "$sockets"
 }
 if command -v dbus-daemon > /dev/null; then try_echo $run "$built/descriptors" serve; fi
-# A service of few lines answers gdbus, and tells it of a method that is not there.
-"$CC" $sanitized -D_GNU_SOURCE -o "$built/service" "$here/c/service.c" -L"$built" -ldbus_wire
-if command -v dbus-daemon > /dev/null && command -v gdbus > /dev/null; then
+# A service of few lines at a bus says the load of this machine to gdbus in this form, and tells it of a method that is not there.
+try_load() {
+	if ! command -v dbus-daemon > /dev/null || ! command -v gdbus > /dev/null; then return; fi
+	form=$1
+	shift
 	sockets=$(mktemp -d)
 	bus=$(dbus-daemon --session --fork --print-pid --address="unix:path=$sockets/bus")
-	$run "$built/service" "$sockets/bus" & service=$!
+	"$@" "$sockets/bus" & service=$!
 	trap 'kill "$bus" "$service"' EXIT
 	ask="gdbus call --address unix:path=$sockets/bus --dest org.example.Load --object-path / --method org.example.Load"
 	for round in $(seq 100); do
 		if $ask.Get > "$built/said" 2> "$built/told"; then break; fi
 		sleep 0.1
 	done
-	grep -qx '([0-9.]*,)' "$built/said"
+	grep -qx "$form" "$built/said"
 	must_fail $ask.Set 2> "$built/told"
 	grep -q 'UnknownMethod: try Get' "$built/told"
 	kill "$bus" "$service"
 	trap - EXIT
 	rm -rf "$sockets"
-fi
+}
+"$CC" $sanitized -D_GNU_SOURCE -o "$built/service" "$here/c/service.c" -L"$built" -ldbus_wire
+try_load '([0-9.]*,)' $run "$built/service"
 # A checker for which there is no memory is not made.
 for nth in 1 2; do
 	status=0
@@ -168,7 +172,7 @@ if [ -z "$target" ] && command -v valgrind > /dev/null; then
 	under_valgrind() { valgrind --quiet --leak-check=full --error-exitcode=9 "$@"; }
 	under_valgrind "$built/plain_signal" Name "a b" Number 7 > "$built/one"
 	under_valgrind "$built/plain_room" < "$built/one"
-	for words in list "swap B" "rules member='NameAcquired'" "build again" habits "pieces 64" threads "sharing type='signal'"; do
+	for words in list json "swap B" "rules member='NameAcquired'" "build again" habits "pieces 64" threads "sharing type='signal'"; do
 		under_valgrind "$built/plain_"$words < "$here/../samples/session.dbus" > "$built/said"
 	done
 	under_valgrind "$built/handshake_plain" pieces 7
@@ -217,7 +221,7 @@ if [ -z "$target" ] && pkg-config --exists dbus-1; then
 	changes=0 try_fuzz "$here/fuzz/peer.c" "$here/../cases/peers/libdbus.c" $(pkg-config --cflags --libs dbus-1)
 fi
 
-listers=$built/list swappers=$built/swap filters=$built/rules explainers=$built/explain
+listers=$built/list liners=$built/json swappers=$built/swap filters=$built/rules explainers=$built/explain
 set -- "$built/check" "$built/check_shared" "$built/plain_pieces"
 if [ -z "$target" ]; then set -- "$@" "$built/check_sanitized"; fi
 if [ -n "$target" ]; then
@@ -228,9 +232,11 @@ elif command -v cargo > /dev/null; then
 	cargo build --quiet --offline --release --examples --manifest-path "$here/../rust/Cargo.toml"
 	rust=$built/rust/release/examples
 	if command -v dbus-daemon > /dev/null; then try_echo "$rust/descriptors"; fi
-	listers=$listers,$rust/list swappers=$swappers,$rust/swap filters=$filters,$rust/filter explainers=$explainers,$rust/explain
+	try_load "({'Load': <[0-9.]*>},)" "$rust/service"
+	DBUS_WIRE_LIBRARY=$shared "$here/typed.py" "$rust/again"
+	listers=$listers,$rust/list liners=$liners,$rust/json swappers=$swappers,$rust/swap filters=$filters,$rust/filter explainers=$explainers,$rust/explain
 	set -- "$@" "$rust/check"
 else
 	echo "no cargo here: the Rust crate is not tried"
 fi
-exec "$here/compare.py" "$program" "$listers" "$swappers" "$filters" "$built/build" "$explainers" "$@"
+exec "$here/compare.py" "$program" "$listers" "$liners" "$swappers" "$filters" "$built/build" "$explainers" "$@"

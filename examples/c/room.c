@@ -1,7 +1,8 @@
 /* Swaps each D-Bus message on standard input into fewer bytes than it has, into as many and into
  * more: DBUS_WIRE_NO_ROOM leaves the bytes as they were, and else those after the message stay as
- * they were. Flattens each from every place of its row on, with less room than the items have, as
- * much and more, and compares each piece with the whole row. Prints how many messages there are. */
+ * they were. Writes each as a line of JSON into too little room for the line, and into enough.
+ * Flattens each from every place of its row on, with less room than the items have, as much and
+ * more, and compares each piece with the whole row. Prints how many messages there are. */
 #include <dbus_wire.h>
 
 #include <stdio.h>
@@ -27,6 +28,26 @@ static int is_right(const uint8_t *bytes, const struct dbus_wire_checked *messag
     for (at = written; at <= room; at++)
         if (out[at] != BEFORE) return 0;
     return (written > 0) == (room >= message->length) && told.length == message->length && told.order == message->order;
+}
+
+/* Whether its line is, whose front is there if there is too little room. */
+static int is_line(const uint8_t *bytes, const struct dbus_wire_checked *message, size_t room) {
+    static const struct dbus_wire_line_place place = {7, 99, 5, 1};
+    static uint8_t line[1 << 20], out[1 << 20];
+    struct dbus_wire_checked told;
+    uint64_t whole, count;
+    size_t at, written;
+    uint32_t answer;
+
+    if (room >= sizeof out || dbus_wire_json(bytes, message->length, NULL, &place, line, sizeof line, &whole, NULL) != DBUS_WIRE_WHOLE)
+        return 0;
+    written = room <= whole ? room : whole + 1;
+    memset(out, BEFORE, room + 1);
+    answer = dbus_wire_json(bytes, message->length, NULL, &place, out, room, &count, &told);
+    for (at = written; at <= room; at++)
+        if (out[at] != BEFORE) return 0;
+    return answer == (room <= whole ? DBUS_WIRE_NO_ROOM : DBUS_WIRE_WHOLE) && count == whole && line[whole - 1] == '\n' && line[whole] == 0 &&
+           memcmp(line, out, written) == 0 && told.length == message->length;
 }
 
 /* The whole row of a message's items, and a piece of it. */
@@ -66,7 +87,9 @@ int main(void) {
     dbus_wire_specification_limits(&limits);
     while (dbus_wire_check(bytes + at, count - at, &limits, &message) == DBUS_WIRE_WHOLE) {
         for (room = 0; room <= message.length + MORE; room++)
-            if (!is_right(bytes + at, &message, 'l', room) || !is_right(bytes + at, &message, 'B', room)) return 1;
+            if (!is_right(bytes + at, &message, 'l', room) || !is_right(bytes + at, &message, 'B', room) ||
+                !is_line(bytes + at, &message, room * 4))
+                return 1;
         if (!is_flat(bytes + at, message.length)) return 1;
         at += message.length;
         messages++;

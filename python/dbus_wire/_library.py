@@ -81,6 +81,10 @@ class Explained(ctypes.Structure):
     _fields_ = [("length", c_uint64)] + [(name, Text) for name in ("name", "head", "rule", "text")]
 
 
+class LinePlace(ctypes.Structure):
+    _fields_ = [(name, c_uint64) for name in ("number", "offset", "time", "has_time")]
+
+
 class Writer(ctypes.Structure):
     _fields_ = [("length", c_uint64), ("order", c_uint32), ("reserved", c_uint32)]
 
@@ -152,6 +156,7 @@ _CALLS = {
     "flatten_fields": (c_uint32, *_MESSAGE, c_size_t, *_ITEMS),
     "flatten_whole_fields": (c_uint32, *_MESSAGE, c_size_t, *_ITEMS),
     "explain": (c_uint32, *_MESSAGE, POINTER(InputPlace), c_char_p, c_size_t, POINTER(Explained), POINTER(Checked)),
+    "json": (c_uint32, *_MESSAGE, POINTER(LinePlace), c_char_p, c_size_t, POINTER(c_uint64), POINTER(Checked)),
     "wanted": (c_uint64, *_MESSAGE),
     "swap": (c_uint32, *_MESSAGE, c_uint32, c_char_p, c_size_t, POINTER(Checked)),
     "build": (c_uint32, POINTER(Draft), POINTER(Limits), c_char_p, c_size_t, POINTER(Checked)),

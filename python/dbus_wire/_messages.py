@@ -14,7 +14,7 @@ from . import _library
 from ._errors import refused, truncated
 from ._library import FIXED_HEADER_LENGTH, NO_ROOM, PARTIAL, REASON_TRAILING, REFUSED, Bytes, as_bytes, library
 from ._limits import Limits, limits_struct
-from ._values import ObjectPath, Order, Signature, text_at, values_of
+from ._values import ObjectPath, Order, Signature, text_at, uint64_of, values_of
 
 # The most bytes that one read asks for, so that a length that is only stated takes no memory.
 _PIECE = 1 << 20
@@ -146,6 +146,23 @@ class Message:
     def wants_reply(self) -> bool:
         """Whether it is a method call that does not say that it expects no reply."""
         return self.type == MessageType.METHOD_CALL and not self.flags & MessageFlag.NO_REPLY_EXPECTED
+
+    def to_json(self, number: int = 1, offset: int = 0, time: int | None = None) -> str:
+        """The message as a line of JSON, without a line feed: what `dbus-wire json` writes of it as
+        the message of this number, at this offset of its input, and captured at this time, in
+        nanoseconds since 1970 began in UTC, if that is known. Its manual page describes the line. No
+        two messages have one line. Raises BadValue of a number that is none of 64 bits.
+        """
+        data, limits, told = self.data, byref(limits_struct(None)), _library.Checked()
+        place = _library.LinePlace(uint64_of("number", number), uint64_of("offset", offset))
+        if time is not None:
+            place.time, place.has_time = uint64_of("time", time), 1
+        # Room for most lines; the last two bytes are a line feed and a 0.
+        count, answer = ctypes.c_uint64(2 * len(data) + 256), NO_ROOM
+        while answer == NO_ROOM:
+            out = ctypes.create_string_buffer(count.value + 1)
+            answer = library.dbus_wire_json(data, len(data), limits, byref(place), out, len(out), byref(count), byref(told))
+        return out.raw[: count.value - 1].decode("utf-8")
 
     def swapped(self, order: Order | str) -> Message:
         """The same message in the byte order, 'l' or 'B'. Raises BadValue of another."""

@@ -79,12 +79,21 @@ def float_of(value: object) -> float | None:
         return None
 
 
+def _uint_of(name: str, value: object, bits: int) -> int:
+    number = int_of(value)
+    if number is None or not 0 <= number < 1 << bits:
+        raise bad_value(name, f"an int from 0 to {(1 << bits) - 1}", value)
+    return number
+
+
 def uint32_of(name: str, value: object) -> int:
     """An argument of this name, which is to be a UINT32. Raises BadValue."""
-    number = int_of(value)
-    if number is None or not 0 <= number < 1 << 32:
-        raise bad_value(name, "an int from 0 to 4294967295", value)
-    return number
+    return _uint_of(name, value, 32)
+
+
+def uint64_of(name: str, value: object) -> int:
+    """An argument of this name, which is to be a UINT64. Raises BadValue."""
+    return _uint_of(name, value, 64)
 
 
 def bool_of(name: str, value: object) -> bool:

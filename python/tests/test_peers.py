@@ -11,6 +11,7 @@ import json
 import math
 import os
 import random
+import struct
 import subprocess
 import unittest
 import warnings
@@ -18,7 +19,7 @@ import warnings
 from inputs import FIELDS, SAMPLES, captures, changed_messages, whole_cases
 from random_values import BASIC, Values, parts_of
 
-from dbus_wire import BadValue, Message, MessageType, NotAMessage, Variant, byteswap, messages, spell_body
+from dbus_wire import BadValue, Message, MessageType, NotAMessage, Variant, build, byteswap, messages, spell_body
 
 # Their own warnings are not ours.
 with warnings.catch_warnings():
@@ -56,6 +57,13 @@ def json_of(value):
     return [json_of(part) for part in value] if isinstance(value, (list, tuple)) else value
 
 
+def pcap_of(captured):
+    """Messages, each with its time in nanoseconds, as a pcap file, of the link type of D-Bus."""
+    head = struct.pack("<IHHiIII", 0xA1B23C4D, 2, 4, 0, 0, 1 << 27, 231)
+    packets = ((*divmod(time, 10**9), bytes(message)) for message, time in captured)
+    return head + b"".join(struct.pack("<4I", seconds, rest, len(data), len(data)) + data for seconds, rest, data in packets)
+
+
 def line_of(number, offset, message):
     """The message as a line of `dbus-wire json` has it, without the header fields that have no
     name."""
@@ -71,6 +79,20 @@ def text_of(line):
     return json.dumps(line, sort_keys=True)
 
 
+class Lines(unittest.TestCase):
+    def test_each_line_has_the_values(self):
+        for name, data in captures().items():
+            for message in messages(data):
+                line = json.loads(message.to_json(7, 99))
+                del line["fields"]
+                self.assertEqual(text_of({"unix_fds": 0} | line), text_of(line_of(7, 99, message)), name)
+        self.assertNotIn("time", line)
+        # Each character takes six bytes of the line, which is more room than there is at first.
+        message = build(MessageType.SIGNAL, 1, "s", "\1" * 3000, path="/", interface="a.b", member="C")
+        self.assertEqual(json.loads(message.to_json())["body"], message.body)
+        self.assertEqual(json.loads(message.to_json(time=1_000_000_005))["time"], "1.000000005")
+
+
 class WithTheProgram(unittest.TestCase):
     @needs_program
     def test_each_value_is_that_of_json(self):
@@ -83,6 +105,29 @@ class WithTheProgram(unittest.TestCase):
                 del right["fields"]
                 self.assertEqual(text_of(line_of(number, offset, message)), text_of(right), name)
                 offset += len(message.data)
+
+    @needs_program
+    def test_each_line_is_that_of_json(self):
+        for name, data in captures().items():
+            offset, lines = 0, run("json", given=data).decode().split("\n")[:-1]
+            for number, (message, line) in enumerate(zip(messages(data), lines), 1):
+                self.assertEqual(message.to_json(number, offset), line, name)
+                offset += len(message.data)
+
+    @needs_program
+    def test_lines_of_packets_have_their_times(self):
+        found = list(messages(SAMPLES["session"]))
+        times = [0, 999_999_999, 1_764_381_228_123_456_789, *range(10**9, 10**9 + len(found) - 3)]
+        lines = run("json", given=pcap_of(zip(found, times))).decode().split("\n")[:-1]
+        for number, (message, time, line) in enumerate(zip(found, times, lines), 1):
+            self.assertEqual(message.to_json(number, json.loads(line)["offset"], time), line)
+        self.assertEqual(len(lines), len(found))
+
+    @needs_program
+    def test_lines_are_encoded_to_their_messages(self):
+        for name, data in captures().items():
+            lines = "".join(f"{message.to_json()}\n" for message in messages(data))
+            self.assertTrue(run("encode", given=lines.encode()) == data, name)
 
     @needs_program
     def test_changed_messages_have_the_fault_of_check(self):

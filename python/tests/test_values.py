@@ -132,6 +132,9 @@ class WrongValues(unittest.TestCase):
             ("anonymous", lambda: Server(GUID, anonymous="no")),
             ("reported", lambda: Client(reported="no")),
             ("guid", lambda: Server(0)),
+            ("number", lambda: call.to_json(-1)),
+            ("offset", lambda: call.to_json(1, 1 << 64)),
+            ("time", lambda: call.to_json(time=1.5)),
         ):
             self.assertEqual(self.refused(make).path, path)
         self.assertRaises(TypeError, build, MessageType.SIGNAL, 1, "u", 1, body=b"")

@@ -23,8 +23,13 @@
 //! * [`Message`] has the parts of a message, and allocates nothing. [`Values`] goes over the values
 //!   of its body, and [`Fields`] over its header fields; [`Message::flatten`] gives all values as
 //!   one row. They borrow the bytes, so no text is copied.
-//! * [`build`] makes a message of its [`Parts`], whose [`Body`] is spelled value by value;
-//!   [`rebuild`] changes one, and keeps its header fields in their places; [`reply_to`] replies.
+//! * [`Message::body_as`] reads a body as types of Rust, such as `(String, u32)`; [`Typed`] says
+//!   which these are. [`Message::reply`] and [`Parts::build`] make messages of values of such types,
+//!   and [`messages`] reads those of a file or a socket.
+//! * [`build`] makes a message of its [`Parts`], whose body is that of [`spell`], or a [`Body`] that
+//!   is spelled value by value; [`rebuild`] changes one, and keeps its header fields in their places;
+//!   [`reply_to`] replies.
+//! * [`Message::to_json`] writes a message as `dbus-wire json` does.
 //! * [`byteswap`] writes a message in the other byte order, and [`check_text`] checks names,
 //!   signatures and other texts.
 //! * A match [`Rule`], or a [`RuleSet`] of many, says which messages a program wants, and keeps who
@@ -57,6 +62,7 @@ mod checker;
 mod explain;
 mod fault;
 mod handshake;
+mod json;
 mod limits;
 mod line;
 mod message;
@@ -77,6 +83,7 @@ pub use checker::{Checker, OutOfMemory, Taken};
 pub use explain::{explain, whole_fields, Explanation, InputPlace, StatedText};
 pub use fault::{Fault, ParseError, Reason, RuleReason};
 pub use handshake::{Client, External, HandshakeError, Server, Status, Step};
+pub use json::LinePlace;
 pub use limits::{Descriptors, Limits};
 pub use line::{client_line, server_line, Command, Line, LineFault};
 pub use message::{Flags, Kind, Message, OwnedMessage};

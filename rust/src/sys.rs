@@ -223,6 +223,15 @@ pub struct dbus_wire_explained {
 
 #[repr(C)]
 #[derive(Clone, Copy, Debug, Default)]
+pub struct dbus_wire_line_place {
+    pub number: u64,
+    pub offset: u64,
+    pub time: u64,
+    pub has_time: u64,
+}
+
+#[repr(C)]
+#[derive(Clone, Copy, Debug, Default)]
 pub struct dbus_wire_writer {
     pub length: u64,
     pub order: u32,
@@ -333,6 +342,7 @@ const _: () = assert!(size_of::<dbus_wire_draft>() == 208);
 const _: () = assert!(size_of::<dbus_wire_flat_item>() == 32);
 const _: () = assert!(size_of::<dbus_wire_input_place>() == 16);
 const _: () = assert!(size_of::<dbus_wire_explained>() == 104);
+const _: () = assert!(size_of::<dbus_wire_line_place>() == 32);
 const _: () = assert!(size_of::<dbus_wire_writer>() == 16);
 const _: () = assert!(size_of::<dbus_wire_array>() == 16);
 const _: () = assert!(size_of::<dbus_wire_text_checked>() == 16);
@@ -406,6 +416,16 @@ extern "C" {
         out: *mut u8,
         room: usize,
         explained: *mut dbus_wire_explained,
+        told: *mut dbus_wire_checked,
+    ) -> u32;
+    pub fn dbus_wire_json(
+        bytes: *const u8,
+        length: usize,
+        limits: *const dbus_wire_limits,
+        place: *const dbus_wire_line_place,
+        out: *mut u8,
+        room: usize,
+        count: *mut u64,
         told: *mut dbus_wire_checked,
     ) -> u32;
     pub fn dbus_wire_wanted(bytes: *const u8, length: usize, limits: *const dbus_wire_limits) -> u64;

@@ -5,7 +5,7 @@ use std::thread;
 
 use dbus_wire::{
     build, byteswap, check, check_text, client_line, explain, reply_to, server_line, wanted, Answer, BuildError, Checker, Client,
-    Command, Descriptors, External, Fault, HandshakeError, InputPlace, Kind, Limits, Line, LineFault, Message, NotPassed, Order,
+    Command, Descriptors, External, Fault, HandshakeError, InputPlace, Kind, Limits, Line, LineFault, LinePlace, Message, NotPassed, Order,
     OwnerError, ParseError, Parts, Passage, Reason, Rule, RuleError, RuleReason, RuleSet, Server, SharedRules, StatedText,
     Status, SwapError, Taken, TextFault, TextKind, Value, Values, Watch,
 };
@@ -328,6 +328,18 @@ fn what_is_built_of_parts_has_them() {
             assert_eq!(format!("{:?}", built.body()), format!("{:?}", message.body()));
         }
     }
+}
+
+#[test]
+fn a_line_of_json_is_whole() {
+    // Each character takes six bytes of the line, which is more room than there is at first.
+    let text = "\u{1}".repeat(3000);
+    let signal = Parts { path: Some("/"), interface: Some("a.b"), member: Some("C"), ..Parts::new(Kind::Signal, 1) };
+    let bytes = signal.build((&text, 0.5)).unwrap();
+    let line = Message::parse(&bytes).unwrap().to_json(LinePlace { number: 7, offset: 99, time: Some(1_000_000_005) });
+    let start = r#"{"number":7,"offset":99,"time":"1.000000005","length":"#;
+    let end = format!(r#","fields":[],"body":["{}",0.5]}}"#, r"\u0001".repeat(3000));
+    assert!(line.starts_with(start) && line.ends_with(&end));
 }
 
 #[test]

@@ -1,5 +1,5 @@
 -- What a call that explains a fault answers, and leaves in the caller's bytes.
-use Rattle.std.proofs.Common.{nat_eq, map, ◌≡◌, ◌⊎◌, ⊎_elim, inl, inr, ◌<◌, ℕ, ◌+◌, List, [], ◌∷◌, ◌++◌, length, take, drop, Bool, true, false, if◌then◌else◌, ◌≤◌, refl, ap, sym, subst, ◌∙◌, arith, length-append}
+use Rattle.std.proofs.Common.{nat_eq, map, ◌≡◌, ◌⊎◌, ⊎_elim, inl, inr, ℕ, List, [], ◌++◌, length, if◌then◌else◌, refl, ap, sym, subst, ◌∙◌}
 use Rattle.std.proofs.lemmas.Bool.{cases_lt}
 use Rattle.std.proofs.Math.Seq.{drop-nil, take-nil}
 use Rattle.dbus_value_model.specs.Values.{value_trees}
@@ -7,10 +7,6 @@ use Rattle.dbus_value_model.specs.declared.order.Order.{Order}
 use Rattle.dbus_message_model.specs.Messages.{field_struct}
 use Rattle.dbus_flatten.specs.Flattening.{AreFlat, flats, over}
 use Rattle.dbus_flatten.specs.declared.flat_item.FlatItem.{FlatItem}
-use Rattle.dbus_room.proofs.Ending.{all, filled}
-use Rattle.dbus_room.specs.RoomLaws.{joins}
-use Rattle.dbus_room.specs.Rooms.{Begins, Gains}
-use Rattle.dbus_room.specs.declared.room.Room.{Room}
 use Rattle.dbus_explain.specs.declared.message.Refused.{Refused}
 use Rattle.dbus_c.specs.Explaining.{IsExplainedIn, checked_answer}
 use Rattle.dbus_c.specs.Outcomes.{IsTold}
@@ -23,39 +19,13 @@ told_checked answer e = ap (λ (k : ℕ). if nat_eq k 0 then 2 else if nat_eq an
 -- a fault that is explained is one that a check tells
 module _ (refused : Refused) (old new : List ℕ) (told : Explained) (answer : ℕ) (is : IsExplainedIn refused old new told answer) where
   one_of : (answer ≡ 0) ⊎ (answer ≡ 4)
-  one_of = ⊎_elim (λ h. inl (is.whole h)) (λ h. inr (is.cut h)) (cases_lt (length is.text) (length old))
+  one_of = ⊎_elim (λ h. inl (is.written.whole h)) (λ h. inr (is.written.cut h)) (cases_lt (length is.text) (length old))
 
   pub explained_checked : checked_answer answer ≡ 2
   explained_checked = ⊎_elim (λ (e : answer ≡ 0). ap checked_answer e) (λ (e : answer ≡ 4). ap checked_answer e) one_of
 
   pub explained_told : IsTold answer
   explained_told = ⊎_elim (λ (e : answer ≡ 0). subst IsTold (sym e) refl) (λ (e : answer ≡ 4). subst IsTold (sym e) refl) one_of
-
-not_false : (b : Bool) → (b ≡ false → ⊥) → b ≡ true
-not_false true h = refl
-not_false false h = absurd (h refl)
-
--- a text and a 0 behind it are written
-module _ (old text : List ℕ) (a b c : Room) (begins : Begins old a) (gains : Gains a text b) (zero_behind : Gains b (0 ∷ []) c) where
-  with_zero : Gains a (text ++ 0 ∷ []) c
-  with_zero = joins a b c text (0 ∷ []) gains zero_behind
-
-  long : length (text ++ 0 ∷ []) ≡ length text + 1
-  long = length-append text (0 ∷ [])
-
-  pub written : c.bytes.now ≡ take (length old) (text ++ 0 ∷ []) ++ drop (length text + 1) old
-  written = filled old (text ++ 0 ∷ []) a c begins with_zero ∙ ap (λ (n : ℕ). take (length old) (text ++ 0 ∷ []) ++ drop n old) long
-
-  fits : c.is_cut ≡ false → length text < length old
-  fits e = omega (arith, (all old (text ++ 0 ∷ []) a c begins with_zero).0 e, long)
-
-  -- what is answered says whether there is room for both
-  module _ (answer : ℕ) (is : answer ≡ (if c.is_cut then 4 else 0)) where
-    pub is_whole : length text < length old → answer ≡ 0
-    is_whole h = is ∙ ap (λ (b : Bool). if b then 4 else 0) ((all old (text ++ 0 ∷ []) a c begins with_zero).1 (omega (arith, h, long)))
-
-    pub is_short : length old ≤ length text → answer ≡ 4
-    is_short h = is ∙ ap (λ (b : Bool). if b then 4 else 0) (not_false c.is_cut (λ e. absurd (omega (arith, fits e, h))))
 
 -- no header field has an item
 pub no_items : (order : Order) (first : ℕ) (items : List FlatItem) → AreFlat order 16 (value_trees (map field_struct [])) first items items 0

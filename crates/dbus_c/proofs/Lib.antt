@@ -8,3 +8,4 @@ mod Built
 mod Rebuilt
 pub mod WatchTelling
 mod FaultsTold
+mod Filled

@@ -1,6 +1,6 @@
 -- Why bytes are refused, as it is explained for a reader.
 -- D-Bus Specification, "Message Protocol".
-use Rattle.std.specs.Prelude.{◌≡◌, ℕ, ◌+◌, ◌-◌, ◌<◌, ◌≤◌, List, [], ◌∷◌, ◌++◌, length, take, drop, map, min, nat_eq, if◌then◌else◌, Option, None, Some}
+use Rattle.std.specs.Prelude.{◌≡◌, ℕ, ◌-◌, ◌<◌, ◌≤◌, List, [], map, min, nat_eq, if◌then◌else◌, Option, None, Some}
 use Rattle.dbus_value_model.specs.declared.limits.Limits.{Limits}
 use Rattle.dbus_value_model.specs.Values.{value_trees}
 use Rattle.dbus_value_model.specs.declared.fault.Fault.{Fault}
@@ -17,7 +17,8 @@ use Rattle.dbus_explain.specs.declared.message.Refused.{Refused}
 use Rattle.dbus_explain.specs.declared.search.StatedText.{StatedText}
 use Rattle.dbus_c.specs.Outcomes.{with_room}
 use Rattle.dbus_c.specs.Parting.{no_place}
-use Rattle.dbus_c.specs.declared.answers.TheConstants.{WHOLE, REFUSED, NO_ROOM, NO_VALUE}
+use Rattle.dbus_c.specs.Written.{IsWritten}
+use Rattle.dbus_c.specs.declared.answers.TheConstants.{WHOLE, REFUSED, NO_VALUE}
 use Rattle.dbus_c.specs.declared.explaining.Explained.{Explained}
 use Rattle.dbus_c.specs.declared.explaining.InputPlace.{InputPlace}
 use Rattle.dbus_c.specs.declared.parts.TextPlace.{TextPlace}
@@ -69,14 +70,11 @@ explained_told parts = record {
   text = text_told parts.text;
 }
 
--- The first bytes are a text that explains the fault, and a 0, or as much of this as there is room
--- for, and the others stay. It is told where its parts are, and whether there is room for all.
+-- A text is written that explains the fault, and it is told where its parts are.
 pub record IsExplainedIn (refused : Refused) (old new : List ℕ) (explained : Explained) (answer : ℕ) : Type 0 where
   pub text : List ℕ
   pub is : IsExplained refused text
   pub parts : Explanation
   pub are_parts : ArePartsOf is parts
   pub told : explained ≡ explained_told parts
-  pub written : new ≡ take (length old) (text ++ 0 ∷ []) ++ drop (length text + 1) old
-  pub whole : length text < length old → answer ≡ WHOLE
-  pub cut : length old ≤ length text → answer ≡ NO_ROOM
+  pub written : IsWritten text old new answer

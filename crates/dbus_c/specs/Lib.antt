@@ -10,3 +10,5 @@ pub mod Watching
 pub mod Building
 pub mod Writers
 pub mod Explaining
+pub mod JsonLines
+pub mod Written

@@ -9,14 +9,14 @@ ghost use Rattle.dbus_c.specs.GivenLimits.{limits_of};
 ghost use Rattle.dbus_c.specs.Outcomes.{IsTold};
 ghost use Rattle.dbus_explain.specs.declared.message.Refused.{Refused as RefusedBytes};
 
-use crate::answers::{NO_ROOM, NO_VALUE, PARTIAL, WHOLE};
+use crate::answers::{NO_VALUE, PARTIAL};
 use crate::checking::{Checked, check_all};
 use crate::given_limits::{WireLimits, given_limits};
 use crate::parts::{TextPlace, no_place};
+use crate::written::end_text;
 use dbus_check::Check;
 use dbus_explain::{Explanation, LinesPart, Refused, StatedText, explain_message};
 use dbus_room::Room;
-use dbus_show::Draft;
 
 /// Which message of its input bytes begin with.
 #[repr(C)]
@@ -50,7 +50,7 @@ pub struct Explained {
 /// after it, as much of this as it has room for: the lines that `dbus-wire check --explain` writes
 /// of a message at this place of its input. Writes to `explained` where their parts are.
 ///
-/// [`WHOLE`] if there is room for the lines and the 0, and [`NO_ROOM`] if there is not. If the
+/// [`crate::WHOLE`] if there is room for the lines and the 0, and [`crate::NO_ROOM`] if there is not. If the
 /// bytes begin with a message, [`NO_VALUE`], and [`PARTIAL`] if they show no fault yet; then `out`
 /// and `explained` stay as they are. `told` has what [`crate::dbus_wire_check`] reports.
 ///
@@ -93,9 +93,8 @@ fn write_explained(refused: &Refused, out: &mut [u8], explained: &mut Explained)
 {
     let mut room = Room::new(out);
     let parts = explain_message(&mut room, refused);
-    room.push_str("\0");
     *explained = explained_told(parts);
-    if room.is_cut { NO_ROOM } else { WHOLE }
+    end_text(&mut room)
 }
 
 // Where the parts of an explanation are, in numbers.

@@ -5,8 +5,10 @@
 //! [`dbus_wire_parts_of`] gives a message's parts, and [`dbus_wire_swap`] byteswaps.
 //! [`dbus_wire_flatten`] gives all values of its body as one row of items,
 //! [`dbus_wire_flatten_fields`] those of its header fields, and [`dbus_wire_read`] its parts and
-//! its body's values by one validation. [`dbus_wire_explain`] explains for a reader why bytes are
-//! refused, and [`dbus_wire_flatten_whole_fields`] gives the header fields before the fault. [`dbus_wire_checker_new`] makes a checker that takes one
+//! its body's values by one validation; [`dbus_wire_json`] writes it as a line of JSON.
+//! [`dbus_wire_explain`] explains for a reader why bytes are refused, and
+//! [`dbus_wire_flatten_whole_fields`] gives the header fields before the fault.
+//! [`dbus_wire_checker_new`] makes a checker that takes one
 //! piece after another, and [`dbus_wire_rules_add`] keeps match rules,
 //! [`dbus_wire_rules_owner`] the owners of names that their senders may be;
 //! [`dbus_wire_server_new`] and [`dbus_wire_client_new`] make an end of a handshake;
@@ -29,6 +31,7 @@ mod flattening;
 mod given_limits;
 mod handshake_lines;
 mod handshakes;
+mod json_lines;
 pub mod line_command;
 mod names;
 mod parts;
@@ -43,6 +46,7 @@ mod wanted;
 mod watching;
 mod whole_fields;
 mod writers;
+mod written;
 
 pub use answers::{
     NO_CHECKER, NO_HANDSHAKE, NO_KIND, NO_MEMORY, NO_ROOM, NO_RULE, NO_VALUE, PARTIAL, REFUSED,
@@ -63,6 +67,7 @@ pub use handshakes::{
     HandshakeStep, dbus_wire_client_new, dbus_wire_handshake_agreed, dbus_wire_handshake_free,
     dbus_wire_handshake_guid, dbus_wire_handshake_take, dbus_wire_server_new,
 };
+pub use json_lines::{WireLinePlace, dbus_wire_json};
 pub use names::{dbus_wire_reason_name, names_are_texts};
 pub use parts::{TextPlace, WireParts, dbus_wire_parts_of};
 pub use reading::dbus_wire_read;

@@ -3,7 +3,7 @@ use Rattle.std.proofs.Common.{◌≡◌, ℕ, ◌+◌, List, ◌++◌, Option, N
 use Rattle.dbus_show.specs.ShownMessages.{line_feeds}
 use Rattle.dbus_show.specs.Escapes.{escaped}
 use Rattle.dbus_show.specs.declared.escapes.Escapes.TheVariants.{Line}
-use Rattle.dbus_explain.specs.Counting.{counted}
+use Rattle.dbus_room.specs.Counting.{counted}
 use Rattle.dbus_explain.specs.Explained.{ArePartsOf, IsExplained, IsPartIf, before_name, before_rule, place_in, place_line, window}
 use Rattle.dbus_explain.specs.Heads.{IsHead, IsHeadPart, head_part, head_shown}
 use Rattle.dbus_explain.specs.Looks.{look_text}

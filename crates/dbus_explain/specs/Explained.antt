@@ -7,7 +7,7 @@ use Rattle.dbus_value_model.specs.declared.fault.Fault.{Fault}
 use Rattle.dbus_show.specs.Escapes.{escaped, visible}
 use Rattle.dbus_show.specs.ShownValues.{quoted}
 use Rattle.dbus_show.specs.declared.escapes.Escapes.TheVariants.{Shown}
-use Rattle.dbus_explain.specs.Counting.{counted}
+use Rattle.dbus_room.specs.Counting.{counted}
 use Rattle.dbus_explain.specs.Heads.{IsHead, head_lines, head_part, head_shown}
 use Rattle.dbus_explain.specs.Looks.{look_text}
 use Rattle.dbus_explain.specs.Names.{IsNameOf, text_part}

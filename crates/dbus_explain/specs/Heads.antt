@@ -12,7 +12,7 @@ use Rattle.dbus_message_model.specs.Messages.{FieldTree, field_struct, field_typ
 use Rattle.dbus_show.specs.Escapes.{escaped}
 use Rattle.dbus_show.specs.ShownMessages.{field_text, front_text, start_text}
 use Rattle.dbus_show.specs.declared.escapes.Escapes.TheVariants.{Line}
-use Rattle.dbus_explain.specs.Counting.{counted}
+use Rattle.dbus_room.specs.Counting.{counted}
 use Rattle.dbus_explain.specs.Places.{IsIn, fields_end, order_of}
 use Rattle.dbus_explain.specs.declared.head.FirstPart.{FirstPart}
 use Rattle.dbus_explain.specs.declared.explanation.LinesPart.{LinesPart}

@@ -5,8 +5,6 @@ pub mod Rules
 pub mod Looks
 pub mod Blanking
 pub mod BlankingLaws
-pub mod Counting
-pub mod CountingLaws
 pub mod Escaping
 pub mod EscapingLaws
 pub mod Heads

@@ -10,7 +10,6 @@
 #![tactic(auto)]
 
 mod blanks;
-mod counted;
 mod escaping;
 mod explanation;
 mod head;

@@ -2,12 +2,11 @@
 #![tactic(auto)]
 
 ghost use Rattle.std.specs.Prelude.{◌≡◌, ◌≤◌, ◌+◌, ◌++◌, ℕ, List, length};
-ghost use Rattle.dbus_explain.specs.Counting.{Counts, counted};
+ghost use Rattle.dbus_room.specs.Counting.{Counts, counted};
 ghost use Rattle.dbus_explain.specs.Explained.{ArePartsOf, IsExplained, before_name, place_in};
 ghost use Rattle.dbus_explain.specs.Explained.{place_line};
 ghost use Rattle.dbus_explain.specs.Names.{IsNameOf, text_part};
 
-use crate::counted::Counted;
 use crate::explanation::{Explanation, LinesPart};
 use crate::head::write_head;
 use crate::looks::look_in;
@@ -15,6 +14,7 @@ use crate::places::{write_name, write_text_part};
 use crate::reasons::rule_of;
 use crate::search::StatedText;
 use crate::window::write_window;
+use dbus_room::Counted;
 use dbus_show::{Draft, write_integer};
 use dbus_value_model::Fault;
 

@@ -1,2 +1,4 @@
 pub mod Rooms
 pub mod RoomLaws
+pub mod Counting
+pub mod CountingLaws

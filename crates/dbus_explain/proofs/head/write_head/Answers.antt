@@ -1,7 +1,7 @@
 use Rattle.std.proofs.Common.{None, Some, arith}
 use Rattle.dbus_show.proofs.FieldTexts.{then}
-use Rattle.dbus_explain.specs.Counting.{Counts}
-use Rattle.dbus_explain.specs.CountingLaws as laws
+use Rattle.dbus_room.specs.Counting.{Counts}
+use Rattle.dbus_room.specs.CountingLaws as laws
 use Rattle.dbus_explain.specs.Heads.{none}
 use Rattle.dbus_explain.proofs.head.write_head.Goals as goal
 

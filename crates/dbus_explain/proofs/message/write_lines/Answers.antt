@@ -1,7 +1,7 @@
 use Rattle.std.proofs.Common.{◌≡◌, ℕ, List, arith, refl, subst}
 use Rattle.dbus_show.proofs.FieldTexts.{then}
-use Rattle.dbus_explain.specs.Counting.{Counts}
-use Rattle.dbus_explain.specs.CountingLaws as laws
+use Rattle.dbus_room.specs.Counting.{Counts}
+use Rattle.dbus_room.specs.CountingLaws as laws
 use Rattle.dbus_explain.specs.Rules.{rule_text}
 use Rattle.dbus_explain.specs.declared.explanation.Explanation.{Explanation}
 use Rattle.dbus_show.specs.ShownMessages.{line_feeds}

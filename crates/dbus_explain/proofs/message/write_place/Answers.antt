@@ -1,7 +1,7 @@
 use Rattle.std.proofs.Common.{arith}
 use Rattle.dbus_show.proofs.FieldTexts.{then}
-use Rattle.dbus_explain.specs.Counting.{Counts}
-use Rattle.dbus_explain.specs.CountingLaws as laws
+use Rattle.dbus_room.specs.Counting.{Counts}
+use Rattle.dbus_room.specs.CountingLaws as laws
 use Rattle.dbus_explain.proofs.message.write_place.Goals as goal
 
 pub returns : goal.returns

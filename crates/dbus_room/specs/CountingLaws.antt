@@ -1,7 +1,7 @@
 -- The proofs of the laws that a `Draft` owes, of one that counts.
 use Rattle.std.proofs.Common.{ℕ, List, [], ◌++◌, refl, ◌∙◌, arith, length-append}
-use Rattle.dbus_explain.specs.Counting.{Counts}
-use Rattle.dbus_explain.specs.declared.counted.Counted.{Counted}
+use Rattle.dbus_room.specs.Counting.{Counts}
+use Rattle.dbus_room.specs.declared.counted.Counted.{Counted}
 
 module _ {D : Type 0} (gains : D → List ℕ → D → Type 0) where
   pub nothing : ((a : D) → gains a [] a) → (a : Counted D) → Counts gains a [] a

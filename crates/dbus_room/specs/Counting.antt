@@ -1,6 +1,6 @@
 -- A draft that counts.
 use Rattle.std.specs.Prelude.{◌≡◌, ℕ, ◌+◌, ◌-◌, ◌^◌, List, length, min}
-use Rattle.dbus_explain.specs.declared.counted.Counted.{Counted}
+use Rattle.dbus_room.specs.declared.counted.Counted.{Counted}
 
 -- a number of bytes; or the greatest number of 64 bits, if it is over that
 abbrev pub counted : ℕ → ℕ

@@ -1,0 +1,64 @@
+//! A message as a line of JSON.
+
+use crate::{sys, Limits, Message};
+
+/// What a line of JSON says of where its message stands. It is written as it is given.
+///
+/// The default is that of the first message of an input, at no known time.
+#[derive(Clone, Copy, Debug, PartialEq, Eq, Hash)]
+pub struct LinePlace {
+    /// The number of the message, counted from 1.
+    pub number: u64,
+    /// Where it begins, in bytes from the start of the input.
+    pub offset: u64,
+    /// When it was captured, in nanoseconds since 1970 began in UTC, if that is known.
+    pub time: Option<u64>,
+}
+
+impl Default for LinePlace {
+    fn default() -> Self {
+        Self { number: 1, offset: 0, time: None }
+    }
+}
+
+impl Message<'_> {
+    /// The message as a line of JSON, without a line feed: what `dbus-wire json` writes of it at
+    /// this place, which its manual page describes. No two messages have one line.
+    ///
+    /// ```
+    /// use dbus_wire::{Kind, LinePlace, Message, Parts};
+    ///
+    /// # let signal = Parts { path: Some("/"), interface: Some("a.b"), member: Some("C"), ..Parts::new(Kind::Signal, 1) };
+    /// let bytes = signal.build(("x", 1u32))?;
+    /// let line = Message::parse(&bytes)?.to_json(LinePlace::default());
+    /// assert!(line.ends_with(r#""member":"C","signature":"su","fields":[],"body":["x",1]}"#));
+    /// # Ok::<(), Box<dyn std::error::Error>>(())
+    /// ```
+    pub fn to_json(&self, place: LinePlace) -> String {
+        let bytes = self.bytes();
+        let raw = sys::dbus_wire_line_place {
+            number: place.number,
+            offset: place.offset,
+            time: place.time.unwrap_or(0),
+            has_time: place.time.is_some().into(),
+        };
+        let (limits, mut told, mut count) = (Limits::default().raw(), Default::default(), 0);
+        // Room for most lines.
+        let mut line = vec![0; bytes.len() * 2 + 256];
+        loop {
+            let (out, room) = (line.as_mut_ptr(), line.len());
+            // SAFETY: slices and references, as `sys` says.
+            let answer =
+                unsafe { sys::dbus_wire_json(bytes.as_ptr(), bytes.len(), &limits, &raw, out, room, &mut count, &mut told) };
+            // The line, without its line feed; or room for both and for the 0 behind them.
+            let is_whole = answer != sys::DBUS_WIRE_NO_ROOM;
+            line.resize(if is_whole { count as usize - 1 } else { count as usize + 1 }, 0);
+            if is_whole {
+                break;
+            }
+        }
+        debug_assert!(std::str::from_utf8(&line).is_ok());
+        // SAFETY: a line of JSON is UTF-8.
+        unsafe { String::from_utf8_unchecked(line) }
+    }
+}
