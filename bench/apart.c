@@ -25,10 +25,15 @@ static uint32_t read_all(const uint8_t *at, size_t length) {
     return dbus_wire_read(at, length, NULL, &parts, items, ROOM, &count, &told);
 }
 
+static uint32_t json(const uint8_t *at, size_t length) {
+    static uint8_t line[4 * MOST];
+    return dbus_wire_json(at, length, NULL, NULL, line, sizeof line, &count, &told);
+}
+
 static const struct {
     const char *name;
     uint32_t (*call)(const uint8_t *, size_t);
-} CALLS[] = {{"check", check}, {"parts_of", parts_of}, {"flatten", flatten}, {"read", read_all}};
+} CALLS[] = {{"check", check}, {"parts_of", parts_of}, {"flatten", flatten}, {"read", read_all}, {"json", json}};
 
 /* Whether each message is whole, up to the end. */
 __attribute__((noinline)) int measured(uint32_t (*call)(const uint8_t *, size_t), size_t length) {

@@ -1,5 +1,5 @@
 #!/usr/bin/env bash
-# bench/apart.sh ARCHIVE: instructions per byte of the calls of the library for C that take messages apart, as valgrind counts them, over
+# bench/apart.sh ARCHIVE: instructions per byte of the calls of the library for C that take messages apart or write them as JSON, as valgrind counts them, over
 # a sample capture and shapes of bench/shapes.py; and for how many of dbus_wire_check each stands.
 set -euo pipefail
 archive=$1 here=$(cd "$(dirname "$0")" && pwd)
@@ -15,7 +15,7 @@ count() {
         sed -n 's/.*Collected : //p'
 }
 
-calls=(check parts_of flatten read)
+calls=(check parts_of flatten read json)
 printf '%-14s' stream
 printf '%16s' "${calls[@]}"
 echo
