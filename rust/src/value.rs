@@ -359,9 +359,7 @@ impl<'a> Fields<'a> {
         let (answer, items) = items_written(|to, count| {
             let (items, room) = (to.as_mut_ptr(), to.len());
             // SAFETY: slices and references, as `sys` says.
-            unsafe {
-                sys::dbus_wire_flatten_whole_fields(bytes.as_ptr(), bytes.len(), &limits, 0, items, room, count, &mut told)
-            }
+            unsafe { sys::dbus_wire_flatten_whole_fields(bytes.as_ptr(), bytes.len(), &limits, 0, items, room, count, &mut told) }
         });
         let left = Left::Elements(0..items.len());
         let row = Row { bytes, items: items.into() };

@@ -5,9 +5,9 @@ use std::thread;
 
 use dbus_wire::{
     build, byteswap, check, check_text, client_line, explain, reply_to, server_line, wanted, Answer, BuildError, Checker, Client,
-    Command, Descriptors, External, Fault, HandshakeError, InputPlace, Kind, Limits, Line, LineFault, LinePlace, Message, NotPassed, Order,
-    OwnerError, ParseError, Parts, Passage, Reason, Rule, RuleError, RuleReason, RuleSet, Server, SharedRules, StatedText,
-    Status, SwapError, Taken, TextFault, TextKind, Value, Values, Watch,
+    Command, Descriptors, External, Fault, HandshakeError, InputPlace, Kind, Limits, Line, LineFault, LinePlace, Message,
+    NotPassed, Order, OwnerError, ParseError, Parts, Passage, Reason, Rule, RuleError, RuleReason, RuleSet, Server, SharedRules,
+    StatedText, Status, SwapError, Taken, TextFault, TextKind, Value, Values, Watch,
 };
 
 const CAPTURES: [&[u8]; 2] = [include_bytes!("data/session.dbus"), include_bytes!("data/big-endian.dbus")];
