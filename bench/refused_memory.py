@@ -6,7 +6,8 @@ must end with status 3 and the line `out of memory`, and what it writes before t
 if a run ended in another way, or if more runs than are named below ended as if nothing had been refused.
 
 Those that do are of allocations that the kit's libraries do without: one in each run, room that is asked for ahead when the words of
-the command line are collected; and if an option is wrong, those of the search for a similar one, after which none is proposed.
+the command line are collected; room for sorting a table; and if an option is wrong, those of the search for a similar one, after which none is
+proposed.
 """
 
 import os
@@ -28,6 +29,7 @@ COMMAND_LINES = (
     (("check", "--max-array", "100", "--explain"), 1),
     (("check", "--max-array", "100", "--keep-going"), 1),
     (("check", "--max-array", "100", "--keep-going", "--json"), 1),
+    (("check", "--max-array", "100", "--resync"), 1),
     (("check", "--handshake", "client"), 1),
     (("filter", "type='nothing'"), 1),
     (("filter", "arg64='x'"), 1),
@@ -35,6 +37,9 @@ COMMAND_LINES = (
     (("filter", "", "--owner=org.a.B"), 1),
     (("filter", "sender=':1.3'", "sender=':1.4'", "--learn-owners"), 1),
     (("filter", "sender='org.a.B'", "--explain"), 1),
+    (("calls",), 1),
+    (("calls", "--members"), 2),
+    (("calls", "--json"), 1),
     (("count",), 11),
     (("count", "--json"), 11),
     (("count", "--max-array", "100", "--explain"), 1),
@@ -42,7 +47,7 @@ COMMAND_LINES = (
     (("handshake", "--side", "client"), 1),
     (("swap",), 1),
     (("swap", "--to", "M"), 1),
-    (("show", "--depth"), 43),
+    (("show", "--depth"), 67),
     (("help", "filter"), 1),
     (("--version",), 1),
     ((), 1),
