@@ -1,6 +1,7 @@
 #!/usr/bin/env python3
 """manual.py: prints the manual page dbus_wire(3), which it makes of include/dbus_wire.h: what all calls have in common, each call, each struct and
-each list of numbers, with their comments. manual.py --calls prints the names of the calls, a line each.
+each list of numbers, with their comments. manual.py --calls prints the names of the calls, also of those that are inline, a line each. The page has the
+date of dbus-wire(1).
 
 It ends with an error if the page would lack a call that the header declares.
 """
@@ -9,14 +10,15 @@ import pathlib
 import re
 import sys
 
-HEADER = pathlib.Path(__file__).resolve().parent.parent / "include/dbus_wire.h"
+ROOT = pathlib.Path(__file__).resolve().parent.parent
+HEADER, PROGRAM_PAGE = ROOT / "include/dbus_wire.h", ROOT / "man/dbus-wire.1"
 # A comment that begins a line, and the code up to the next empty line, if there is any.
 BLOCK = re.compile(r"^/\* ((?:.|\n)*?) ?\*/\n((?:.+\n)*)", re.M)
 ATTRIBUTES = re.compile(r"DBUS_WIRE_(?:ANSWERS|NOT_NULL\(\(.*?\)\))\s*")
 DECLARED = re.compile(r"^(?:DBUS_WIRE_\w+ ?(?:\(\(.*\)\) )?)*(?:void|\w+_t) (dbus_wire_\w+)\([^;{]*\);", re.M)
-# Of a comment an item of a list: what a call returns, or after a hyphen.
 # A function that is inline: its declaration, its name and its code.
 INLINE = re.compile(r"^static inline ([\w ]+?[ *]+(dbus_wire_\w+)\([^;{]*\)) \{\n(?:.*\n)*?\}\n", re.M)
+# Of a comment an item of a list: what a call returns, or after a hyphen.
 ITEM = re.compile(r"  (- |DBUS_WIRE_\w+)(.*)")
 SUMMARY = "check, take apart, build, byteswap and match D-Bus messages"
 
@@ -75,11 +77,25 @@ def sections(blocks):
     return [("CALLS", calls), ("STRUCTURES", structs), ("NUMBERS", numbers)]
 
 
+def date():
+    """The date of dbus-wire(1)."""
+    return re.match(r'\.TH \S+ 1 "(.*?)"', PROGRAM_PAGE.read_text(encoding="utf-8"))[1]
+
+
+def without_empty(lines):
+    """The lines without a paragraph that a head begins anyway."""
+    before = ""
+    for line in lines:
+        if not (line == ".PP" and before.startswith((".SH ", ".SS "))):
+            yield line
+        before = line
+
+
 def page(header, calls):
     """The lines of the page."""
     version = ".".join(re.findall(r"define DBUS_WIRE_VERSION_(?:MAJOR|MINOR|PATCH) (\d+)", header))
-    (intro, _), *blocks = BLOCK.findall(header.split("/* From here on each name")[0])
-    yield f'.TH DBUS_WIRE 3 "" "dbus-wire {version}" "Library Calls"'
+    (intro, _), *blocks = BLOCK.findall(header)
+    yield f'.TH DBUS_WIRE 3 "{date()}" "dbus-wire {version}" "Library Calls"'
     yield from [".SH NAME", f"{', '.join(['dbus_wire', *calls])} \\- {SUMMARY}"]
     yield from [".SH SYNOPSIS", ".nf", ".B #include <dbus_wire.h>", ".PP", "Link with \\fB\\-ldbus_wire\\fP.", ".fi"]
     yield from [".SH DESCRIPTION", *paragraphs(intro.replace("dbus_wire.h: checks", "The library checks", 1))]
@@ -93,12 +109,13 @@ def page(header, calls):
 
 
 def main(*words):
-    header = HEADER.read_text(encoding="utf-8")
-    calls = DECLARED.findall(header)
+    # What follows are inline functions that take the place of calls, by their names.
+    header = HEADER.read_text(encoding="utf-8").split("/* From here on each name")[0]
+    calls = names_in(header)
     if words == ("--calls",):
         print(*calls, sep="\n")
         return 0
-    lines = [*page(header, calls)]
+    lines = [*without_empty(page(header, calls))]
     heads = {name for line in lines if line.startswith(".SS ") for name in line[4:].split(", ")}
     if missing := [it for it in calls if it not in heads]:
         print(f"the page has no {', '.join(missing)}", file=sys.stderr)
