@@ -65,9 +65,9 @@ CASES_IN_A_ROW = 6
 
 
 def first_sentence(doc):
-    """The first sentence of a doc comment, its links as plain names."""
+    """The first sentence of a doc comment, its links as plain text."""
     text = " ".join(doc).split("  ")[0]
-    text = re.sub(r"\[(`[^`]*`)\](\([^)]*\))?", r"\1", text)
+    text = re.sub(r"\[(`[^`]*`|[^]]*(?=\]\())\](\([^)]*\))?", r"\1", text)
     return re.match(r"(.*?\.)(?: |$)|(.*)", text)[0].strip().replace("|", "\\|")
 
 
