@@ -60,7 +60,7 @@ done
 must "dbus-wire $(pkg-config --modversion dbus-wire)" dbus-wire --version
 dbus-wire json < one | grep -q '"a b"'
 must "PropertiesChanged" /usr/bin/python3 -c 'import dbus_wire; print(next(dbus_wire.messages(open("one", "rb").read())).member)'
-for page in dbus-wire.1 dbus_wire.3 dbus_wire_check.3; do
+for page in dbus-wire.1 dbus_wire.3 dbus_wire_check.3 dbus_wire_reason_text.3; do
     MANPATH=$root/usr/share/man man --warnings "${page#*.}" "${page%.*}" 2> said > page
     test -s page && test ! -s said
 done
