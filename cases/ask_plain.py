@@ -6,7 +6,7 @@ import re
 from handshakes import meaning_of
 from questions import Question, hexed, words_of
 from read_cases import read_bytes
-from rewritten import MESSAGES, ORDERS, VALUES, order_of, rewritten_of
+from rewritten import MESSAGES, VALUES, order_of, rewritten_of
 from run import UNKNOWN
 from streams import stated_length
 
