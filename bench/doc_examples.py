@@ -3,7 +3,8 @@
 
 An example is a block of a doc comment, fenced by ```rust and ```. It is the body of a function that has the allocator `alloc`, the host `rt` and
 `bytes`, one message of samples/session.dbus, and that ends well. The functions become a program out/doc_examples, one file each, which is
-tried by `rt try`. The exit status is 1 if it is not built or does not end well.
+tried by `rt try`, and removed if it ends well: `rt ci` refuses a repository with a second crates.txt. The exit status is 1 if it is not built or does
+not end well.
 """
 
 import os
@@ -113,6 +114,7 @@ def main():
     if ran.returncode:
         print(ran.stderr.decode(errors="replace"), f"{len(places)} examples: not built, or one did not end well", sep="\n")
         return 1
+    shutil.rmtree(APART)
     print(f"{len(places)} examples of doc comments are built and run")
     return 0
 
