@@ -43,6 +43,7 @@ use std::alloc::{AllocError, Global};
 ///
 /// ```rust
 /// use dbus_call_lines::{CallList, CallNames, Form, Lines, Place, Wanted};
+/// use dbus_calls::EventView;
 /// use dbus_message::MessageView;
 /// use dbus_show::StringDraft;
 ///
@@ -52,7 +53,8 @@ use std::alloc::{AllocError, Global};
 /// let mut lines = Lines { draft: StringDraft::new(&mut text) };
 /// let place = Place { number: 1, time: None };
 /// let names = CallNames { sender: Some("org.example.Lab"), destination: None };
-/// list.take(&mut lines, place, names, &MessageView::of(bytes)?)?;
+/// let view = MessageView::of(bytes)?;
+/// list.take(&mut lines, place, names, &EventView::of(&view))?;
 /// list.finish(&mut lines)?;
 /// lines.draft.finish()?;
 /// println!(rt; "{text}")?;

@@ -19,13 +19,16 @@ use std::collections::BTreeMap;
 /// ```rust
 /// use dbus_call_lines::{CallList, CallNames, Form, Place, Wanted};
 /// use dbus_call_members::MemberSums;
+/// use dbus_calls::EventView;
 /// use dbus_message::MessageView;
 ///
 /// let wanted = Wanted { form: Form::Text, unanswered: false, errors: false, slower: None };
 /// let mut list = CallList::new(alloc, wanted);
 /// let mut sums = MemberSums::new(alloc);
 /// let names = CallNames { sender: None, destination: None };
-/// list.take(&mut sums, Place { number: 1, time: None }, names, &MessageView::of(bytes)?)?;
+/// let view = MessageView::of(bytes)?;
+/// let place = Place { number: 1, time: None };
+/// list.take(&mut sums, place, names, &EventView::of(&view))?;
 /// list.finish(&mut sums)?;
 /// println!(rt; "{}", sums.table(Form::Text)?)?;
 /// ```
