@@ -17,6 +17,7 @@ use Rattle.dbus_stream.specs.GoingOn.{Resumes}
 use Rattle.dbus_stream.specs.Next.{IsCutShort}
 use Rattle.dbus_stream.specs.CutEnds.{sizes}
 use Rattle.dbus_stream.proofs.FaultPackets.{refused_later}
+use Rattle.dbus_stream.proofs.SeekSteps.{led_inside}
 use Rattle.dbus_stream.proofs.SizeSteps.{one_size, size_some}
 use Rattle.cli_options.specs.declared.settings.Settings.{Settings}
 use Rattle.cli_run.specs.Inputs.{ArePlaced, IsPlaced, IsPacketBefore, IsTimeBefore, Part, Whole, PassedOver, Placed, size_of, sizes_of, time_of, wholes, By, Stated, InPacket, Resumed, HasSize, IsFaultOf, IsLast, IsPart, BeginWithParts, ResumeIn, effort_of, is_to_end, reach_end}
@@ -56,10 +57,8 @@ module _ (limits : Limits) where
       elim r [
         | inl led ↦ (
             let same : led.0 ≡ size = at_same led.0 size (sym led.2) in
-            elim led.1.to [
-              | inl begins ↦ (let inside = begins_inside limits (take window bytes) led.0 begins in omega (arith, inside, same, short))
-              | inr ends ↦ (let end = ends.0 in omega (arith, end, same, short))
-            ]
+            let inside = led_inside limits window (take window bytes) led.0 led.1 in
+            omega (arith, inside, same, short)
             )
         | inr first ↦ (let inside = begins_inside limits (take window bytes) size first.1.finds.begins in omega (arith, inside, short))
       ]

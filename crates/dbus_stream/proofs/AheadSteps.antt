@@ -4,7 +4,7 @@ use Rattle.std.specs.Prelude.{nat_eq, ◌⊎◌}
 use Rattle.std.specs.List.{slice_range}
 use Rattle.std.proofs.Math.Seq.{drop-length, take-length}
 use Rattle.std.proofs.lemmas.Bool.{cases_lt}
-use Rattle.std.proofs.lemmas.List.{nil_from_length, take-append-le, take_min}
+use Rattle.std.proofs.lemmas.List.{nil_from_length, take_min}
 use Rattle.dbus_device.specs.Packets.{Packets, PacketsAfter}
 use Rattle.dbus_device.specs.declared.packet.Packet.{Packet}
 use Rattle.dbus_value_model.specs.declared.limits.Limits.{Limits}
@@ -17,7 +17,7 @@ use Rattle.dbus_stream.specs.LookingAhead.{HasAhead, IsFar, ReadsTo, StandsBefor
 use Rattle.dbus_stream.specs.Next.{ReadsNothing, ReadsWhile}
 use Rattle.dbus_stream.specs.Packets.{KeepsPackets}
 use Rattle.dbus_stream.specs.RawReading as raw
-use Rattle.dbus_stream.specs.Reading.{limits_of, source_of, part_of, done_of, read_of, last_of, is_ended, packed_of, stopped_of}
+use Rattle.dbus_stream.specs.Reading.{source_of, part_of, done_of, read_of, last_of, is_ended, packed_of, stopped_of}
 use Rattle.dbus_stream.specs.Steps.{Calls, Drops, FillsBy}
 use Rattle.dbus_stream.specs.Taking.{Taking}
 use Rattle.dbus_stream.specs.contracts.buffer.LargeBuffer.TheImpl.{ghosts}

@@ -1,5 +1,5 @@
 -- The steps of passing over a refused message.
-use Rattle.std.proofs.Common.{◌≡◌, ℕ, ◌+◌, ◌-◌, ◌^◌, ◌<◌, ◌≤◌, List, [], ◌++◌, Bool, true, false, not, None, Some, Option, Result, Ok, Err, length, take, drop, refl, sym, ap, ◌∙◌, subst, arith, append_assoc, append-nil, length-append, inl, inr}
+use Rattle.std.proofs.Common.{◌≡◌, ℕ, ◌+◌, ◌-◌, ◌^◌, ◌<◌, ◌≤◌, List, [], ◌++◌, Bool, true, false, not, None, Some, Option, Result, Ok, Err, length, drop, refl, sym, ap, ◌∙◌, subst, arith, append_assoc, append-nil, length-append, inl, inr}
 use Rattle.std.specs.Prelude.{nat_eq}
 use Rattle.std.specs.List.{slice_range}
 use Rattle.std.proofs.Math.Seq.{drop-append-add, drop-length}
@@ -21,7 +21,7 @@ use Rattle.dbus_stream.specs.Dropping.{AreInside, HasDropped}
 use Rattle.dbus_stream.specs.Gathering.{GathererState, gathering, fresh, under_way}
 use Rattle.dbus_stream.specs.Lasting.{is_truncated, is_refusal}
 use Rattle.dbus_stream.specs.Next.{ReadsNothing}
-use Rattle.dbus_stream.specs.Passing.{DropsAll, IsRefusal, PassAnswers, Passing, ReadsOn, ReadsToSkip, SkipAnswers, Skips, SkipsAll, WasDropped}
+use Rattle.dbus_stream.specs.Passing.{DropsAll, IsRefusal, PassAnswers, ReadsOn, ReadsToSkip, SkipAnswers, Skips, SkipsAll, WasDropped}
 use Rattle.dbus_stream.specs.RawReading.{buffered, limits_of, kept, lent_of, whole_or}
 use Rattle.dbus_stream.specs.Reading.{part_of, done_of, is_ended, stopped_of}
 use Rattle.dbus_stream.specs.StatedSizes.{StatesNone, StatesSize, WantsMore}

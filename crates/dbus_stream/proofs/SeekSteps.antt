@@ -1,6 +1,7 @@
 -- The steps of looking for where messages begin again.
-use Rattle.std.proofs.Common.{◌≡◌, ◌⊎◌, ℕ, ◌<◌, ◌≤◌, List, [], ◌++◌, Bool, true, length, drop, sym, subst, arith, inl, inr}
+use Rattle.std.proofs.Common.{◌≡◌, ℕ, ◌<◌, ◌≤◌, List, [], ◌++◌, Bool, true, length, drop, sym, subst, arith, inl, inr}
 use Rattle.std.proofs.lemmas.Bool.{cases_lt}
+use Rattle.std.proofs.lemmas.List.{drop_all}
 use Rattle.dbus_value_model.specs.declared.limits.Limits.{Limits}
 use Rattle.dbus_header.specs.NoMessage.{BeginsWithNone}
 use Rattle.dbus_resync.specs.Search.{BeginsAt, Finds}
@@ -25,6 +26,11 @@ module _ (limits : Limits) where
     | inr there ↦ absurd (((sizes_tell limits bytes).1 size s).1 there wants)
   ]
 
+  -- no bytes begin no message
+  nothing_wanted : WantsMore limits [] → ⊥
+  nothing_wanted (inl few) = cc (few.1)
+  nothing_wanted (inr more) = let sixteen = more.1.there in omega (arith, sixteen)
+
   pub none_past : (bytes : List ℕ) → StatesNone limits bytes → (size : ℕ) → StatesSize limits bytes size → length bytes < size
   none_past bytes none size s = absurd (((sizes_tell limits bytes).1 size s).0 none)
 
@@ -32,7 +38,8 @@ module _ (limits : Limits) where
     pub led_inside : (size : ℕ) → LeadsOn limits window bytes size → size ≤ length bytes
     led_inside size l = elim l.to [
       | inl begins ↦ (let inside = begins_inside limits bytes size begins in omega (arith, inside))
-      | inr ends ↦ (let end = ends.0 in omega (arith, end))
+      | inr (inl ends) ↦ (let end = ends.0 in omega (arith, end))
+      | inr (inr wants) ↦ elim (cases_lt (length bytes) size) [ inl past ↦ absurd (nothing_wanted (subst (WantsMore limits) (drop_all size bytes (omega (arith, past))) wants.0)) | inr there ↦ there ]
     ]
 
     -- so many bytes are not there
@@ -40,12 +47,13 @@ module _ (limits : Limits) where
     nowhere_past past size l = (let short = past size l.states in let inside = led_inside size l in omega (arith, short, inside))
 
     -- or no message begins behind them, nor does the input end
-    pub nowhere_there : (end : ℕ) → StatesSize limits bytes end → (end ≡ length bytes → end < window → ⊥) → BeginsWithNone limits (drop end bytes) → LeadsNowhere limits window bytes
-    nowhere_there end s open_ none size l =
+    pub nowhere_there : (end : ℕ) → StatesSize limits bytes end → (end ≡ length bytes → end < window → ⊥) → BeginsWithNone limits (drop end bytes) → (window ≤ length bytes → WantsMore limits (drop end bytes) → ⊥) → LeadsNowhere limits window bytes
+    nowhere_there end s open_ none unwanted size l =
         let same : size ≡ end = size_once limits bytes end size s l.states in
         elim l.to [
           | inl begins ↦ (let b = subst (BeginsAt limits bytes) same begins in none b.0 b.1 b.2 b.3)
-          | inr ends ↦ (let all = ends.0 in let few = ends.1 in open_ (omega (arith, same, all)) (omega (arith, same, few)))
+          | inr (inl ends) ↦ (let all = ends.0 in let few = ends.1 in open_ (omega (arith, same, all)) (omega (arith, same, few)))
+          | inr (inr wants) ↦ unwanted wants.1 (subst (λ (n : ℕ). WantsMore limits (drop n bytes)) same wants.0)
         ]
 
   -- what is found begins among the bytes

@@ -1,9 +1,9 @@
 -- The size that the first sixteen bytes of a message state, and what was dropped of it.
 use Rattle.std.proofs.Common.{◌≡◌, ℕ, ◌+◌, ◌-◌, ◌^◌, ◌<◌, ◌≤◌, List, [], ◌∷◌, ◌++◌, length, take, drop, replicate, get_or, refl, sym, ap, ◌∙◌, subst, arith, inl, inr, append-nil, append_assoc, length-append, take-append-drop}
-use Rattle.std.proofs.Math.Seq.{take-append_seam, take-append-add}
+use Rattle.std.proofs.Math.Seq.{take-append-add}
 use Rattle.std.proofs.lemmas.Bool.{cases_lt}
-use Rattle.std.proofs.lemmas.List.{drop_at, drop-append-le, length-drop, length-take, length-take-le, length-replicate, take_all, take_at, take-append-le, take-take}
-use Rattle.dbus_value_model.proofs.Numbers.{length-num, number_of-num, IsBytes-front}
+use Rattle.std.proofs.lemmas.List.{drop_at, drop-append-le, length-drop, length-take-le, length-replicate, take_all, take_at, take-append-le, take-take}
+use Rattle.dbus_value_model.proofs.Numbers.{length-num, number_of-num}
 use Rattle.dbus_value_model.specs.Bytes.{num, gap_to}
 use Rattle.dbus_value_model.specs.ByteNumbers.{IsBytes}
 use Rattle.dbus_value_model.specs.Reading.{number_of}
@@ -11,7 +11,7 @@ use Rattle.dbus_value_model.specs.declared.limits.Limits.{Limits}
 use Rattle.dbus_value_model.specs.declared.order.Order.{Order}
 use Rattle.dbus_value_model.specs.declared.order.Order.TheVariants.{Little, Big}
 use Rattle.dbus_message_model.specs.Messages.{order_byte}
-use Rattle.dbus_header.specs.MessageOutcomes.{IsPartial, IsRefused}
+use Rattle.dbus_header.specs.MessageOutcomes.{IsPartial}
 use Rattle.dbus_header.specs.StatedLengths.{StatesLength}
 use Rattle.dbus_header.specs.declared.fixed_header.FixedHeader.{FixedHeader}
 use Rattle.dbus_header.proofs.OutcomeLaws.{one_outcome}

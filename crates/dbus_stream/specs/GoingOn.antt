@@ -11,7 +11,7 @@ use Rattle.dbus_stream.specs.Gathering.{fresh, gathering}
 use Rattle.dbus_stream.specs.Next as next
 use Rattle.dbus_stream.specs.RawReading as raw
 use Rattle.dbus_stream.specs.Reading.{part_of}
-use Rattle.dbus_stream.specs.StatedSizes.{StatesSize}
+use Rattle.dbus_stream.specs.StatedSizes.{StatesSize, WantsMore}
 use Rattle.dbus_stream.specs.declared.raw_reader.RawReader.{RawReader}
 use Rattle.dbus_stream.specs.declared.read_fault.ReadFault.{ReadFault}
 use Rattle.dbus_stream.specs.declared.read_fault.ReadFault.TheVariants.{Format, TooManyReads}
@@ -20,11 +20,11 @@ use Rattle.dbus_stream.specs.declared.read_fault.ReadFault.TheVariants.{Format, 
 abbrev pub HasFault : Option ReadFault → Type 0
 HasFault stopped = (fault : Fault) × (stopped ≡ Some (Format fault))
 
--- the bytes state this size, and it leads on: a whole message begins behind so many of them, or the
--- input ends there
+-- the bytes state this size, and it leads on: behind so many of them a whole message begins, or the
+-- input ends, or what begins there states that it goes on past the window
 pub record LeadsOn (limits : Limits) (window : ℕ) (bytes : List ℕ) (size : ℕ) : Type 0 where
   pub states : StatesSize limits bytes size
-  pub to : BeginsAt limits bytes size ⊎ ((size ≡ length bytes) × (size < window))
+  pub to : BeginsAt limits bytes size ⊎ (((size ≡ length bytes) × (size < window)) ⊎ (WantsMore limits (drop size bytes) × (window ≤ length bytes)))
 
 abbrev pub LeadsNowhere : Limits → (window : ℕ) → List ℕ → Type 0
 LeadsNowhere limits window bytes = (size : ℕ) → LeadsOn limits window bytes size → ⊥

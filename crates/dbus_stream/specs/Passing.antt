@@ -1,7 +1,7 @@
 -- How a reader passes over a refused message, by the size that its first sixteen bytes state. w has
 -- the message's bytes as far as they came: those that were dropped before, what was kept and then
 -- what was read. D-Bus Specification, "Message Format".
-use Rattle.std.specs.Prelude.{◌≡◌, ◌⊎◌, ℕ, ◌+◌, ◌≤◌, List, [], ◌++◌, true, false, Bool, length, take, drop, Option, None, Some, Result, Ok, Err}
+use Rattle.std.specs.Prelude.{◌≡◌, ◌⊎◌, ℕ, ◌+◌, ◌≤◌, List, [], ◌++◌, true, false, length, drop, Option, None, Some, Result, Ok, Err}
 use Rattle.dbus_value_model.specs.declared.fault.Fault.{Fault}
 use Rattle.dbus_value_model.specs.declared.limits.Limits.{Limits}
 use Rattle.dbus_stream.specs.Dropping.{HasDropped}

@@ -351,9 +351,9 @@ impl<R: Source, A: Allocator + Copy> RawReader<R, A> {
 
     /// Goes on as [`RawReader::go_on`] does, but first by the size that the refused message states,
     /// as [`RawReader::pass_over`] reads it: behind so many bytes, if a whole message within the
-    /// limits begins there in the window, or the input ends there in the window; and else at the
-    /// least offset at which one begins. So what looks like a message inside a refused one is not
-    /// taken for one. D-Bus Specification, "Message Format".
+    /// limits begins there in the window, or the input ends there in the window, or what begins
+    /// there states that it goes past the window; and else at the least offset at which a message
+    /// begins. So what looks like one inside a refused one is not taken for one. D-Bus Specification, "Message Format".
     ///
     /// ```rust
     /// use dbus_stream::{Found, FromRead, RawReader, ReadFault};

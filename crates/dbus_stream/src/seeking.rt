@@ -1,8 +1,8 @@
 //! Where messages begin again behind one that is refused.
-ghost use Rattle.std.specs.Prelude.{◌≡◌, ◌≤◌, ◌<◌, ℕ, None, length, IfSome};
+ghost use Rattle.std.specs.Prelude.{◌≡◌, ◌≤◌, ◌<◌, ℕ, None, true, false, length, IfSome};
 ghost use Rattle.dbus_resync.specs.declared.found.Found.TheVariants.{At};
 ghost use Rattle.dbus_stream.specs.GoingOn.{LeadsNowhere, LeadsOn, Seeks};
-ghost use Rattle.dbus_stream.specs.StatedSizes.{StatesSize};
+ghost use Rattle.dbus_stream.specs.StatedSizes.{StatesSize, WantsMore};
 
 use crate::refused::{Refused, Size};
 use dbus_resync::{Found, first_message};
@@ -44,10 +44,28 @@ fn led_to(bytes: &[u8], limits: Limits, window: usize) -> Option<usize>
     if end == bytes.len() && end < window {
         return Some(end);
     }
-    if validate(&bytes[end..], limits).is_some() {
+    let rest = &bytes[end..];
+    if validate(rest, limits).is_some() {
+        return Some(end);
+    }
+    if window <= bytes.len() && wants_more(rest, limits) {
         Some(end)
     } else {
         None
+    }
+}
+
+// Whether the bytes begin as a message does, and are fewer than it states, or than state its size.
+fn wants_more(bytes: &[u8], limits: Limits) -> bool
+    ensures wants { result ≡ true → WantsMore limits bytes.now }
+    ensures none { result ≡ false → WantsMore limits bytes.now → ⊥ }
+{
+    let mut message = Refused::nothing();
+    message.drop_bytes(bytes);
+    match message.size(limits) {
+        Size::Wanted => true,
+        Size::There(_) => false,
+        Size::Unstated => false,
     }
 }
 

@@ -1,5 +1,4 @@
-use Rattle.std.proofs.Common.{◌≡◌, ℕ, List, length}
-use Rattle.dbus_stream.proofs.SeekSteps.{dropped_alone, none_past, wants_past}
+use Rattle.dbus_stream.proofs.SeekSteps.{dropped_alone, none_past}
 use Rattle.dbus_stream.proofs.seeking.end_stated.Goals as goal
 
 pub returns-in-There-clause-states : goal.returns-in-There-clause-states

@@ -1,8 +1,7 @@
-use Rattle.std.proofs.Common.{rules, ◌≡◌, ◌≤◌, ◌+◌, ◌++◌, List, ℕ, arith, length, length-append, ap, ◌∙◌, subst, append_assoc}
+use Rattle.std.proofs.Common.{rules, ◌≡◌, ◌++◌, List, ℕ, arith, length, length-append, ap, ◌∙◌, subst, append_assoc}
 use Rattle.dbus_value_model.specs.declared.limits.Limits.{Limits}
 use Rattle.dbus_stream.specs.StatedSizes.{StatesNone}
 use Rattle.dbus_stream.specs.Gathering.{under_way}
-use Rattle.dbus_stream.specs.RawReading.{limits_of}
 use Rattle.dbus_stream.specs.Reading.{part_of}
 use Rattle.dbus_stream.proofs.PassSteps.{few_left}
 use Rattle.dbus_stream.proofs.SizeSteps.{witness}

@@ -1,4 +1,4 @@
-use Rattle.std.proofs.Common.{rules, ◌≡◌, ◌≤◌, ◌<◌, ◌+◌, ◌-◌, ◌++◌, List, [], ℕ, length, drop, refl, sym, ap, ◌∙◌, subst, arith, length-append}
+use Rattle.std.proofs.Common.{rules, ◌≡◌, ◌≤◌, ◌-◌, ◌++◌, List, [], ℕ, length, refl, ap, ◌∙◌, subst, arith, length-append}
 use Rattle.dbus_stream.specs.Dropping.{HasDropped}
 use Rattle.dbus_stream.specs.Packets.{KeepsPackets}
 use Rattle.dbus_stream.specs.Reading.{done_of, part_of}
@@ -6,7 +6,7 @@ use Rattle.dbus_stream.specs.StatedSizes.{StatesNone, StatesSize, WantsMore}
 use Rattle.dbus_stream.specs.Steps.{Drops}
 use Rattle.dbus_stream.proofs.NextSteps.{adds_none}
 use Rattle.dbus_stream.proofs.PacketSteps.{still, unread}
-use Rattle.dbus_stream.proofs.PassSteps.{HasSkipped, HasSkippedAll, bytes_of, skip_held, skip_read, skip_rest, skip_size, skips_failed}
+use Rattle.dbus_stream.proofs.PassSteps.{HasSkippedAll, bytes_of, skip_held, skip_read, skip_rest, skip_size, skips_failed}
 use Rattle.dbus_stream.proofs.SizeSteps.{inside_more, witness}
 use Rattle.dbus_stream.proofs.reader.Reader.pass_over.Goals as goal
 use Rattle.dbus_stream.proofs.reader.Reader.pass_over.Goals.{After-skip-in-reading, In-There}

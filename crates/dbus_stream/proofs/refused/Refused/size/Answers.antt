@@ -1,4 +1,4 @@
-use Rattle.std.proofs.Common.{rules, ◌≡◌, ◌+◌, ◌≤◌, [], ◌∷◌, arith, get_or, length, sym, ap, ◌∙◌, take, inr}
+use Rattle.std.proofs.Common.{rules, ◌≡◌, ◌+◌, [], ◌∷◌, arith, length, sym, ap, ◌∙◌, take, inr}
 use Rattle.dbus_value_model.specs.Bytes.{gap_to}
 use Rattle.dbus_message_model.specs.Messages.{order_byte}
 use Rattle.dbus_stream.specs.StatedSizes.{four_at}
