@@ -2,6 +2,7 @@
 -- refused, and passed over or not.
 use Rattle.std.proofs.Common.{◌≡◌, ℕ, ◌+◌, ◌*◌, ◌-◌, ◌||◌, ◌<◌, ◌≤◌, List, [], ◌∷◌, ◌++◌, Bool, true, false, ◌⊎◌, is_some, Option, None, Some, Result, Ok, Err, drop, length, refl, sym, ap, ◌∙◌, subst, arith, inl, inr, append_assoc, append-nil, length-append}
 use Rattle.std.proofs.Math.Path.{transport}
+use Rattle.std.proofs.Math.Nat.{le-max_left}
 use Rattle.std.proofs.Math.Seq.{drop-append_seam}
 use Rattle.std.specs.Option.{is_none}
 use Rattle.std.specs.Io.KnownBytes.{IsAtEnd}
@@ -18,7 +19,7 @@ use Rattle.dbus_resync.specs.declared.found.Found.{Found}
 use Rattle.dbus_resync.specs.declared.found.Found.TheVariants.{At, Nowhere, Spent}
 use Rattle.dbus_stream.specs.Cut.{CutOutcome, Ended, Unfinished, Refused, IsOutcome}
 use Rattle.dbus_stream.specs.CutEnds.{fault_at_end, truncated}
-use Rattle.dbus_stream.specs.GoingOn.{IsFoundIn, Resyncs}
+use Rattle.dbus_stream.specs.GoingOn.{IsFoundIn, ReadsToGoOn, Resyncs, StaysThere, ahead_of}
 use Rattle.dbus_stream.specs.Gathering.{gathering, under_way}
 use Rattle.dbus_stream.specs.Lasting.{is_truncated}
 use Rattle.dbus_stream.specs.Next.{DeviceCounts, IsCutShort}
@@ -34,12 +35,13 @@ use Rattle.dbus_stream.specs.declared.raw_reader.RawReader.{RawReader}
 use Rattle.dbus_stream.specs.declared.read_fault.ReadFault.{ReadFault}
 use Rattle.dbus_stream.specs.declared.read_fault.ReadFault.TheVariants as read
 use Rattle.dbus_stream.proofs.FaultPackets.{refused_later}
+use Rattle.dbus_stream.proofs.SizeSteps.{size_once, sizes_tell}
 use Rattle.cli_options.specs.declared.resync.Resync.{Resync}
 use Rattle.cli_options.specs.declared.resync.Resync.TheVariants.{Off, Within as Sought}
 use Rattle.cli_run.specs.Going.{IsAllOf, IsSought, cause_of, AreTold, IsTold, IsToldRefused, cut_tally, passed_count, passed_sizes, tally_with}
-use Rattle.cli_run.specs.Inputs.{AreInPacket, BeginNowhere, BeginWithParts, By, GoesPast, InPacket, IsCutOff, IsCutUnpassed, IsFaultOf, IsInOther, IsLast, IsPart, IsPassedBy, IsTellable, IsUnpassed, PassedOver, Placed, ResumeIn, Resumed, Stated, effort_of, is_there, is_to_end, reach_end, sizes_of}
+use Rattle.cli_run.specs.Inputs.{AreInPacket, BeginNowhere, BeginWithParts, By, GoesPast, InPacket, IsCutOff, IsCutUnpassed, IsFaultOf, IsInOther, IsLast, IsPart, IsPassedBy, IsLarger, IsTellable, IsUnpassed, PassedOver, PastWindow, Placed, ResumeIn, Resumed, Stated, WantsMoreBy, effort_of, is_there, is_to_end, reach_end, sizes_of}
 use Rattle.cli_run.specs.Onward.{HasKnownPackets, HasRead, stop_of}
-use Rattle.cli_run.specs.PassingOn.{BySize, PassesInPacket, PassesOn, Resyncing, ToNext, ToPacket, Way, passed_by, way_of}
+use Rattle.cli_run.specs.PassingOn.{BySize, PassesBy, PassesInPacket, PassesLarger, PassesOn, ToNext, ToPacket, Way, way_of}
 use Rattle.cli_run.specs.Refusals.{IsRefusedIn, number_of}
 use Rattle.cli_run.specs.Visiting.{AddsUp, Tells}
 use Rattle.cli_report.specs.declared.telling.RefusedMessage.{RefusedMessage}
@@ -49,7 +51,7 @@ use Rattle.cli_run.specs.declared.counted.Counted.{Counted}
 use Rattle.cli_run.specs.declared.tally.Tally.{Tally}
 use Rattle.cli_run.specs.declared.visitor.RunStop.{RunStop}
 use Rattle.cli_run.specs.declared.visitor.RunStop.TheVariants.{Cause as ByCause, Untold}
-use Rattle.cli_run.proofs.PartLaws.{is_fault_of, part_some, parts_more, placed_past, sizes-both, passed-both, passed_sizes-both}
+use Rattle.cli_run.proofs.PartLaws.{is_fault_of, larger_more, nowhere_more, part_some, parts_more, placed_past, sizes-both, passed-both, passed_sizes-both}
 use Rattle.cli_run.proofs.ReadSteps.{read_none, read_on}
 use Rattle.cli_run.proofs.Ways.{way_cut, way_next, way_packet, way_size}
 use Rattle.cli_run.proofs.GoSteps.{fresh, Begun, Fills, HasCovered, HasEnded, HasGone, HasReached, refused_is, none_is, covers_read, covers, packets_of, Took, Within, Through, Stopped, More, stops_plain, all_called}
@@ -266,6 +268,7 @@ module _ {R A S : Type 0} {takes : S → S → List Placed → (told : List ℕ)
 
       abbrev IsLost : List ℕ → Type 0
       IsLost rest = (window : ℕ) × (packet ≡ None) × (run.settings.resync ≡ Sought window) × BeginNowhere run.settings.limits window rest (is_ended new ≡ true)
+          × (is_truncated fault.reason ≡ false → IsLarger run.settings.limits window rest → ⊥)
 
       abbrev StatesNoSize : List ℕ → Type 0
       StatesNoSize rest = IsRefused run.settings.limits (kept mid) fault × (packet ≡ None) × (run.settings.resync ≡ Off) × StatesNone run.settings.limits rest
@@ -303,7 +306,7 @@ module _ {R A S : Type 0} {takes : S → S → List Placed → (told : List ℕ)
             let plain = way_plain other refused in (
               met other refused,
               subst (λ (p : Option ℕ). GoesPast (packets_of run) run.settings.resync run.settings.limits (sizes_of h.gone.parts) (kept mid) rest p) (sym plain.0)
-                  (plain.1, subst (λ (l : Limits). WantsMore l rest) limits_are wants),
+                  (subst (λ (r : Resync). WantsMoreBy r run.settings.limits rest) (sym plain.1) (subst (λ (l : Limits). WantsMore l rest) limits_are wants)),
             )
 
         came_by_size : (more : List ℕ) (other : Fault) → IsRefusal (stopped_of mid) other → (res : Result Passed ReadFault) → PassAnswers [] (kept mid ++ more) mid new res → CameTo (kept mid ++ more) res
@@ -353,14 +356,14 @@ module _ {R A S : Type 0} {takes : S → S → List Placed → (told : List ℕ)
         way_seeks = way_next packet (is_truncated fault.reason) run.settings.resync window seeks
 
         -- whether the input ends in the window
-        wide_or_end : (w : List ℕ) → (window ≤ length w) ⊎ (is_ended new ≡ true) → (to_end : Bool) × (to_end ≡ false → window ≤ length w) × (to_end ≡ true → is_ended new ≡ true)
+        wide_or_end : (w : List ℕ) → (ahead_of window ≤ length w) ⊎ (is_ended new ≡ true) → (to_end : Bool) × (to_end ≡ false → window ≤ length w) × (to_end ≡ true → is_ended new ≡ true)
         wide_or_end w all = elim all [
-          | inl wide ↦ (false, (λ _. wide), λ e. absurd (false≢true e))
+          | inl wide ↦ (false, (λ _. omega (arith, wide, le-max_left window 16)), λ e. absurd (false≢true e))
           | inr end ↦ (true, (λ e. absurd (false≢true (sym e))), λ _. end)
         ]
 
         -- for what it was refused
-        fault_by : (more : List ℕ) → (is_ended mid ≡ true → more ≡ []) → (is_ended mid ≡ true → is_ended new ≡ true) → (window ≤ length (kept mid ++ more)) ⊎ (is_ended new ≡ true)
+        fault_by : (more : List ℕ) → (is_ended mid ≡ true → more ≡ []) → (is_ended mid ≡ true → is_ended new ≡ true) → (ahead_of window ≤ length (kept mid ++ more)) ⊎ (is_ended new ≡ true)
             → (end : Bool) × IsFaultOf run.settings.limits (kept mid) (kept mid ++ more) fault (Resumed window end) × (end ≡ false → window ≤ length (kept mid ++ more)) × (end ≡ true → is_ended new ≡ true)
         fault_by more none still all = elim (either h.outcome h.outcome_is fault_last h.ended) [
           | inl refused ↦ (let w = wide_or_end (kept mid ++ more) all in (w.0, is_fault_of run.settings.limits (kept mid ++ more) (kept mid) fault (Resumed window w.0) refused, w.1, w.2))
@@ -375,8 +378,9 @@ module _ {R A S : Type 0} {takes : S → S → List Placed → (told : List ℕ)
           all = λ short. elim f.0 [ inl wide ↦ absurd (omega (arith, wide, short)) | inr end ↦ end ];
         }
 
-        came_by_seeking : (more : List ℕ) → (is_ended mid ≡ true → more ≡ []) → (is_ended mid ≡ true → is_ended new ≡ true) → (found : Result Found ReadFault) → Resyncs (kept mid ++ more) mid new window (effort_of window) found → CameTo (kept mid ++ more) (passed_by found)
-        came_by_seeking more none still (Ok (At size)) g =
+        -- it is gone on there
+        came_there : (more : List ℕ) → (is_ended mid ≡ true → more ≡ []) → (is_ended mid ≡ true → is_ended new ≡ true) → (size : ℕ) → Resyncs (kept mid ++ more) mid new window (effort_of window) (Ok (At size)) → CameTo (kept mid ++ more) (Ok Over)
+        came_there more none still size g =
             let f = fault_by more none still g.0.0 in
             record {
               by = Resumed window f.0;
@@ -388,21 +392,21 @@ module _ {R A S : Type 0} {takes : S → S → List Placed → (told : List ℕ)
               stopped_is = g.1.stopped;
               ends = f.3;
             }
-        came_by_seeking more none still (Ok Nowhere) g = inr (window, way_seeks.0, way_seeks.1, nowhere_is more Nowhere refl g.0)
-        came_by_seeking more none still (Ok Spent) g = inr (window, way_seeks.0, way_seeks.1, nowhere_is more Spent refl g.0)
-        came_by_seeking more none still (Err read.Memory) g = (window, way_seeks.0, way_seeks.1)
-        came_by_seeking more none still (Err (read.Format f)) g = absurd g
-        came_by_seeking more none still (Err read.Device) g = inr (window, way_seeks.0, way_seeks.1)
-        came_by_seeking more none still (Err read.TooManyReads) g = (inr (window, way_seeks.0, way_seeks.1), g.1)
 
-        by_seeking : (res : Result Passed ReadFault) → Resyncing run.left run.calls run.packet mid new window res → HasOnward res
-        by_seeking res p = record {
-          rest = kept mid ++ p.reads.bytes;
-          reads = read_on gathering run.left run.calls run.settings.limits (kept mid) (λ before. (length (kept mid) < window) × (length (kept mid ++ before) < 2 * window)) mid.reader mid.reader new.reader [] (kept mid)
-              (read_none gathering run.left run.calls run.settings.limits (kept mid) mid.reader limits_are) p.reads;
-          came_to = subst (λ (r : Result Passed ReadFault). CameTo (kept mid ++ p.reads.bytes) r) (sym p.passed)
-              (came_by_seeking p.reads.bytes (λ end. (p.reads.settled end).0) (λ end. (p.reads.settled end).2) p.found p.goes);
-        }
+        -- or not, since it could not be read so far
+        came_failed : (more : List ℕ) (broken : ReadFault) → Resyncs (kept mid ++ more) mid new window (effort_of window) (Err broken) → CameTo (kept mid ++ more) (Err broken)
+        came_failed more read.Memory g = (window, way_seeks.0, way_seeks.1)
+        came_failed more (read.Format f) g = absurd g
+        came_failed more read.Device g = inr (window, way_seeks.0, way_seeks.1)
+        came_failed more read.TooManyReads g = (inr (window, way_seeks.0, way_seeks.1), g.1)
+
+        reads_ahead : (r : ReadsToGoOn window run.left run.calls mid new) → HasReadTo (kept mid ++ r.bytes)
+        reads_ahead r =
+            read_on gathering run.left run.calls run.settings.limits (kept mid) (λ before. (length (kept mid) < ahead_of window) × (length (kept mid ++ before) < 2 * ahead_of window)) mid.reader mid.reader new.reader [] (kept mid)
+            (read_none gathering run.left run.calls run.settings.limits (kept mid) mid.reader limits_are) r
+
+        went : (r : ReadsToGoOn window run.left run.calls mid new) (res : Result Passed ReadFault) → CameTo (kept mid ++ r.bytes) res → HasOnward res
+        went r res came = record { rest = kept mid ++ r.bytes; reads = reads_ahead r; came_to = came }
 
       -- in a capture up to the next packet
       module _ (known : HasKnownPackets run.packets run.packet mid (packets_of run)) (packed : way ≡ ToPacket) where
@@ -478,20 +482,109 @@ module _ {R A S : Type 0} {takes : S → S → List Placed → (told : List ℕ)
           | inr none ↦ absurd (let is : packet ≡ None = packet_is ∙ ap number_of none.0 in let some = (way_packet packet (is_truncated fault.reason) run.settings.resync packed).0 in false≢true (ap is_some (sym is) ∙ some))
         ]
 
-      onward : HasKnownPackets run.packets run.packet mid (packets_of run) → (res : Result Passed ReadFault) → PassedBy res → IsInput res → HasOnward res ⊎ ((res ≡ Ok Not) × (new ≡ mid) × IsUnsized)
+    -- messages begin again nowhere in the window, and far is the reader that found that
+    module _ (window : ℕ) (seeks : way ≡ ToNext window) (far : RawReader R A) (ahead : ReadsToGoOn window run.left run.calls mid far) (stays : StaysThere (kept mid ++ ahead.bytes) mid far)
+        (nowhere : BeginNowhere run.settings.limits window (kept mid ++ ahead.bytes) (is_ended far ≡ true)) where
+      abbrev found_none : List ℕ
+      found_none = kept mid ++ ahead.bytes
+
+      limits_far : limits_of far ≡ run.settings.limits
+      limits_far = (reads_ahead far window seeks ahead).limits_are
+
+      some_far : (other : Fault) → IsRefusal (stopped_of mid) other → 0 < length (kept far)
+      some_far other refused = omega (arith, some_kept (met other refused), length-append (kept mid) ahead.bytes, ap length stays.kept)
+
+      larger_there : IsLarger (limits_of far) window (kept far) → IsLarger run.settings.limits window found_none
+      larger_there l = transport (λ i. IsLarger (limits_far i) window (stays.kept i)) l
+
+      -- it is not passed over
+      lost : (is_truncated fault.reason ≡ false → IsLarger run.settings.limits window found_none → ⊥) → HasOnward far (Ok Not)
+      lost small = let by = way_seeks far window seeks in went far window seeks ahead (Ok Not) (inr (window, by.0, by.1, nowhere, small))
+
+      -- or by its size, since that is larger
+      module _ (new : RawReader R A) (larger : IsLarger run.settings.limits window found_none) (other : Fault) (refused : IsRefusal (stopped_of mid) other) (more : List ℕ) (none : is_ended far ≡ true → more ≡ []) where
+        abbrev all_read : List ℕ
+        all_read = found_none ++ more
+
+        nowhere_all : BeginNowhere run.settings.limits window all_read (Unit {0})
+        nowhere_all = nowhere_more run.settings.limits window found_none more (is_ended far ≡ true) none nowhere
+
+        larger_all : IsLarger run.settings.limits window all_read
+        larger_all = larger_more run.settings.limits window found_none more larger
+
+        past_larger : WantsMore (limits_of far) all_read → IsPast new all_read
+        past_larger wants =
+            let by = way_seeks far window seeks in (
+              met other refused,
+              subst (λ (p : Option ℕ). GoesPast (packets_of run) run.settings.resync run.settings.limits (sizes_of h.gone.parts) (kept mid) all_read p) (sym by.0)
+                  (subst (λ (r : Resync). WantsMoreBy r run.settings.limits all_read) (sym by.1) (nowhere_all, larger_all, subst (λ (l : Limits). WantsMore l all_read) limits_far wants)),
+            )
+
+        came_larger : (res : Result Passed ReadFault) → PassAnswers [] all_read far new res → CameTo new all_read res
+        came_larger (Ok Over) p =
+            let by = way_seeks far window seeks in
+            let done = p.done in
+            let states = subst (λ (l : Limits). StatesSize l all_read p.size) limits_far p.states in
+            let same = size_once run.settings.limits all_read larger_all.0 p.size larger_all.1 states in
+            record {
+              by = PastWindow window;
+              size = p.size;
+              part = ((ahead.bytes ++ more, append_assoc (kept mid) ahead.bytes more), met other refused, (nowhere_all, states, omega (arith, same, larger_all.2), p.there));
+              passed = (by.1, refused_by None by.0);
+              kept_is = p.kept;
+              done_is = omega (arith, done, stays.done);
+              stopped_is = p.stopped;
+              ends = λ e. absurd (false≢true e);
+            }
+        came_larger (Ok CutOff) p = let done = p.1.done in (past_larger p.0, p.2, omega (arith, done, stays.done))
+        came_larger (Ok Not) p = absurd (((sizes_tell run.settings.limits all_read).1 larger_all.0 larger_all.1).0 (subst (λ (l : Limits). StatesNone l all_read) limits_far p.0))
+        came_larger (Err read.Device) p = inl (past_larger p.0)
+        came_larger (Err read.TooManyReads) p = (inl (past_larger p.0), p.2)
+        came_larger res p = absurd p
+
+      by_larger : (new : RawReader R A) (res : Result Passed ReadFault) → PassesLarger run.left run.calls far new window res → HasOnward new res
+      by_larger new res passes = elim passes [
+        | inl p ↦ elim p.1 [
+          | inl over ↦ (
+              let refused = subst (λ (s : Option ReadFault). IsRefusal s over.0) stays.stopped over.1 in
+              let all = over.2 [] (fresh far (some_far over.0 refused)) in
+              record {
+                rest = found_none ++ all.0.bytes;
+                reads = read_on gathering run.left run.calls run.settings.limits (kept mid) (λ before. WantsMore (limits_of far) (kept far ++ before)) mid.reader far.reader new.reader [] found_none (reads_ahead far window seeks ahead) all.0;
+                came_to = came_larger new (larger_there p.0) over.0 refused all.0.bytes (λ end. (all.0.settled end).0) res (subst (λ (l : List ℕ). PassAnswers [] (l ++ all.0.bytes) far new res) stays.kept all.1);
+              }
+              )
+          | inr not ↦ transport (λ i. HasOnward (sym not.2 i) (sym not.1 i)) (lost (λ whole larger.
+              let none = not.0 fault [] (stays.stopped ∙ stopped_last, whole) (fresh far (some_far fault (stopped_last, whole))) in
+              ((sizes_tell (limits_of far) (kept far)).1 p.0.0 p.0.1).0 none))
+        ]
+        | inr not ↦ transport (λ i. HasOnward (sym not.2 i) (sym not.1 i)) (lost (λ _ larger. not.0 (transport (λ i. IsLarger (sym limits_far i) window (sym stays.kept i)) larger)))
+      ]
+
+    module _ (new : RawReader R A) where
+      -- by what was found
+      by_found : (window : ℕ) (seeks : way ≡ ToNext window) (far : RawReader R A) (r : ReadsToGoOn window run.left run.calls mid far) (found : Result Found ReadFault) → Resyncs (kept mid ++ r.bytes) mid far window (effort_of window) found
+          → (res : Result Passed ReadFault) → PassesBy run.left run.calls far new window found res → HasOnward new res
+      by_found window seeks far r (Ok (At size)) g res p =
+          transport (λ i. HasOnward (sym p.1 i) (sym p.0 i)) (went far window seeks r (Ok Over) (came_there far window seeks r.bytes (λ end. (r.settled end).0) (λ end. (r.settled end).2) size g))
+      by_found window seeks far r (Ok Nowhere) g res p = by_larger window seeks far r g.1 (nowhere_is far window seeks r.bytes Nowhere refl g.0) new res p
+      by_found window seeks far r (Ok Spent) g res p = by_larger window seeks far r g.1 (nowhere_is far window seeks r.bytes Spent refl g.0) new res p
+      by_found window seeks far r (Err broken) g res p = transport (λ i. HasOnward (sym p.1 i) (sym p.0 i)) (went far window seeks r (Err broken) (came_failed far window seeks r.bytes broken g))
+
+      onward : HasKnownPackets run.packets run.packet mid (packets_of run) → (res : Result Passed ReadFault) → PassedBy new res → IsInput new res → HasOnward new res ⊎ ((res ≡ Ok Not) × (new ≡ mid) × IsUnsized)
       onward known res passing input = by_case way refl passing
         where
-          by_case : (b : Way) → way ≡ b → PassesOn run.left run.calls run.packet mid new b res → HasOnward res ⊎ ((res ≡ Ok Not) × (new ≡ mid) × IsUnsized)
-          by_case ToPacket is passed = inl (by_packet known is res passed (input is))
-          by_case BySize is passed = by_size is res passed
-          by_case (ToNext window) is passed = inl (by_seeking window is res passed)
+          by_case : (b : Way) → way ≡ b → PassesOn run.left run.calls run.packet mid new b res → HasOnward new res ⊎ ((res ≡ Ok Not) × (new ≡ mid) × IsUnsized)
+          by_case ToPacket is passed = inl (by_packet new known is res passed (input is))
+          by_case BySize is passed = by_size new is res passed
+          by_case (ToNext window) is passed = inl (by_found window is passed.mid passed.reads passed.found passed.goes res passed.passes)
 
       -- it was passed over, or tried to
-      some_onward : HasKnownPackets run.packets run.packet mid (packets_of run) → (res : Result Passed ReadFault) → (res ≡ Ok Not → ⊥) → PassedBy res → IsInput res → HasOnward res
+      some_onward : HasKnownPackets run.packets run.packet mid (packets_of run) → (res : Result Passed ReadFault) → (res ≡ Ok Not → ⊥) → PassedBy new res → IsInput new res → HasOnward new res
       some_onward known res some passing input = elim (onward known res passing input) [ inl all ↦ all | inr none ↦ absurd (some none.0) ]
 
       -- a message that is passed over has bytes
-      pub grows : HasKnownPackets run.packets run.packet mid (packets_of run) → PassedBy (Ok Over) → IsInput (Ok Over) → (stopped_of new ≡ None) × (done_of mid < done_of new)
+      pub grows : HasKnownPackets run.packets run.packet mid (packets_of run) → PassedBy new (Ok Over) → IsInput new (Ok Over) → (stopped_of new ≡ None) × (done_of mid < done_of new)
       grows known passing input =
           let o = some_onward known (Ok Over) (λ e. cc) passing input in
           let c = o.came_to in
@@ -499,7 +592,7 @@ module _ {R A S : Type 0} {takes : S → S → List Placed → (told : List ℕ)
           (c.stopped_is, omega (arith, c.done_is, some))
 
       -- and so has what is there of one
-      pub not_less : HasKnownPackets run.packets run.packet mid (packets_of run) → PassedBy (Ok CutOff) → IsInput (Ok CutOff) → done_of mid ≤ done_of new
+      pub not_less : HasKnownPackets run.packets run.packet mid (packets_of run) → PassedBy new (Ok CutOff) → IsInput new (Ok CutOff) → done_of mid ≤ done_of new
       not_less known passing input = let done = (some_onward known (Ok CutOff) (λ e. cc) passing input).came_to.2 in omega (arith, done)
 
     module _ (text : List ℕ) (told : Due text) {s2 : S} (took : takes s1 s2 [] text) where
@@ -595,7 +688,10 @@ module _ {R A S : Type 0} {takes : S → S → List Placed → (told : List ℕ)
             by_outcome (Refused other) e ended = (
               (o.reads.bytes, sym o.reads.messages),
               (λ halt. absurd (false≢true (sym halt ∙ goes))),
-              λ _ whole. subst (λ (r : Resync). IsUnpassed (packets_of run) r run.settings.limits (sizes_of h.gone.parts) (kept mid) o.rest (IsAtEnd (run.left (source_of new)))) (sym c.2) (refused_by None c.1, nowhere),
+              λ _ whole.
+                  let same : fault ≡ other = cc in
+                  subst (λ (r : Resync). IsUnpassed (packets_of run) r run.settings.limits (sizes_of h.gone.parts) (kept mid) o.rest (IsAtEnd (run.left (source_of new)))) (sym c.2)
+                  (refused_by None c.1, nowhere, c.4 (subst (λ (f : Fault). is_truncated f.reason ≡ false) (sym same) whole)),
             )
 
         stays_by : (o : HasOnward new (Ok Not)) (outcome : CutOutcome) → IsOutcome run.settings.limits (kept mid) outcome → Some fault ≡ fault_at_end (kept mid) outcome

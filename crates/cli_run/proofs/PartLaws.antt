@@ -1,7 +1,8 @@
 -- Parts of an input that follow one another, what is told of them, and the messages among them.
 use Rattle.std.proofs.Common.{is_some, ◌≡◌, ◌⊎◌, ℕ, zero, suc, ◌+◌, ◌-◌, ◌<◌, ◌≤◌, Bool, true, false, List, [], ◌∷◌, ◌++◌, Option, None, Some, length, take, drop, refl, sym, ap, ◌∙◌, subst, arith, inl, inr, ◌||◌, append_assoc, append-nil, length-append, take-append-drop}
 use Rattle.std.proofs.Math.Path.{transport}
-use Rattle.std.proofs.lemmas.Bool.{false≢true}
+use Rattle.std.proofs.Math.Nat.{le-max_left, le-max_right}
+use Rattle.std.proofs.lemmas.Bool.{cases_lt, false≢true}
 use Rattle.std.proofs.lemmas.List.{drop-append-le, length-take, take-append-le}
 use Rattle.dbus_device.specs.Packets.{Packets}
 use Rattle.dbus_value_model.specs.declared.fault.Fault.{Fault}
@@ -13,14 +14,14 @@ use Rattle.dbus_resync.specs.declared.found.Found.{Found}
 use Rattle.dbus_resync.specs.declared.found.Found.TheVariants.{At}
 use Rattle.dbus_resync.proofs.DamagedLaws.{begins_inside}
 use Rattle.dbus_stream.specs.Cut.{BeginWith, CutMessage, CutOutcome, Ended, Unfinished, Refused}
-use Rattle.dbus_stream.specs.GoingOn.{Resumes}
+use Rattle.dbus_stream.specs.GoingOn.{Resumes, ahead_of}
 use Rattle.dbus_stream.specs.Next.{IsCutShort}
 use Rattle.dbus_stream.specs.CutEnds.{sizes}
 use Rattle.dbus_stream.proofs.FaultPackets.{refused_later}
 use Rattle.dbus_stream.proofs.SeekSteps.{led_inside}
-use Rattle.dbus_stream.proofs.SizeSteps.{one_size, size_some}
+use Rattle.dbus_stream.proofs.SizeSteps.{one_size, size_front, size_some}
 use Rattle.cli_options.specs.declared.settings.Settings.{Settings}
-use Rattle.cli_run.specs.Inputs.{ArePlaced, IsPlaced, IsPacketBefore, IsTimeBefore, Part, Whole, PassedOver, Placed, size_of, sizes_of, time_of, wholes, By, Stated, InPacket, Resumed, HasSize, IsFaultOf, IsLast, IsPart, BeginWithParts, ResumeIn, effort_of, is_to_end, reach_end}
+use Rattle.cli_run.specs.Inputs.{ArePlaced, IsPlaced, IsPacketBefore, IsTimeBefore, Part, Whole, PassedOver, Placed, size_of, sizes_of, time_of, wholes, By, Stated, InPacket, Resumed, PastWindow, BeginNowhere, IsLarger, HasSize, IsFaultOf, IsLast, IsPart, BeginWithParts, ResumeIn, effort_of, is_to_end, reach_end}
 use Rattle.cli_report.specs.Gathering.{IsPrefixTo}
 use Rattle.cli_run.specs.Output.{check_line, fault_line}
 use Rattle.cli_run.specs.Going.{AreTold, closing_line, passed_count, passed_sizes}
@@ -49,6 +50,7 @@ module _ (limits : Limits) where
   either_fault bytes kept fault (InPacket number) f = inl f
   either_fault bytes kept fault (Resumed window false) f = inl f
   either_fault bytes kept fault (Resumed window true) f = f
+  either_fault bytes kept fault (PastWindow window) f = inl f
 
   -- messages begin again among the bytes
   resumes_inside : (window : ℕ) (bytes : List ℕ) (size : ℕ) → ResumeIn limits window bytes (At size) → size ≤ length bytes
@@ -78,10 +80,38 @@ module _ (limits : Limits) where
   ]
   resumes_later window bytes (suc size) none r = omega arith
 
+  -- they begin again nowhere, whatever follows the window
+  pub nowhere_there : (window : ℕ) (bytes more : List ℕ) → window ≤ length bytes → BeginNowhere limits window bytes (Unit {0}) → BeginNowhere limits window (bytes ++ more) (Unit {0})
+  nowhere_there window bytes more wide b = record {
+    found = b.found;
+    nowhere = b.nowhere;
+    resumes = subst (λ (l : List ℕ). Resumes limits window (effort_of window) l b.found) (sym (window_more window bytes more wide)) b.resumes;
+    all = λ _. tt;
+  }
+
+  -- it is so of all of the input
+  pub nowhere_more : (window : ℕ) (rest more : List ℕ) (at_end : Type 0) → (at_end → more ≡ []) → BeginNowhere limits window rest at_end → BeginNowhere limits window (rest ++ more) (Unit {0})
+  nowhere_more window rest more at_end none b = elim (cases_lt (length rest) (ahead_of window)) [
+    | inl short ↦ subst (λ (l : List ℕ). BeginNowhere limits window l (Unit {0})) (sym (ap (λ (l : List ℕ). rest ++ l) (none (b.all short)) ∙ append-nil rest)) (record { found = b.found; nowhere = b.nowhere; resumes = b.resumes; all = λ _. tt })
+    | inr wide ↦ nowhere_there window rest more (omega (arith, wide, le-max_left window 16)) (record { found = b.found; nowhere = b.nowhere; resumes = b.resumes; all = λ _. tt })
+  ]
+
+  -- the message there is larger than the window, whatever follows
+  pub larger_more : (window : ℕ) (rest more : List ℕ) → IsLarger limits window rest → IsLarger limits window (rest ++ more)
+  larger_more window rest more l = (l.0, (one_size limits rest more l.0 l.0 l.1).0, l.2)
+
+  -- and so it is if it is not
+  pub not_larger : (window : ℕ) (rest more : List ℕ) (at_end : Type 0) → (at_end → more ≡ []) → BeginNowhere limits window rest at_end → (IsLarger limits window rest → ⊥) → IsLarger limits window (rest ++ more) → ⊥
+  not_larger window rest more at_end none b small l = elim (cases_lt (length rest) (ahead_of window)) [
+    | inl short ↦ small (subst (IsLarger limits window) (ap (λ (l : List ℕ). rest ++ l) (none (b.all short)) ∙ append-nil rest) l)
+    | inr wide ↦ small (l.0, size_front limits rest more l.0 (omega (arith, wide, le-max_right window 16)) l.1, l.2)
+  ]
+
   size_inside : (bytes kept : List ℕ) (by : By) (size : ℕ) → HasSize limits kept bytes by size → size ≤ length bytes
   size_inside bytes kept Stated size h = h.1
   size_inside bytes kept (InPacket number) size h = omega (arith, h.1)
   size_inside bytes kept (Resumed window to_end) size h = resumes_inside window bytes size h.0
+  size_inside bytes kept (PastWindow window) size h = h.3
 
   size_more : (bytes more kept : List ℕ) (by : By) (size : ℕ) → is_to_end by ≡ false → HasSize limits kept bytes by size → HasSize limits kept (bytes ++ more) by size
   size_more bytes more kept Stated size open_ h = ((one_size limits bytes more size size h.0).0, omega (arith, h.1, length-append bytes more))
@@ -91,18 +121,21 @@ module _ (limits : Limits) where
         subst (λ (l : List ℕ). Resumes limits window (effort_of window) l (At size)) (sym (window_more window bytes more wide)) h.0,
         λ _. omega (arith, wide, length-append bytes more),
       )
+  size_more bytes more kept (PastWindow window) size open_ h = (nowhere_there window bytes more (omega (arith, h.2, h.3)) h.0, (one_size limits bytes more size size h.1).0, h.2, omega (arith, h.3, length-append bytes more))
 
   fault_more : (bytes more kept : List ℕ) (fault : Fault) (by : By) → is_to_end by ≡ false → IsFaultOf limits kept bytes fault by → IsRefused limits kept fault
   fault_more bytes more kept fault Stated open_ f = f
   fault_more bytes more kept fault (InPacket number) open_ f = f
   fault_more bytes more kept fault (Resumed window false) open_ f = f
   fault_more bytes more kept fault (Resumed window true) open_ f = absurd (false≢true (sym open_))
+  fault_more bytes more kept fault (PastWindow window) open_ f = f
 
   pub is_fault_of : (bytes kept : List ℕ) (fault : Fault) (by : By) → IsRefused limits kept fault → IsFaultOf limits kept bytes fault by
   is_fault_of bytes kept fault Stated f = f
   is_fault_of bytes kept fault (InPacket number) f = f
   is_fault_of bytes kept fault (Resumed window false) f = f
   is_fault_of bytes kept fault (Resumed window true) f = inl f
+  is_fault_of bytes kept fault (PastWindow window) f = f
 
   -- what is refused, or what the input ends within, begins with no message
   pub none_begins : (bytes kept : List ℕ) (fault : Fault) (by : By) → IsPrefixTo kept bytes → IsFaultOf limits kept bytes fault by → BeginsWithNone limits bytes
@@ -116,6 +149,7 @@ module _ (limits : Limits) where
   part_some bytes kept fault Stated size p = let long = size_some limits bytes size p.2.0 in omega (arith, long)
   part_some bytes kept fault (InPacket number) size p = omega (arith, p.2.0, refused_later limits 0 kept fault (nothing_partial limits) p.1)
   part_some bytes kept fault (Resumed window to_end) size p = resumes_later window bytes size (none_begins bytes kept fault (Resumed window to_end) p.0 p.1) p.2.0
+  part_some bytes kept fault (PastWindow window) size p = let long = size_some limits bytes size p.2.1 in omega (arith, long)
 
   part_inside : (bytes : List ℕ) (part : Part) → IsPart limits bytes part → size_of part ≤ length bytes
   part_inside bytes (Whole item) p = (whole_inside limits bytes item.order item.message item.size p).1
@@ -137,6 +171,7 @@ module _ (limits : Limits) where
   reach_first (PassedOver kept fault (InPacket number) size) parts e = (refl, e)
   reach_first (PassedOver kept fault (Resumed window false) size) parts e = (refl, e)
   reach_first (PassedOver kept fault (Resumed window true) size) parts e = absurd (false≢true (sym e))
+  reach_first (PassedOver kept fault (PastWindow window) size) parts e = (refl, e)
 
   parts_open : (bytes : List ℕ) (parts : List Part) (rest more : List ℕ) → reach_end parts ≡ false → BeginWithParts limits bytes parts rest → BeginWithParts limits (bytes ++ more) parts (rest ++ more)
   parts_open bytes [] rest more open_ b = ap (λ l. l ++ more) b

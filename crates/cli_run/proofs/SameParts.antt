@@ -16,12 +16,10 @@ use Rattle.dbus_stream.specs.Cut.{CutMessage, CutOutcome, Ended, Unfinished, Ref
 use Rattle.dbus_resync.specs.declared.found.Found.{Found}
 use Rattle.dbus_resync.specs.declared.found.Found.TheVariants.{At}
 use Rattle.dbus_stream.specs.CutEnds.{fault_at_end, truncated}
-use Rattle.dbus_stream.specs.GoingOn.{Resumes}
 use Rattle.dbus_stream.specs.Next.{IsCutShort}
 use Rattle.dbus_stream.specs.Packed.{number_of as packed_number}
 use Rattle.dbus_stream.specs.Packets.{ShowsIn}
 use Rattle.dbus_stream.specs.PassingPackets.{AreOfNumber}
-use Rattle.dbus_stream.specs.StatedSizes.{StatesNone, WantsMore}
 use Rattle.dbus_stream.proofs.AheadSteps.{one_resumed}
 use Rattle.dbus_stream.proofs.FaultPackets.{partial_take, refused_later}
 use Rattle.dbus_stream.proofs.SizeSteps.{none_more, size_once, sizes_tell}
@@ -30,8 +28,8 @@ use Rattle.cli_run.specs.Going.{passed_count}
 use Rattle.cli_options.specs.declared.resync.Resync.{Resync}
 use Rattle.cli_options.specs.declared.resync.Resync.TheVariants.{Off, Within}
 use Rattle.cli_options.specs.declared.settings.Settings.{Settings}
-use Rattle.cli_run.specs.Inputs.{BeginNowhere, BeginWithParts, By, GoesPast, HasSize, InPacket, IsCutUnpassed, IsFaultOf, IsLast, IsPart, IsPassedBy, IsUnpassed, Part, PassedOver, ResumeIn, Resumed, Stated, Whole, effort_of, is_there, is_to_end, sizes_of}
-use Rattle.cli_run.proofs.PartLaws.{either_fault, none_begins, window_more}
+use Rattle.cli_run.specs.Inputs.{BeginNowhere, BeginWithParts, By, GoesPast, HasSize, InPacket, IsCutUnpassed, IsFaultOf, IsLast, IsLarger, IsPart, IsPassedBy, IsUnpassed, Part, PassedOver, PastWindow, ResumeIn, Resumed, Stated, WantsMoreBy, Whole, effort_of, is_there, is_to_end, sizes_of}
+use Rattle.cli_run.proofs.PartLaws.{either_fault, none_begins, not_larger, nowhere_more}
 use Rattle.cli_run.specs.Refusals.{IsRefusedIn, number_of}
 use Rattle.dbus_stream.proofs.MessageEnds.{refused_reason}
 
@@ -133,6 +131,7 @@ module _ (limits : Limits) where
   fault_end w kept fault (InPacket number) f = inl f
   fault_end w kept fault (Resumed window false) f = inl f
   fault_end w kept fault (Resumed window true) f = elim f [ inl refused ↦ inl refused | inr cut ↦ inr (refl, cut) ]
+  fault_end w kept fault (PastWindow window) f = inl f
 
   -- what is refused is not what the input ends within
   not_cut : (w kept also : List ℕ) (fault other : Fault) → IsPrefixTo kept w → IsRefused limits kept fault → (also ≡ w) × IsCutShort limits also other → ⊥
@@ -214,12 +213,24 @@ module _ (limits : Limits) (all : Packets) (resync : Resync) (offset : ℕ) wher
   one_resume : (window : ℕ) (w : List ℕ) (found other : Found) → ResumeIn limits window w found → ResumeIn limits window w other → found ≡ other
   one_resume window w found other r s = one_resumed limits window (effort_of window) (take window w) found other r s
 
+  -- where they begin again nowhere, they do not begin again
+  not_nowhere : (window : ℕ) (w : List ℕ) (n : ℕ) → BeginNowhere limits window w (Unit {0}) → ResumeIn limits window w (At n) → ⊥
+  not_nowhere window w n none r =
+      let same : none.found ≡ At n = one_resume window w none.found (At n) none.resumes r in
+      false≢true (sym none.nowhere ∙ ap is_there same)
+
+  not_both_ways : (w : List ℕ) (window wide n : ℕ) → Within window ≡ Within wide → ResumeIn limits window w (At n) → BeginNowhere limits wide w (Unit {0}) → ⊥
+  not_both_ways w window wide n both r none =
+      let same : window ≡ wide = cc in
+      not_nowhere wide w n none (subst (λ k. ResumeIn limits k w (At n)) same r)
+
   -- two that are passed over have one size
   pub same_size : (w kept also : List ℕ) (fault other : Fault) (by from : By) (n m : ℕ) → IsPart limits w (PassedOver kept fault by n) → IsPart limits w (PassedOver also other from m)
       → IsPassedBy (Some all) resync limits offset kept by n → IsPassedBy (Some all) resync limits offset also from m → n ≡ m
   same_size w kept also fault other Stated Stated n m x y p q = size_once limits w m n y.2.0 x.2.0
   same_size w kept also fault other Stated (InPacket number) n m x y p q = absurd (other_packet w also kept other fault number y.0 x.0 y.1 (inl x.1) q.0 p.1)
   same_size w kept also fault other Stated (Resumed window to_end) n m x y p q = absurd (let both = sym p.0 ∙ q.0 in cc)
+  same_size w kept also fault other Stated (PastWindow window) n m x y p q = absurd (let both = sym p.0 ∙ q.0 in cc)
   same_size w kept also fault other (InPacket number) Stated n m x y p q = absurd (other_packet w kept also fault other number x.0 y.0 x.1 (inl y.1) p.0 q.1)
   same_size w kept also fault other (InPacket number) (InPacket second) n m x y p q =
       let both : Some number ≡ Some second = one_packet limits all offset w kept also fault other (Some number) (Some second) x.0 y.0 x.1 y.1 p.0 q.0 in
@@ -227,6 +238,7 @@ module _ (limits : Limits) (all : Packets) (resync : Resync) (offset : ℕ) wher
       one_in_packet w kept also fault other number n m x (subst (λ k. IsPart limits w (PassedOver also other (InPacket k) m)) same y) p (subst (λ k. IsPassedBy (Some all) resync limits offset also (InPacket k) m) same q)
   same_size w kept also fault other (InPacket number) (Resumed window to_end) n m x y p q =
       absurd (other_packet w kept also fault other number x.0 y.0 x.1 (either_fault limits w also other (Resumed window to_end) y.1) p.0 q.1)
+  same_size w kept also fault other (InPacket number) (PastWindow window) n m x y p q = absurd (other_packet w kept also fault other number x.0 y.0 x.1 (inl y.1) p.0 q.1)
   same_size w kept also fault other (Resumed window to_end) Stated n m x y p q = absurd (let both = sym p.0 ∙ q.0 in cc)
   same_size w kept also fault other (Resumed window to_end) (InPacket number) n m x y p q =
       absurd (other_packet w also kept other fault number y.0 x.0 y.1 (either_fault limits w kept fault (Resumed window to_end) x.1) q.0 p.1)
@@ -235,30 +247,29 @@ module _ (limits : Limits) (all : Packets) (resync : Resync) (offset : ℕ) wher
       let same : wide ≡ window = cc in
       let one : At n ≡ At m = one_resume window w (At n) (At m) x.2.0 (subst (λ k. ResumeIn limits k w (At m)) same y.2.0) in
       cc
+  same_size w kept also fault other (Resumed window to_end) (PastWindow wide) n m x y p q = absurd (not_both_ways w window wide n (sym p.0 ∙ q.0) x.2.0 y.2.0)
+  same_size w kept also fault other (PastWindow window) Stated n m x y p q = absurd (let both = sym p.0 ∙ q.0 in cc)
+  same_size w kept also fault other (PastWindow window) (InPacket number) n m x y p q = absurd (other_packet w also kept other fault number y.0 x.0 y.1 (inl x.1) q.0 p.1)
+  same_size w kept also fault other (PastWindow window) (Resumed wide to_end) n m x y p q = absurd (not_both_ways w wide window m (sym q.0 ∙ p.0) y.2.0 x.2.0)
+  same_size w kept also fault other (PastWindow window) (PastWindow wide) n m x y p q = size_once limits w m n y.2.1 x.2.1
 
   -- nor does one end that goes on to the end of the input
   not_past : (w kept also : List ℕ) (fault other : Fault) (number n : ℕ) → IsPrefixTo kept w → IsPrefixTo also w → IsRefused limits kept fault → IsRefused limits also other
       → IsRefusedIn (Some all) limits offset kept (Some number) → GoesPast (Some all) resync limits offset kept w (Some number) → IsPassedBy (Some all) resync limits offset also (InPacket number) n → HasSize limits also w (InPacket number) n → ⊥
   not_past w kept also fault other number n x y one too s past p h = p.2 (in_packet_from w kept also fault other number (length w) n x y one too s past h.0 h.1)
 
-  -- where they begin again nowhere, they do not begin again
-  not_nowhere : (window : ℕ) (w : List ℕ) (n : ℕ) → BeginNowhere limits window w (Unit {0}) → ResumeIn limits window w (At n) → ⊥
-  not_nowhere window w n none r =
-      let same : none.found ≡ At n = one_resume window w none.found (At n) none.resumes r in
-      false≢true (sym none.nowhere ∙ ap is_there same)
-
   -- one that states no size does not go on to the end of the input by that
   not_stuck : (w kept also : List ℕ) (fault : Fault) (by : Option ℕ) → IsPrefixTo kept w → IsPrefixTo also w → IsRefused limits kept fault → IsRefused limits also fault → IsStuck limits resync offset (Some all) (Some by) kept w → IsStuck limits resync offset (Some all) None also w → ⊥
   not_stuck w kept also fault by x y one too s t = by_resync resync refl t
     where
-      past : (also_in : IsRefusedIn (Some all) limits offset also None) → (resync ≡ Off) × WantsMore limits w
+      past : (also_in : IsRefusedIn (Some all) limits offset also None) → WantsMoreBy resync limits w
       past also_in =
           let same : by ≡ None = one_packet limits all offset w kept also fault fault by None x y one too s.1 also_in in
           subst (λ b. GoesPast (Some all) resync limits offset kept w b) same s.0
 
       by_resync : (r : Resync) → resync ≡ r → IsUnpassed (Some all) r limits offset also w (Unit {0}) → ⊥
-      by_resync Off is t = (sizes_tell limits w).0 t.1 (past t.0).1
-      by_resync (Within window) is t = let off = sym is ∙ (past t.0).0 in absurd cc
+      by_resync Off is t = (sizes_tell limits w).0 t.1 (subst (λ (r : Resync). WantsMoreBy r limits w) is (past t.0))
+      by_resync (Within window) is t = t.2 (subst (λ (r : Resync). WantsMoreBy r limits w) is (past t.0)).1
 
   -- a message that is refused, and ends a run, is not passed over
   stuck_part : (cut : Option (Option ℕ)) (w kept also : List ℕ) (fault other : Fault) (by : By) (n : ℕ) → IsPrefixTo kept w → IsRefused limits kept fault → IsRefused limits also other → IsStuck limits resync offset (Some all) cut kept w
@@ -269,6 +280,9 @@ module _ (limits : Limits) (all : Packets) (resync : Resync) (offset : ℕ) wher
   stuck_part None w kept also fault other (Resumed window to_end) n x one too s p h =
       let t = subst (λ (r : Resync). IsUnpassed (Some all) r limits offset kept w (Unit {0})) p.0 s in
       not_nowhere window w n t.1 h.2.0
+  stuck_part None w kept also fault other (PastWindow window) n x one too s p h =
+      let t = subst (λ (r : Resync). IsUnpassed (Some all) r limits offset kept w (Unit {0})) p.0 s in
+      t.2 (n, h.2.1, h.2.2)
   stuck_part None w kept also fault other (InPacket number) n x one too s p h = other_packet w also kept other fault number h.0 x too (inl one) p.0 (in_none resync s)
     where
       in_none : (r : Resync) → IsUnpassed (Some all) r limits offset kept w (Unit {0}) → IsRefusedIn (Some all) limits offset kept None
@@ -277,11 +291,15 @@ module _ (limits : Limits) (all : Packets) (resync : Resync) (offset : ℕ) wher
   stuck_part (Some from) w kept also fault other Stated n x one too s p h =
       let same : from ≡ None = one_packet limits all offset w kept also fault other from None x h.0 one too s.1 p.1 in
       let past = subst (λ b. GoesPast (Some all) resync limits offset kept w b) same s.0 in
-      ((sizes_tell limits w).1 n h.2.0).1 h.2.1 past.1
+      ((sizes_tell limits w).1 n h.2.0).1 h.2.1 (subst (λ (r : Resync). WantsMoreBy r limits w) p.0 past)
   stuck_part (Some from) w kept also fault other (Resumed window to_end) n x one too s p h =
       let same : from ≡ None = one_packet limits all offset w kept also fault other from None x h.0 one too s.1 p.1 in
       let past = subst (λ b. GoesPast (Some all) resync limits offset kept w b) same s.0 in
-      absurd (let both = sym past.0 ∙ p.0 in cc)
+      not_nowhere window w n (subst (λ (r : Resync). WantsMoreBy r limits w) p.0 past).0 h.2.0
+  stuck_part (Some from) w kept also fault other (PastWindow window) n x one too s p h =
+      let same : from ≡ None = one_packet limits all offset w kept also fault other from None x h.0 one too s.1 p.1 in
+      let past = subst (λ b. GoesPast (Some all) resync limits offset kept w b) same s.0 in
+      ((sizes_tell limits w).1 n h.2.1).1 h.2.3 (subst (λ (r : Resync). WantsMoreBy r limits w) p.0 past).2
   stuck_part (Some from) w kept also fault other (InPacket number) n x one too s p h =
       let same : from ≡ Some number = one_packet limits all offset w kept also fault other from (Some number) x h.0 one too s.1 p.0 in
       not_past w kept also fault other number n x h.0 one too (subst (λ b. IsRefusedIn (Some all) limits offset kept b) same s.1) (subst (λ b. GoesPast (Some all) resync limits offset kept w b) same s.0) p h.2
@@ -291,6 +309,7 @@ module _ (limits : Limits) (all : Packets) (resync : Resync) (offset : ℕ) wher
       → IsPart limits w (PassedOver also other by n) → ⊥
   cut_part w kept also other Stated n x cut end s p h = false≢true end
   cut_part w kept also other (InPacket number) n x cut end s p h = false≢true end
+  cut_part w kept also other (PastWindow window) n x cut end s p h = false≢true end
   cut_part w kept also other (Resumed window to_end) n x cut end s p h =
       let t = subst (λ (r : Resync). IsCutUnpassed (Some all) r limits offset kept w (Unit {0})) p.0 s in
       let there = subst (λ (l : List ℕ). IsRefusedIn (Some all) limits offset l None) (cut.0 ∙ sym x) p.1 in
@@ -447,28 +466,15 @@ module _ (limits : Limits) where
       ]
 
   -- it is so of all of the input
-  nowhere_more : (window : ℕ) (rest more : List ℕ) (at_end : Type 0) → (at_end → more ≡ []) → BeginNowhere limits window rest at_end → BeginNowhere limits window (rest ++ more) (Unit {0})
-  nowhere_more window rest more at_end none b =
-      let same : take window (rest ++ more) ≡ take window rest = elim (cases_lt (length rest) window) [
-        | inl short ↦ ap (take window) (ap (λ (l : List ℕ). rest ++ l) (none (b.all short)) ∙ append-nil rest)
-        | inr wide ↦ window_more window rest more wide
-      ] in
-      record {
-        found = b.found;
-        nowhere = b.nowhere;
-        resumes = subst (λ (l : List ℕ). Resumes limits window (effort_of window) l b.found) (sym same) b.resumes;
-        all = λ _. tt;
-      }
-
   unpassed : (packets : Option Packets) (resync : Resync) (offset : ℕ) (kept rest more : List ℕ) (at_end : Type 0) → (at_end → more ≡ []) → 1 ≤ length rest → IsUnpassed packets resync limits offset kept rest at_end
       → IsUnpassed packets resync limits offset kept (rest ++ more) (Unit {0})
   unpassed packets Off offset kept rest more at_end none some u = (u.0, none_more limits rest more some u.1)
-  unpassed packets (Within window) offset kept rest more at_end none some u = (u.0, nowhere_more window rest more at_end none u.1)
+  unpassed packets (Within window) offset kept rest more at_end none some u = (u.0, nowhere_more limits window rest more at_end none u.1, not_larger limits window rest more at_end none u.1 u.2)
 
   cut_unpassed : (packets : Option Packets) (resync : Resync) (offset : ℕ) (kept rest more : List ℕ) (at_end : Type 0) → (at_end → more ≡ []) → IsCutUnpassed packets resync limits offset kept rest at_end
       → IsCutUnpassed packets resync limits offset kept (rest ++ more) (Unit {0})
   cut_unpassed packets Off offset kept rest more at_end none u = tt
-  cut_unpassed packets (Within window) offset kept rest more at_end none u = (u.0, u.1, λ is. nowhere_more window rest more at_end none (u.2 is))
+  cut_unpassed packets (Within window) offset kept rest more at_end none u = (u.0, u.1, λ is. nowhere_more limits window rest more at_end none (u.2 is))
 
   pub ends_here : (packets : Option Packets) (cut : Option (Option ℕ)) (how : Settings) (offset : ℕ) (kept rest more : List ℕ) (outcome : CutOutcome) (at_end : Type 0) → (at_end → more ≡ []) → IsBytes (rest ++ more)
       → IsOutcome limits kept outcome → IsLast packets cut how limits offset kept rest outcome at_end → EndsHere packets cut how offset (rest ++ more) outcome × (fault_at_end kept outcome ≡ fault_at_end (rest ++ more) outcome)

@@ -203,7 +203,7 @@ module _ (t : Taken) (settings : Settings) (most : ℕ) (is_check : Bool) where
   IsHalfPassed parts rest more = (kept : List ℕ) × (fault : Fault) × IsRefused settings.limits kept fault × (by : Option ℕ) × IsCutOff t.packets settings.resync settings.limits (sizes_of parts) kept rest by
       × (settings.keeps_going ≡ true) × IsToldLast t.packets settings (length parts + 1) (sizes_of parts) kept (Some fault) more
 
-  -- one was told, and it is looked for where messages begin again
+  -- one was told, and it is looked for where messages begin again, or passed over since that is nowhere
   abbrev pub IsSought : List Part → (rest more : List ℕ) → Type 0
   IsSought parts rest more = (kept : List ℕ) × IsPrefixTo kept rest × (fault : Fault) × TellsRest parts kept (Some fault) more × (settings.keeps_going ≡ true) × (window : ℕ) × (settings.resync ≡ Within window)
 

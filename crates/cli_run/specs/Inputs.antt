@@ -1,6 +1,6 @@
 -- What an input is made of: messages, and others that are refused and passed over: in a capture up
--- to the next packet, else by the size that their first sixteen bytes state, or up to where messages
--- begin again, if that is looked for. D-Bus Specification, "Message Format".
+-- to the next packet, else by the size that their first sixteen bytes state, or, if that is looked
+-- for, up to where messages begin again, and by the size only if that is nowhere. D-Bus Specification, "Message Format".
 use Rattle.std.specs.Prelude.{◌≡◌, ◌⊎◌, ℕ, ◌+◌, ◌*◌, ◌-◌, ◌<◌, ◌≤◌, Bool, true, false, ◌||◌, List, [], ◌∷◌, length, take, drop, map, Option, None, Some, is_some}
 use Rattle.dbus_device.specs.Packets.{Packets}
 use Rattle.dbus_device.specs.declared.packet.Packet.{Packet}
@@ -13,7 +13,7 @@ use Rattle.cli_options.specs.declared.resync.Resync.{Resync}
 use Rattle.cli_options.specs.declared.resync.Resync.TheVariants.{Off, Within}
 use Rattle.cli_options.specs.declared.settings.Settings.{Settings}
 use Rattle.dbus_stream.specs.Cut.{CutMessage, CutOutcome, Ended, Unfinished, Refused}
-use Rattle.dbus_stream.specs.GoingOn.{Resumes}
+use Rattle.dbus_stream.specs.GoingOn.{Resumes, ahead_of}
 use Rattle.dbus_stream.specs.Lasting.{is_truncated}
 use Rattle.dbus_stream.specs.Next.{IsCutShort}
 use Rattle.dbus_stream.specs.Packed.{IsOther}
@@ -24,12 +24,13 @@ use Rattle.cli_run.specs.Refusals.{IsRefusedIn}
 use Rattle.cli_run.specs.declared.place.MessagePlace.{MessagePlace}
 
 -- by what the size of a refused message is known: by its first sixteen bytes; by the next packet,
--- after that of its fault, of this number; or by where messages begin again within a window, and
--- whether the input ends there
+-- after that of its fault, of this number; by where messages begin again within a window, and
+-- whether the input ends there; or, if they begin again nowhere in that, by its first sixteen bytes
 pub data By : Type 0 where
   Stated : By
   InPacket : ℕ → By
   Resumed : ℕ → Bool → By
+  PastWindow : ℕ → By
 
 -- a part of an input: a message; or one that is refused and passed over, which has so many bytes,
 -- with those that were kept of the input from there on when it was refused
@@ -53,13 +54,31 @@ effort_of window = 16 * window
 abbrev pub ResumeIn : Limits → (window : ℕ) → List ℕ → Found → Type 0
 ResumeIn limits window bytes found = Resumes limits window (effort_of window) (take window bytes) found
 
+abbrev pub is_there : Found → Bool
+is_there (At offset) = true
+is_there found = false
+
+-- messages begin again nowhere in the window, and so many bytes are there as are looked ahead at,
+-- unless the input ends before
+pub record BeginNowhere (limits : Limits) (window : ℕ) (rest : List ℕ) (at_end : Type 0) : Type 0 where
+  pub found : Found
+  pub nowhere : is_there found ≡ false
+  pub resumes : ResumeIn limits window rest found
+  pub all : length rest < ahead_of window → at_end
+
+-- the message that the bytes begin with states that it is larger than the window
+abbrev pub IsLarger : Limits → (window : ℕ) → List ℕ → Type 0
+IsLarger limits window bytes = (size : ℕ) × StatesSize limits bytes size × (window < size)
+
 -- a refused message has this size: that which it states, and so many bytes are there; or, of a
 -- packet, that of more bytes than were kept, or as many, and others follow; or messages begin again
--- behind it, and all bytes of the window are there, unless the input ends there
+-- behind it, and all bytes of the window are there, unless the input ends there; or they begin again
+-- nowhere in the window, and it states this size, which is larger, and so many bytes are there
 abbrev pub HasSize : Limits → (kept bytes : List ℕ) → By → ℕ → Type 0
 HasSize limits kept bytes Stated size = StatesSize limits bytes size × (size ≤ length bytes)
 HasSize limits kept bytes (InPacket number) size = (length kept ≤ size) × (size < length bytes)
 HasSize limits kept bytes (Resumed window to_end) size = ResumeIn limits window bytes (At size) × (to_end ≡ false → window ≤ length bytes)
+HasSize limits kept bytes (PastWindow window) size = BeginNowhere limits window bytes (Unit {0}) × StatesSize limits bytes size × (window < size) × (size ≤ length bytes)
 
 -- it is refused for this; or the input ends within it, and messages begin again before
 abbrev pub IsFaultOf : Limits → (kept bytes : List ℕ) → Fault → By → Type 0
@@ -102,13 +121,20 @@ IsInOther (Some packets) number place = IsOther number (packets place)
 abbrev pub IsPassedBy : Option Packets → Resync → Limits → (offset : ℕ) → (kept : List ℕ) → By → (size : ℕ) → Type 0
 IsPassedBy packets resync limits offset kept Stated size = (resync ≡ Off) × IsRefusedIn packets limits offset kept None
 IsPassedBy packets resync limits offset kept (Resumed window to_end) size = (resync ≡ Within window) × IsRefusedIn packets limits offset kept None
+IsPassedBy packets resync limits offset kept (PastWindow window) size = (resync ≡ Within window) × IsRefusedIn packets limits offset kept None
 IsPassedBy packets resync limits offset kept (InPacket number) size =
     IsRefusedIn packets limits offset kept (Some number) × AreInPacket packets number (offset + length kept) (offset + size) × IsInOther packets number (offset + size)
 
--- a refused message goes on to the end of the rest: it states more bytes than there are, or does not
--- state its size yet, by which it is passed over; or all that follows is of the packet of its fault
+-- the size by which it is passed over is more than there is, or not stated yet; if it is looked for
+-- where messages begin again, it is the size of one larger than the window, in which that is nowhere
+abbrev pub WantsMoreBy : Resync → Limits → List ℕ → Type 0
+WantsMoreBy Off limits rest = WantsMore limits rest
+WantsMoreBy (Within window) limits rest = BeginNowhere limits window rest (Unit {0}) × IsLarger limits window rest × WantsMore limits rest
+
+-- a refused message goes on to the end of the rest: by the size by which it is passed over; or all
+-- that follows is of the packet of its fault
 abbrev pub GoesPast : Option Packets → Resync → Limits → (offset : ℕ) → (kept rest : List ℕ) → Option ℕ → Type 0
-GoesPast packets resync limits offset kept rest None = (resync ≡ Off) × WantsMore limits rest
+GoesPast packets resync limits offset kept rest None = WantsMoreBy resync limits rest
 GoesPast packets resync limits offset kept rest (Some number) = AreInPacket packets number (offset + length kept) (offset + length rest)
 
 -- so it does, and this is the packet of its fault, if that is of one
@@ -119,22 +145,12 @@ pub record IsCutOff (packets : Option Packets) (resync : Resync) (limits : Limit
 
 -- ---- what is not passed over
 
-abbrev pub is_there : Found → Bool
-is_there (At offset) = true
-is_there found = false
-
--- messages begin again nowhere in the window, of which fewer bytes are there only at the end
-pub record BeginNowhere (limits : Limits) (window : ℕ) (rest : List ℕ) (at_end : Type 0) : Type 0 where
-  pub found : Found
-  pub nowhere : is_there found ≡ false
-  pub resumes : ResumeIn limits window rest found
-  pub all : length rest < window → at_end
-
 -- a refused message is not passed over, though that is asked for: its fault is of no packet, and it
--- states no size within the limits, or messages begin again nowhere
+-- states no size within the limits, or messages begin again nowhere in the window and it states no
+-- size that is larger
 abbrev pub IsUnpassed : Option Packets → Resync → Limits → (offset : ℕ) → (kept rest : List ℕ) → Type 0 → Type 0
 IsUnpassed packets Off limits offset kept rest at_end = IsRefusedIn packets limits offset kept None × StatesNone limits rest
-IsUnpassed packets (Within window) limits offset kept rest at_end = IsRefusedIn packets limits offset kept None × BeginNowhere limits window rest at_end
+IsUnpassed packets (Within window) limits offset kept rest at_end = IsRefusedIn packets limits offset kept None × BeginNowhere limits window rest at_end × (IsLarger limits window rest → ⊥)
 
 -- nor is one that the input ends within: it came in a packet, or messages begin again nowhere
 abbrev pub IsCutUnpassed : Option Packets → Resync → Limits → (offset : ℕ) → (kept rest : List ℕ) → Type 0 → Type 0

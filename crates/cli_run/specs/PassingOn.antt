@@ -1,6 +1,7 @@
 -- How a run passes over a refused message: in a capture up to the next packet, else by the size that
--- it states, or up to where messages begin again, if that is looked for.
-use Rattle.std.specs.Prelude.{◌≡◌, ℕ, Bool, true, false, ◌++◌, List, Option, Some, is_some, Result, Ok, Err}
+-- it states, or, if that is looked for, up to where messages begin again, and by the size only if
+-- that is nowhere in the window and the size is larger.
+use Rattle.std.specs.Prelude.{◌≡◌, ◌⊎◌, ℕ, Bool, true, false, ◌++◌, List, Option, Some, is_some, Result, Ok, Err}
 use Rattle.dbus_device.specs.Packets.{Packets}
 use Rattle.dbus_device.specs.declared.packet.Packet.{Packet}
 use Rattle.dbus_resync.specs.declared.found.Found.{Found}
@@ -10,7 +11,7 @@ use Rattle.dbus_stream.specs.Lasting.{is_truncated}
 use Rattle.dbus_stream.specs.Packed.{number_of}
 use Rattle.dbus_stream.specs.Passing.{Passing}
 use Rattle.dbus_stream.specs.PassingPackets.{AreOfNumber, IsBeforeOther, PassesPacket}
-use Rattle.dbus_stream.specs.RawReading.{HasPackets, done_of, kept, read_of, source_of}
+use Rattle.dbus_stream.specs.RawReading.{HasPackets, done_of, kept, limits_of, read_of, source_of}
 use Rattle.dbus_stream.specs.declared.passed.Passed.{Passed}
 use Rattle.dbus_stream.specs.declared.passed.Passed.TheVariants.{Over, Not}
 use Rattle.dbus_stream.specs.declared.raw_reader.RawReader.{RawReader}
@@ -18,7 +19,7 @@ use Rattle.dbus_stream.specs.declared.read_fault.ReadFault.{ReadFault}
 use Rattle.cli_options.specs.declared.resync.Resync.{Resync}
 use Rattle.cli_options.specs.declared.resync.Resync.TheVariants.{Off, Within}
 use Rattle.cli_report.specs.declared.telling.RefusedMessage.{RefusedMessage}
-use Rattle.cli_run.specs.Inputs.{effort_of}
+use Rattle.cli_run.specs.Inputs.{IsLarger, effort_of}
 
 -- up to the next packet; by the size that it states; or up to where messages begin again in a window
 -- of so many bytes
@@ -38,19 +39,27 @@ way_by false is_cut (Within window) = ToNext window
 abbrev pub way_of : RefusedMessage → Resync → Way
 way_of refusal resync = way_by (is_some refusal.packet) (is_truncated refusal.fault.reason) resync
 
--- that messages begin again somewhere
-abbrev pub passed_by : Result Found ReadFault → Result Passed ReadFault
-passed_by (Ok (At offset)) = Ok Over
-passed_by (Ok found) = Ok Not
-passed_by (Err fault) = Err fault
+module _ {R A : Type 0} (left : R → Option (List ℕ)) (calls : R → ℕ) (old new : RawReader R A) where
+  -- a message that states that it is larger than the window is passed over by that size, and no other
+  abbrev pub PassesLarger : (window : ℕ) → Result Passed ReadFault → Type 0
+  PassesLarger window result = (IsLarger (limits_of old) window (kept old) × Passing left calls old new result)
+      ⊎ ((IsLarger (limits_of old) window (kept old) → ⊥) × (result ≡ Ok Not) × (new ≡ old))
+
+  -- by what was found of where messages begin again: it was gone on there, or that is nowhere
+  abbrev pub PassesBy : (window : ℕ) → Result Found ReadFault → Result Passed ReadFault → Type 0
+  PassesBy window (Ok (At offset)) result = (result ≡ Ok Over) × (new ≡ old)
+  PassesBy window (Ok found) result = PassesLarger window result
+  PassesBy window (Err fault) result = (result ≡ Err fault) × (new ≡ old)
 
 module _ {R A : Type 0} (left : R → Option (List ℕ)) (calls : R → ℕ) (packet : R → Option Packet) (old new : RawReader R A) where
-  -- a call that goes on where messages begin again
+  -- calls that go on where messages begin again, or else by the size. mid is the reader after the
+  -- first of them
   pub record Resyncing (window : ℕ) (result : Result Passed ReadFault) : Type 0 where
+    pub mid : RawReader R A
     pub found : Result Found ReadFault
-    pub passed : result ≡ passed_by found
-    pub reads : ReadsToGoOn window left calls old new
-    pub goes : Resyncs (kept old ++ reads.bytes) old new window (effort_of window) found
+    pub reads : ReadsToGoOn window left calls old mid
+    pub goes : Resyncs (kept old ++ reads.bytes) old mid window (effort_of window) found
+    pub passes : PassesBy left calls mid new window found result
 
   abbrev pub PassesOn : Way → Result Passed ReadFault → Type 0
   PassesOn ToPacket result = PassesPacket left calls packet old new result

@@ -7,7 +7,7 @@ ghost use Rattle.dbus_stream.specs.Next.{DeviceCounts};
 ghost use Rattle.dbus_stream.specs.RawReading.{IsNewReader, KeepsPackets, kept, most_reads_of, source_of, stopped_of};
 ghost use Rattle.cli_report.specs.Devices.{reading};
 ghost use Rattle.cli_run.specs.Going.{Closes, PassesAll, cause_of, IsTold};
-ghost use Rattle.cli_run.specs.PassingOn.{PassesInPacket, PassesOn, ToPacket, passed_by, way_of};
+ghost use Rattle.cli_run.specs.PassingOn.{PassesInPacket, PassesLarger, PassesOn, Resyncing, ToPacket, way_of};
 ghost use Rattle.cli_run.specs.Told.{TellsStop};
 ghost use Rattle.cli_run.specs.Visiting.{Tells};
 
@@ -139,10 +139,52 @@ fn pass<R: Source, A: Allocator + Copy>(
     }
     match resync {
         Resync::Off => messages.pass_over(),
-        Resync::Within(window) => {
-            let window = window as usize;
-            passed_by(messages.resync(window, EFFORT * window))
-        }
+        Resync::Within(window) => seek(window, messages),
+    }
+}
+
+// Goes on where messages begin again in the window; or passes over a message that is larger, if that
+// is nowhere.
+fn seek<R: Source, A: Allocator + Copy>(
+    window: u32,
+    messages: &mut RawReader<R, A>,
+) -> Result<Passed, ReadFault>
+    requires { HasFault (stopped_of messages.old) }
+    ensures passes { Resyncing R.left R.calls R.packet messages.old messages.new window result }
+    ensures failed { DeviceCounts (R.failures (source_of messages.old))
+        (R.failures (source_of messages.new)) result }
+    ensures same_reference { R.reference (source_of messages.new) ≡
+        R.reference (source_of messages.old) }
+    ensures packets { IfOk result (λ _. KeepsPackets R.packets R.packet messages.old messages.new) }
+{
+    let looked = window as usize;
+    match messages.resync(looked, EFFORT * looked) {
+        Ok(Found::At(_offset)) => Ok(Passed::Over),
+        Ok(Found::Nowhere) => pass_larger(window, messages),
+        Ok(Found::Spent) => pass_larger(window, messages),
+        Err(fault) => Err(fault),
+    }
+}
+
+// Passes over the refused message by the size that it states, if that is larger than the window.
+fn pass_larger<R: Source, A: Allocator + Copy>(
+    window: u32,
+    messages: &mut RawReader<R, A>,
+) -> Result<Passed, ReadFault>
+    ensures passes { PassesLarger R.left R.calls messages.old messages.new window result }
+    ensures failed { DeviceCounts (R.failures (source_of messages.old))
+        (R.failures (source_of messages.new)) result }
+    ensures same_reference { R.reference (source_of messages.new) ≡
+        R.reference (source_of messages.old) }
+    ensures packets { KeepsPackets R.packets R.packet messages.old messages.new }
+{
+    let Some(size) = messages.stated_size() else {
+        return Ok(Passed::Not);
+    };
+    if size > u64::from(window) {
+        messages.pass_over()
+    } else {
+        Ok(Passed::Not)
     }
 }
 
@@ -151,18 +193,6 @@ fn is_truncated(fault: Fault) -> bool
     ensures { result ≡ is_truncated fault.reason }
 {
     matches!(fault.reason, Reason::Truncated)
-}
-
-// Whether messages begin again somewhere.
-fn passed_by(found: Result<Found, ReadFault>) -> Result<Passed, ReadFault>
-    ensures { result ≡ passed_by found }
-{
-    match found {
-        Ok(Found::At(_offset)) => Ok(Passed::Over),
-        Ok(Found::Nowhere) => Ok(Passed::Not),
-        Ok(Found::Spent) => Ok(Passed::Not),
-        Err(fault) => Err(fault),
-    }
 }
 
 // Has the visitor tell a refusal.

@@ -12,7 +12,7 @@ use Rattle.dbus_resync.specs.declared.found.Found.{Found}
 use Rattle.dbus_resync.specs.declared.found.Found.TheVariants.{At}
 use Rattle.dbus_resync.proofs.OneFound.{one_found}
 use Rattle.dbus_stream.specs.Gathering.{GathererState, gathering, fresh, under_way}
-use Rattle.dbus_stream.specs.GoingOn.{GoesBy, GoesTo, IsFoundIn, Looks, LooksAhead, OneResumed, Seeks, StaysThere}
+use Rattle.dbus_stream.specs.GoingOn.{ahead_of, GoesBy, GoesTo, IsFoundIn, Looks, LooksAhead, OneResumed, Seeks, StaysThere}
 use Rattle.dbus_stream.specs.LookingAhead.{HasAhead, IsFar, ReadsTo, StandsBefore}
 use Rattle.dbus_stream.specs.Next.{ReadsNothing, ReadsWhile}
 use Rattle.dbus_stream.specs.Packets.{KeepsPackets}
@@ -120,7 +120,7 @@ whole_part bytes count is =
 -- ---- a reader of raw messages
 
 -- among the bytes of the window
-pub found_in : (by_size : Bool) (limits : Limits) (window effort looked : ℕ) (ended : Bool) (w part : List ℕ) (found : Found) → part ≡ w → looked ≡ min window (length part) → (window ≤ length w) ⊎ (ended ≡ true)
+pub found_in : (by_size : Bool) (limits : Limits) (window effort looked : ℕ) (ended : Bool) (w part : List ℕ) (found : Found) → part ≡ w → looked ≡ min window (length part) → (ahead_of window ≤ length w) ⊎ (ended ≡ true)
     → Seeks by_size limits window effort (take looked part) found → IsFoundIn by_size limits window effort ended w found
 found_in by_size limits window effort looked ended w part found same size enough s =
     let all : take looked part ≡ take window w = ap (λ (n : ℕ). take n part) size ∙ (take_min window part ∙ ap (take window) same) in

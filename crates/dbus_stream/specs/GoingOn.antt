@@ -1,7 +1,7 @@
 -- How a reader goes on behind a message that is refused, where the next message begins. w is what
 -- was kept and then read, and bytes are as many of the input as the window has: fewer only if it
 -- ends there. D-Bus Specification, "Message Format".
-use Rattle.std.specs.Prelude.{◌≡◌, ◌⊎◌, ℕ, ◌+◌, ◌*◌, ◌<◌, ◌≤◌, List, [], ◌++◌, Bool, true, false, length, take, drop, Option, None, Some, Result, Ok, Err}
+use Rattle.std.specs.Prelude.{◌≡◌, ◌⊎◌, ℕ, ◌+◌, ◌*◌, ◌<◌, ◌≤◌, max, List, [], ◌++◌, Bool, true, false, length, take, drop, Option, None, Some, Result, Ok, Err}
 use Rattle.dbus_value_model.specs.declared.fault.Fault.{Fault}
 use Rattle.dbus_value_model.specs.declared.limits.Limits.{Limits}
 use Rattle.dbus_resync.specs.Search.{BeginsAt, Searches}
@@ -38,15 +38,20 @@ abbrev pub Seeks : (by_size : Bool) → Limits → (window effort : ℕ) → Lis
 Seeks true limits window effort bytes found = Resumes limits window effort bytes found
 Seeks false limits window effort bytes found = Searches limits bytes effort found
 
+-- so many bytes are looked ahead at: those of the window, and at least those that state a size
+abbrev pub ahead_of : (window : ℕ) → ℕ
+ahead_of window = max window 16
+
 -- this is found among so many bytes of the input as the window has: all are there, or it has ended
 abbrev pub IsFoundIn : (by_size : Bool) → Limits → (window effort : ℕ) → (ended : Bool) → List ℕ → Found → Type 0
-IsFoundIn by_size limits window effort ended w found = ((window ≤ length w) ⊎ (ended ≡ true)) × Seeks by_size limits window effort (take window w) found
+IsFoundIn by_size limits window effort ended w found = ((ahead_of window ≤ length w) ⊎ (ended ≡ true)) × Seeks by_size limits window effort (take window w) found
 
 module _ {R A : Type 0} where
-  -- what a call read: a read was made only if fewer bytes were there at first than the window has,
-  -- and fewer than twice as many then
+  -- what a call read: a read was made only if fewer bytes were there at first than are looked ahead
+  -- at, and fewer than twice as many then
   abbrev pub ReadsToGoOn : (window : ℕ) → (R → Option (List ℕ)) → (R → ℕ) → RawReader R A → RawReader R A → Type 0
-  ReadsToGoOn window left calls old new = next.ReadsWhile gathering (λ before. (length (raw.kept old) < window) × (length (raw.kept old ++ before) < 2 * window)) left calls old.reader new.reader
+  ReadsToGoOn window left calls old new =
+      next.ReadsWhile gathering (λ before. (length (raw.kept old) < ahead_of window) × (length (raw.kept old ++ before) < 2 * ahead_of window)) left calls old.reader new.reader
 
   module _ (w : List ℕ) (old new : RawReader R A) where
     -- so many bytes are dropped, and the fault is gone
@@ -79,20 +84,20 @@ module _ {R A : Type 0} where
     abbrev pub Resyncs : (window effort : ℕ) → Result Found ReadFault → Type 0
     Resyncs window effort result = GoesBy true window effort result
 
-    -- all that was kept and read is in the buffer, as far as the window goes
-    pub record LooksAhead (window : ℕ) : Type 0 where
+    -- all that was kept and read is in the buffer, and so many bytes, unless the input ends before
+    pub record LooksAhead (many : ℕ) : Type 0 where
       pub part : part_of new.reader ≡ w
       pub taker : new.reader.taker ≡ fresh (raw.limits_of old)
       pub done : raw.done_of new ≡ raw.done_of old
       pub stopped : raw.stopped_of new ≡ raw.stopped_of old
       pub nothing : new.refused.dropped ≡ 0
-      pub enough : (window ≤ length w) ⊎ (raw.is_ended new ≡ true)
+      pub enough : (many ≤ length w) ⊎ (raw.is_ended new ≡ true)
 
-    abbrev pub Looks : (window : ℕ) → Result (Unit {0}) ReadFault → Type 0
-    Looks window (Ok x) = LooksAhead window
-    Looks window (Err TooManyReads) = StaysThere × (raw.reads_of new ≡ raw.most_reads_of new) × (raw.is_ended new ≡ false)
-    Looks window (Err (Format fault)) = ⊥
-    Looks window (Err fault) = StaysThere
+    abbrev pub Looks : (many : ℕ) → Result (Unit {0}) ReadFault → Type 0
+    Looks many (Ok x) = LooksAhead many
+    Looks many (Err TooManyReads) = StaysThere × (raw.reads_of new ≡ raw.most_reads_of new) × (raw.is_ended new ≡ false)
+    Looks many (Err (Format fault)) = ⊥
+    Looks many (Err fault) = StaysThere
 
 -- ---- laws
 

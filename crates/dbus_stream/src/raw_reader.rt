@@ -1,5 +1,5 @@
 //! Raw messages from a source.
-ghost use Rattle.std.specs.Prelude.{◌≡◌, ◌⊎◌, ◌≤◌, ◌<◌, ◌+◌, ◌-◌, ◌*◌, ◌^◌, ◌++◌, [], length, slice_range, true, false, List, ℕ, IfOk};
+ghost use Rattle.std.specs.Prelude.{◌≡◌, ◌⊎◌, ◌≤◌, ◌<◌, ◌+◌, ◌-◌, ◌*◌, ◌^◌, ◌++◌, [], length, slice_range, true, false, List, ℕ, IfOk, IfSome};
 ghost use Rattle.dbus_stream.specs.Gathering.{under_way};
 ghost use Rattle.dbus_stream.specs.Lasting.{is_refusal, is_truncated};
 ghost use Rattle.dbus_stream.specs.Dropping.{AreInside, HasDropped};
@@ -49,13 +49,13 @@ pub struct RawReader<R, A: Allocator = Global> {
 
 impl<R: Source, A: Allocator + Copy> RawReader<R, A> {
     ghost use Rattle.std.specs.Prelude.{None, Some};
-    ghost use Rattle.dbus_stream.specs.GoingOn.{GoesBy, GoesOn, HasFault, Looks, ReadsToGoOn, Resyncs};
+    ghost use Rattle.dbus_stream.specs.GoingOn.{ahead_of, GoesBy, GoesOn, HasFault, Looks, ReadsToGoOn, Resyncs};
     ghost use Rattle.dbus_device.specs.Packets.{Packets};
     ghost use Rattle.dbus_stream.specs.Passing.{Passing, WasDropped};
     ghost use Rattle.dbus_stream.specs.PassingPackets.{AreOfNumber, IsBeforeOther, PassesPacket};
     ghost use Rattle.dbus_stream.specs.Packed.{number_of};
     ghost use Rattle.dbus_stream.specs.Reading.{part_of};
-    ghost use Rattle.dbus_stream.specs.StatedSizes.{StatesNone};
+    ghost use Rattle.dbus_stream.specs.StatedSizes.{StatesNone, StatesSize};
     ghost use Rattle.dbus_value_model.specs.Specification.{specification};
     ghost use Rattle.dbus_stream.specs.declared.read_fault.ReadFault.{ReadFault};
     ghost use Rattle.dbus_stream.specs.Next.{DeviceCounts};
@@ -304,8 +304,8 @@ impl<R: Source, A: Allocator + Copy> RawReader<R, A> {
     /// Goes on behind bytes that are no message, or those of an input that ends within one: at the
     /// least offset at which a whole message within the limits begins. It is looked for among the
     /// bytes that were kept and those that follow, as many in all as the window has, by
-    /// [`dbus_resync::first_message`] with this effort. If fewer are kept, more are read, up to
-    /// twice as many and one buffer. If a call of [`RawReader::pass_over`] has dropped bytes of
+    /// [`dbus_resync::first_message`] with this effort. If fewer are kept, or fewer than 16, more
+    /// are read, up to twice as many and one buffer. If a call of [`RawReader::pass_over`] has dropped bytes of
     /// the message, it is looked for behind them. It holds these bytes until they are given. D-Bus
     /// Specification, "Message Format".
     ///
@@ -477,10 +477,10 @@ impl<R: Source, A: Allocator + Copy> RawReader<R, A> {
     }
 
     // All that was kept is in the buffer then; and what is read, if these are fewer bytes than the
-    // window has. If it is not, all is kept.
+    // window has, or than state a size. If it is not, all is kept.
     fn look_ahead(&mut self, window: usize) -> Result<(), ReadFault>
         ensures looks { (r : ReadsToGoOn window R.left R.calls self.old self.new) ×
-            Looks (kept self.old ++ r.bytes) self.old self.new window result }
+            Looks (kept self.old ++ r.bytes) self.old self.new (ahead_of window) result }
         ensures failed { DeviceCounts (R.failures (source_of self.old))
             (R.failures (source_of self.new)) result }
         ensures same_reference { R.reference (source_of self.new) ≡
@@ -488,7 +488,8 @@ impl<R: Source, A: Allocator + Copy> RawReader<R, A> {
         ensures packets { packed_of self.new ≡ false →
             KeepsPackets R.packets R.packet self.old self.new }
     {
-        if self.is_there(window) {
+        let many = window.max(16);
+        if self.is_there(many) {
             self.refused = Refused::nothing();
             self.reader.taker.let_go();
             return Ok(());
@@ -497,7 +498,7 @@ impl<R: Source, A: Allocator + Copy> RawReader<R, A> {
             Ok(ahead) => ahead,
             Err(AllocError) => return Err(ReadFault::Memory),
         };
-        let far = far_enough(window, ahead.len());
+        let far = far_enough(many, ahead.len());
         self.refused = Refused::nothing();
         self.reader.taker.let_go();
         self.reader.drop_kept();
@@ -506,12 +507,12 @@ impl<R: Source, A: Allocator + Copy> RawReader<R, A> {
         looked
     }
 
-    // Whether all that is kept is in the buffer, and enough for the window.
-    fn is_there(&self, window: usize) -> bool
+    // Whether all that is kept is in the buffer, and so many bytes, unless the input ends before.
+    fn is_there(&self, many: usize) -> bool
         ensures { result ≡ true → (self.now.reader.held ≡ 0) ×
-            ((window ≤ length (part_of self.now.reader)) ⊎ (is_ended self.now ≡ true)) }
+            ((many ≤ length (part_of self.now.reader)) ⊎ (is_ended self.now ≡ true)) }
     {
-        self.reader.held == 0 && (self.reader.ended || window <= self.reader.part().len())
+        self.reader.held == 0 && (self.reader.ended || many <= self.reader.part().len())
     }
 
     // The bytes that are kept.
@@ -522,6 +523,42 @@ impl<R: Source, A: Allocator + Copy> RawReader<R, A> {
         bytes.extend_from_slice(self.reader.taker.under_way())?;
         bytes.extend_from_slice(self.reader.part())?;
         Ok(bytes)
+    }
+
+    /// The size that the bytes state that are kept, as [`RawReader::pass_over`] reads it: after
+    /// `Format`, that of the refused message. None if fewer than 16 are kept, or they state none
+    /// within the limits. D-Bus Specification, "Message Format".
+    ///
+    /// ```rust
+    /// use dbus_stream::{FromRead, Passed, RawReader, ReadFault};
+    ///
+    /// let mut reader = RawReader::new(alloc, FromRead::new(rt.stdin()));
+    /// for _ in 0..u64::MAX {
+    ///     match reader.advance() {
+    ///         Ok(Some(validated)) => println!(rt; "serial {}", validated.serial)?,
+    ///         Ok(None) => break,
+    ///         Err(ReadFault::Format(_)) => {
+    ///             if let Some(size) = reader.stated_size() {
+    ///                 println!(rt; "{size} bytes are passed over")?;
+    ///             }
+    ///             if reader.pass_over()? != Passed::Over {
+    ///                 break;
+    ///             }
+    ///         }
+    ///         Err(fault) => return Err(fault.into()),
+    ///     }
+    /// }
+    /// ```
+    pub fn stated_size(&self) -> Option<u64>
+        ensures states { IfSome result (λ size.
+            StatesSize (limits_of self.now) (kept self.now) size) }
+        ensures none { result ≡ None → (size : ℕ) →
+            StatesSize (limits_of self.now) (kept self.now) size → ⊥ }
+    {
+        let mut there = Refused::nothing();
+        there.drop_bytes(self.reader.taker.under_way());
+        there.drop_bytes(self.reader.part());
+        there.stated(self.reader.taker.limits())
     }
 
     // Whether what is there of the refused message states no size, whatever follows.
@@ -580,15 +617,15 @@ fn is_truncated(fault: Fault) -> bool
     matches!(fault.reason, Reason::Truncated)
 }
 
-// How many bytes are to be there: twice the window, if so many are there; none, if the window is
+// How many bytes are to be there if so many are looked ahead at: twice as many; none, if they are
 // there.
-fn far_enough(window: usize, there: usize) -> usize
-    ensures wide { there < window → window ≤ result }
-    ensures no_wider { result ≤ 2 * window }
-    ensures enough { window ≤ there → result ≡ 0 }
+fn far_enough(many: usize, there: usize) -> usize
+    ensures wide { there < many → many ≤ result }
+    ensures no_wider { result ≤ 2 * many }
+    ensures enough { many ≤ there → result ≡ 0 }
 {
-    if there < window {
-        window.saturating_mul(2)
+    if there < many {
+        many.saturating_mul(2)
     } else {
         0
     }

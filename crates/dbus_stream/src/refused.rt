@@ -1,11 +1,13 @@
 //! What was dropped of a refused message, and how many bytes it has.
-ghost use Rattle.std.specs.Prelude.{◌≡◌, ◌+◌, ◌<◌, ◌^◌, ◌++◌, ℕ, List, length};
+ghost use Rattle.std.specs.Prelude.{◌≡◌, ◌+◌, ◌<◌, ◌≤◌, ◌^◌, ◌++◌, ℕ, List, length, get_or, IfSome, None};
 ghost use Rattle.dbus_header.specs.MessageOutcomes.{IsPartial};
 ghost use Rattle.dbus_value_model.specs.declared.limits.Limits.{Limits};
+ghost use Rattle.dbus_message_model.specs.Messages.{order_byte};
 ghost use Rattle.dbus_stream.specs.Dropping.{AreInside, HasDropped, Sizes};
+ghost use Rattle.dbus_stream.specs.StatedSizes.{StatesNone, StatesSize};
 
 use dbus_message_model::order_named;
-use dbus_value_model::{Limits, padding_length};
+use dbus_value_model::{Limits, Order, padding_length};
 
 /// What was dropped of a refused message.
 #[derive(Clone, Copy)]
@@ -66,19 +68,48 @@ impl Refused {
         if self.dropped < 16 {
             return Size::Wanted;
         }
-        let fields = order.u32_at(&self.front, 12);
-        let body = order.u32_at(&self.front, 4);
-        if fields > limits.array {
+        let Some(size) = self.size_by(order, limits) else {
             return Size::Unstated;
-        }
-        let end = 16 + u64::from(fields);
-        let size = end + u64::from(padding_length(8, end)) + u64::from(body);
-        if size > u64::from(limits.message) {
-            return Size::Unstated;
-        }
+        };
         if size > self.dropped {
             return Size::Wanted;
         }
         Size::There(size)
+    }
+
+    /// The size that the bytes state that were dropped, if these are 16 and it is within the limits.
+    pub(crate) fn stated(&self, limits: Limits) -> Option<u64>
+        ensures states { IfSome result (λ size. (gone : List ℕ) → HasDropped self.now gone →
+            StatesSize limits gone size) }
+        ensures none { result ≡ None → (gone : List ℕ) → HasDropped self.now gone →
+            (size : ℕ) → StatesSize limits gone size → ⊥ }
+    {
+        if self.dropped < 16 {
+            return None;
+        }
+        let order = order_named(u32::from(self.front[0]))?;
+        self.size_by(order, limits)
+    }
+
+    // The same of 16 bytes and more in this order.
+    fn size_by(&self, order: Order, limits: Limits) -> Option<u64>
+        requires many { 16 ≤ self.now.dropped }
+        requires first { get_or self.now.front 0 0 ≡ order_byte order }
+        ensures states { IfSome result (λ size. (gone : List ℕ) → HasDropped self.now gone →
+            StatesSize limits gone size) }
+        ensures none { result ≡ None → (gone : List ℕ) → HasDropped self.now gone →
+            StatesNone limits gone }
+    {
+        let fields = order.u32_at(&self.front, 12);
+        let body = order.u32_at(&self.front, 4);
+        if fields > limits.array {
+            return None;
+        }
+        let end = 16 + u64::from(fields);
+        let size = end + u64::from(padding_length(8, end)) + u64::from(body);
+        if size > u64::from(limits.message) {
+            return None;
+        }
+        Some(size)
     }
 }

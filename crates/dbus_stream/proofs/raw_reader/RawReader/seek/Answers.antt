@@ -4,7 +4,7 @@ use Rattle.dbus_value_model.specs.declared.limits.Limits.{Limits}
 use Rattle.dbus_resync.specs.declared.found.Found.{Found}
 use Rattle.dbus_resync.specs.declared.found.Found.TheVariants.{At, Nowhere, Spent}
 use Rattle.dbus_stream.specs.Gathering.{GathererState, under_way}
-use Rattle.dbus_stream.specs.GoingOn.{IsFoundIn, Seeks}
+use Rattle.dbus_stream.specs.GoingOn.{ahead_of, IsFoundIn, Seeks}
 use Rattle.dbus_stream.specs.RawReading.{is_ended, kept, limits_of}
 use Rattle.dbus_stream.proofs.AheadSteps.{found_in, goes_reads, goes_to, stays_ahead}
 use Rattle.dbus_stream.proofs.PacketSteps.{still}
@@ -15,7 +15,7 @@ use Rattle.dbus_stream.proofs.raw_reader.RawReader.seek.Goals.{After-seek_in}
 pub returns-then-self-clause-goes : goal.returns-then-self-clause-goes
 returns-then-self-clause-goes g c =
     let l = c.in-Ok.ensures.looks in
-    let old = c.args.self.now in (l.0, stays_ahead (kept old ++ l.0.bytes) old c.look_ahead.new.self c.args.window l.1)
+    let old = c.args.self.now in (l.0, stays_ahead (kept old ++ l.0.bytes) old c.look_ahead.new.self (ahead_of c.args.window) l.1)
 
 -- what is found
 finds : (g : _) (c : After-seek_in g) (found : Found) → Seeks c.args.by_size c.limits-limits.result c.args.window c.args.effort (take c.min-looked.result c.part-part.result.now) found
@@ -68,10 +68,10 @@ returns-in-At-clause-goes g c =
     let inside = c.in-At.ensures.inside c.in-At.offset refl in
     let size = length-take c.min-looked.result a in
     let same = ap length (c.part-part.ensures ∙ l.1.part) in (
-      goes_reads g.R.Source.left g.R.Source.calls c.args.window old mid.reader _ l.0 (record { source = u.source; reads = u.reads; most_reads = u.most_reads; limits = u.limits; ended = u.ended; read = u.read; last = u.last; packed = u.packed }),
+      goes_reads g.R.Source.left g.R.Source.calls (ahead_of c.args.window) old mid.reader _ l.0 (record { source = u.source; reads = u.reads; most_reads = u.most_reads; limits = u.limits; ended = u.ended; read = u.read; last = u.last; packed = u.packed }),
       (
         subst (λ b. IsFoundIn c.args.by_size (limits_of old) c.args.window c.args.effort b w (At c.in-At.offset)) (sym u.ended) (finds g first (At c.in-At.offset) c.in-At.ensures.seeks),
-        goes_to c.args.window c.in-At.offset w old mid _ l.1 (omega (arith, inside, size, same)) d.buffers.left d.buffers.taker d.done refl,
+        goes_to (ahead_of c.args.window) c.in-At.offset w old mid _ l.1 (omega (arith, inside, size, same)) d.buffers.left d.buffers.taker d.done refl,
       ),
     )
 
@@ -88,7 +88,7 @@ returns-in-Nowhere-clause-goes g c =
       l.0,
       (
         finds g first Nowhere c.in-Nowhere.ensures.seeks,
-        stays_ahead (kept old ++ l.0.bytes) old c.look_ahead.new.self c.args.window l.1,
+        stays_ahead (kept old ++ l.0.bytes) old c.look_ahead.new.self (ahead_of c.args.window) l.1,
       ),
     )
 
@@ -100,6 +100,6 @@ returns-in-Spent-clause-goes g c =
       l.0,
       (
         finds g first Spent c.in-Spent.ensures.seeks,
-        stays_ahead (kept old ++ l.0.bytes) old c.look_ahead.new.self c.args.window l.1,
+        stays_ahead (kept old ++ l.0.bytes) old c.look_ahead.new.self (ahead_of c.args.window) l.1,
       ),
     )
