@@ -305,9 +305,9 @@ impl<R: Source, A: Allocator + Copy> RawReader<R, A> {
     /// least offset at which a whole message within the limits begins. It is looked for among the
     /// bytes that were kept and those that follow, as many in all as the window has, by
     /// [`dbus_resync::first_message`] with this effort. If fewer are kept, or fewer than 16, more
-    /// are read, up to twice as many and one buffer. If a call of [`RawReader::pass_over`] has dropped bytes of
-    /// the message, it is looked for behind them. It holds these bytes until they are given. D-Bus
-    /// Specification, "Message Format".
+    /// are read, up to twice as many and one buffer. If a call of [`RawReader::pass_over`] has
+    /// dropped bytes of the message, it is looked for behind them. It holds these bytes until they
+    /// are given. D-Bus Specification, "Message Format".
     ///
     /// `At`: the next call gives that message; the bytes before it are dropped, and
     /// [`RawReader::done`] counts them. `Nowhere`, `Spent`: none was found. All that was kept and
