@@ -8,17 +8,19 @@ use anyhow::{Result, bail};
 use dbus_message::{
     Elements, MessageView, ValueView, Values, copy_value, copy_values, stated_length,
 };
+use dbus_typed::body_as;
 use dbus_value::Value;
 use std::alloc::Global;
 use std::io::{self, Read};
 
 // A name, its old owner and its new one: an empty text is no owner.
-fn print_owners(rt: &HostRuntime, view: &MessageView) -> io::Result<()> {
-    for value in view.body() {
-        if let ValueView::Str(text) = value {
-            println!(rt; "owner {text}")?;
-        }
-    }
+fn print_owners(rt: &HostRuntime, view: &MessageView) -> Result<()> {
+    let Some((name, old, new)) = body_as::<(&str, &str, &str)>(view) else {
+        bail!("the body of NameOwnerChanged is not three texts");
+    };
+    println!(rt; "owner {name}")?;
+    println!(rt; "owner {old}")?;
+    println!(rt; "owner {new}")?;
     Ok(())
 }
 
