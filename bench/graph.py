@@ -9,6 +9,7 @@ import re
 import sys
 
 from crate_list import ROOT, libraries_below, read_crates
+from pages import write_or_check
 
 PAGE = ROOT / "docs" / "ARCHITECTURE.md"
 PICTURE = re.compile(r"(## Which crate uses which\n(?:.*\n)*?```text\n)(?:.*\n)*?(```\n)")
@@ -44,14 +45,8 @@ def picture():
 
 
 def main(*words):
-    old = PAGE.read_text()
-    new = PICTURE.sub(lambda it: it[1] + picture() + it[2], old)
-    if words != ("--check",):
-        PAGE.write_text(new)
-    elif new != old:
-        print("docs/ARCHITECTURE.md is not current: make graph writes which crate uses which", file=sys.stderr)
-        return 1
-    return 0
+    new = PICTURE.sub(lambda it: it[1] + picture() + it[2], PAGE.read_text())
+    return write_or_check(PAGE, new, words, "docs/ARCHITECTURE.md is not current: make graph writes which crate uses which")
 
 
 if __name__ == "__main__":

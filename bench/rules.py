@@ -10,6 +10,7 @@ import sys
 import textwrap
 
 from crate_list import ROOT
+from pages import write_or_check
 
 PAGE = ROOT / "man" / "dbus-wire.1"
 REASONS = "dbus_value_model/specs/FaultTexts.antt"
@@ -86,16 +87,10 @@ def part():
 
 
 def main(*words):
-    old = PAGE.read_text()
-    new, count = PART.subn(lambda _: part(), old)
+    new, count = PART.subn(lambda _: part(), PAGE.read_text())
     if count != 1:
         sys.exit(f"{PAGE} has not one part Rules")
-    if words != ("--check",):
-        PAGE.write_text(new)
-    elif new != old:
-        print("man/dbus-wire.1 has other rules than the definitions: make definitions writes them", file=sys.stderr)
-        return 1
-    return 0
+    return write_or_check(PAGE, new, words, "man/dbus-wire.1 has other rules than the definitions: make definitions writes them")
 
 
 if __name__ == "__main__":

@@ -9,6 +9,7 @@ import re
 import sys
 
 from crate_list import ROOT
+from pages import write_or_check
 
 PAGE = ROOT / "docs" / "WORKED-EXAMPLES.md"
 VALUES = "dbus_value_model/proofs/WorkedExamples.antt"
@@ -56,17 +57,11 @@ def table(head, rows):
 
 
 def main(*words):
-    old = PAGE.read_text()
-    front = old[: old.index("\n| value")]
+    front, _, _ = PAGE.read_text().partition("\n| value")
     values = table("| value | its bytes | section |", (value_row(*it) for it in examples(VALUES)))
     messages = table("| what | bytes | what the definitions say | section |", (message_row(*it) for it in examples(MESSAGES)))
     new = f"{front}\n{values}\n{messages}"
-    if words != ("--check",):
-        PAGE.write_text(new)
-    elif new != old:
-        print("docs/WORKED-EXAMPLES.md is not current: make definitions writes it", file=sys.stderr)
-        return 1
-    return 0
+    return write_or_check(PAGE, new, words, "docs/WORKED-EXAMPLES.md is not current: make definitions writes it")
 
 
 if __name__ == "__main__":

@@ -1,6 +1,7 @@
 #!/usr/bin/env python3
-"""refused_lines.py PROGRAM [LINES [SEED]]: reads changed lines of JSON by itself, and says where `dbus-wire encode --keep-going` tells another reason or
-column. The lines are those of json.txt, of encode.txt and of the samples, changed at random. The exit status is 1 if something differs.
+"""refused_lines.py PROGRAM [LINES [SEED [WORD..]]]: reads changed lines of JSON by itself, and says where `PROGRAM encode --keep-going`, or what the
+words run, tells another reason or column. The lines are those of json.txt, of encode.txt and of the samples, changed at random. The exit status is 1 if
+something differs.
 
 What a line spells is as the manual page of dbus-wire describes it.
 """
@@ -467,14 +468,14 @@ def lines_of(program):
         yield from (it for it in read_parts(row[2], DATA).split(b"\n")[:40] if len(it) < 2000)
 
 
-def main(program, count=10000, seed=1):
+def main(program, count=10000, seed=1, *words):
     dice = random.Random(int(seed))
     some = [it for it in lines_of(program) if it.strip()]
     lines = [changed(dice.choice(some), dice) for _ in range(int(count))]
     numbers = itertools.count(1)
     found = [refusal(it, next(numbers)) if it.strip(SPACE) else None for it in lines]
     wanted = [f"refused at line {n}, column {it[0]}: {it[1]}" for n, it in enumerate(found, 1) if it]
-    ran = subprocess.run([program, "encode", "--keep-going"], input=b"\n".join(lines) + b"\n", capture_output=True)
+    ran = subprocess.run(words or [program, "encode", "--keep-going"], input=b"\n".join(lines) + b"\n", capture_output=True)
     told = ran.stderr.decode().split("\n")[:-1]
     wrong = [f"{a}\n{b}\n{lines[int(re.search('[0-9]+', a)[0]) - 1]}" for a, b in zip(wanted, told) if a != b]
     reasons = collections.Counter(it[1] for it in found if it)

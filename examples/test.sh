@@ -48,7 +48,7 @@ echo '#include <dbus_wire.h>' | "$CXX" $flags -x c++ -fsyntax-only -
 "$CC" -std=c99 -O2 $flags -o "$built/check" "$here/c/check.c" -L"$built" -ldbus_wire
 "$CC" -std=c99 -O2 $flags -o "$built/check_shared" "$here/c/check.c" "$shared" -Wl,-rpath,"$(cd "$(dirname "$shared")" && pwd)"
 "$CC" $sanitized -o "$built/check_sanitized" "$here/c/check.c" -L"$built" -ldbus_wire
-for name in list json swap rules build signal room habits texts lines watch pieces threads sharing explain; do
+for name in list json encode swap rules build signal room habits texts lines watch pieces threads sharing explain; do
 	"$CC" $sanitized -pthread -o "$built/$name" "$here/c/$name.c" -L"$built" -ldbus_wire
 	"$CC" -std=c99 -O2 -g $flags -pthread -o "$built/plain_$name" "$here/c/$name.c" -L"$built" -ldbus_wire
 done
@@ -60,15 +60,16 @@ done
 "$CC" $sanitized -o "$built/own_heap" "$here/c/rules.c" "$here/../packaging/heap.c" -L"$built" -ldbus_wire
 "${tools}nm" "$built/own_heap" | grep -q ' T dbus_wire_alloc'
 $run "$built/own_heap" "member='NameAcquired'" < "$here/../samples/session.dbus" > "$built/said"
-# Each growth is refused in turn: a caller ends by a status of its own, and has written a front of what it writes else.
+# Each growth is refused in turn: a caller ends by a status of its own, and has written a front of what it writes else. It reads $given.
+given=$here/../samples/session.dbus
 "$CC" -shared -fPIC -O2 -o "$built/refuse_nth.so" "$here/../bench/refuse_nth.c" -ldl
 try_growths() {
 	name=$1
 	shift
-	$run "$built/plain_$name" "$@" < "$here/../samples/session.dbus" > "$built/whole" || true
-	for nth in $(seq 60); do
+	$run "$built/plain_$name" "$@" < "$given" > "$built/whole" || true
+	for nth in $(seq "${growths:-60}"); do
 		status=0
-		REFUSE_NTH=$nth LD_PRELOAD=$built/refuse_nth.so $run "$built/plain_$name" "$@" < "$here/../samples/session.dbus" > "$built/front" 2> "$built/said" || status=$?
+		REFUSE_NTH=$nth LD_PRELOAD=$built/refuse_nth.so $run "$built/plain_$name" "$@" < "$given" > "$built/front" 2> "$built/said" || status=$?
 		test "$status" -lt 126
 		head -c "$(stat -c %s "$built/front")" "$built/whole" | cmp - "$built/front"
 	done
@@ -77,6 +78,14 @@ try_growths rules "sender='org.a.B',member='NameOwnerChanged'" org.a.B=org.freed
 try_growths sharing "member='Hello'"
 try_growths pieces 64
 try_growths build again
+# Lines of JSON, some of which spell no message: of each its message, or why not; 3 is the status if memory runs out.
+"$program" json < "$given" > "$built/lines"
+(head -n 2 "$built/lines"; echo '{"type":2'; echo '{"type":2,"fields":[{"code":10}]}'; tail -n 1 "$built/lines") > "$built/some_lines"
+given=$built/some_lines growths=400 try_growths encode
+for sample in session big-endian; do
+	"$program" json < "$here/../samples/$sample.dbus" | $run "$built/encode" | cmp - "$here/../samples/$sample.dbus"
+done
+"$here/../cases/refused_lines.py" "$program" 3000 1 $run "$built/encode"
 # Both ends of a handshake: one with the other, a client with a bus, and a server with a client of libdbus.
 "$CC" $sanitized -D_GNU_SOURCE -o "$built/handshake" "$here/c/handshake.c" -L"$built" -ldbus_wire
 for length in 1 7 4096; do $run "$built/handshake" pieces $length; done

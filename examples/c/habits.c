@@ -46,6 +46,9 @@ static void nulls(void) {
     expect(dbus_wire_swap(SIGNAL, SIGNAL_LENGTH, NULL, 'B', NULL, 0, &told) == DBUS_WIRE_NO_ROOM, "no room");
     expect(dbus_wire_flatten(SIGNAL, SIGNAL_LENGTH, NULL, 0, NULL, 0, &count, NULL) == DBUS_WIRE_NO_ROOM, "nor for an item");
     expect(count == 1, "of which there is one");
+    expect(dbus_wire_from_json(NULL, 0, NULL, 1, NULL, 0, &told) == DBUS_WIRE_REFUSED && told.offset == 0 &&
+               told.reason == DBUS_WIRE_REASON_NOT_JSON,
+           "no bytes are no line of JSON");
     expect(dbus_wire_text_check(DBUS_WIRE_TEXT_STRING, NULL, 0, &text) == DBUS_WIRE_OK, "the empty text is a STRING");
     expect(dbus_wire_reason_name(DBUS_WIRE_REASON_KIND, NULL, 0) == 4, "a name's length without room");
 
@@ -114,6 +117,32 @@ static void answers(void) {
                dbus_wire_rebuild(NULL, 0, NULL, &draft, NULL, 0, NULL) == DBUS_WIRE_PARTIAL &&
                dbus_wire_reply_to(NULL, 0, NULL, &draft, NULL, 0, NULL) == DBUS_WIRE_PARTIAL,
            "no type is 0, and no bytes are partial, by builders");
+}
+
+/* Lines of JSON with no serial, under limits and with a field that is missing. */
+static void lines(void) {
+    static const char reply[] = "{\"type\":\"method_return\",\"reply_serial\":1}", missing[] = " {\"type\":\"method_return\"}";
+    static const struct dbus_wire_limits limits = {23, UINT32_MAX, UINT32_MAX, DBUS_WIRE_FDS_ANY};
+    uint8_t out[32];
+    struct dbus_wire_checked told;
+    struct dbus_wire_parts parts;
+
+    FRESH(out);
+    expect(dbus_wire_from_json(reply, sizeof reply - 1, NULL, 7, out, sizeof out, &told) == DBUS_WIRE_OK && told.length == 24 &&
+               told.order == 'l' && dbus_wire_parts_of(out, 24, NULL, &parts, NULL) == DBUS_WIRE_WHOLE && parts.serial == 7,
+           "a line with no serial has the one that is given");
+    expect(is_fresh(out + 24, sizeof out - 24), "no byte after its message is written");
+    FRESH(out);
+    expect(dbus_wire_from_json(reply, sizeof reply - 1, NULL, 0, out, sizeof out, &told) == DBUS_WIRE_REFUSED &&
+               told.reason == DBUS_WIRE_REASON_ZERO_SERIAL,
+           "0 is none");
+    expect(dbus_wire_from_json(reply, sizeof reply - 1, &limits, 7, out, sizeof out, &told) == DBUS_WIRE_REFUSED &&
+               told.reason == DBUS_WIRE_REASON_MESSAGE_TOO_LONG && told.offset == 0,
+           "its message may be over a limit");
+    expect(dbus_wire_from_json(missing, sizeof missing - 1, NULL, 7, out, sizeof out, &told) == DBUS_WIRE_REFUSED &&
+               told.reason == DBUS_WIRE_REASON_FIELD_MISSING && told.field == DBUS_WIRE_FIELD_REPLY_SERIAL && told.offset == 1,
+           "a reply needs a REPLY_SERIAL");
+    expect(is_fresh(out, sizeof out), "then nothing is written");
 }
 
 /* The header fields of a refused signal that are whole before its fault: those of the whole one, but
@@ -245,6 +274,7 @@ int main(void) {
     sizes();
     nulls();
     answers();
+    lines();
     explanations();
     rules();
     reasons("REASON_", dbus_wire_inline_reason_name, dbus_wire_reason_text);

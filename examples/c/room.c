@@ -1,6 +1,7 @@
 /* Swaps each D-Bus message on standard input into fewer bytes than it has, into as many and into
  * more: DBUS_WIRE_NO_ROOM leaves the bytes as they were, and else those after the message stay as
- * they were. Writes each as a line of JSON into too little room for the line, and into enough.
+ * they were. Writes each as a line of JSON into too little room for the line, and into enough, and
+ * the message of that line into each room.
  * Flattens each from every place of its row on, with less room than the items have, as much and
  * more, and compares each piece with the whole row. Prints how many messages there are. */
 #include <dbus_wire.h>
@@ -50,6 +51,23 @@ static int is_line(const uint8_t *bytes, const struct dbus_wire_checked *message
            memcmp(line, out, written) == 0 && told.length == message->length;
 }
 
+/* Whether the line of the message is read back into as many bytes of room. */
+static int is_read(const uint8_t *bytes, const struct dbus_wire_checked *message, size_t room) {
+    static uint8_t line[1 << 20], out[1 << 20];
+    struct dbus_wire_checked told;
+    uint64_t count;
+    size_t at, written = room < message->length ? 0 : message->length;
+    uint32_t answer = room < message->length ? DBUS_WIRE_NO_ROOM : DBUS_WIRE_OK;
+
+    if (room >= sizeof out || dbus_wire_json(bytes, message->length, NULL, NULL, line, sizeof line, &count, NULL) != DBUS_WIRE_WHOLE)
+        return 0;
+    memset(out, BEFORE, room + 1);
+    if (dbus_wire_from_json(line, (size_t)count, NULL, 0, out, room, &told) != answer) return 0;
+    for (at = written; at <= room; at++)
+        if (out[at] != BEFORE) return 0;
+    return memcmp(out, bytes, written) == 0 && memcmp(&told, message, sizeof told) == 0;
+}
+
 /* The whole row of a message's items, and a piece of it. */
 enum { MOST = 1 << 16 };
 static struct dbus_wire_flat_item row[MOST], piece[MOST];
@@ -88,9 +106,11 @@ int main(void) {
     while (dbus_wire_check(bytes + at, count - at, &limits, &message) == DBUS_WIRE_WHOLE) {
         for (room = 0; room <= message.length + MORE; room++)
             if (!is_right(bytes + at, &message, 'l', room) || !is_right(bytes + at, &message, 'B', room) ||
-                !is_line(bytes + at, &message, room * 4))
+                !is_line(bytes + at, &message, room * 4) || (room % 16 < 2 && !is_read(bytes + at, &message, room)))
                 return 1;
-        if (!is_flat(bytes + at, message.length)) return 1;
+        if (!is_flat(bytes + at, message.length) || !is_read(bytes + at, &message, message.length - 1) ||
+            !is_read(bytes + at, &message, message.length))
+            return 1;
         at += message.length;
         messages++;
     }

@@ -8,10 +8,11 @@
 #include <stdio.h>
 #include <stdlib.h>
 
-enum { STACK = 1 << 18, DEEPEST = 64, UNUSED = 0xAA };
+enum { STACK = 1 << 18, DEEPEST = 64, DEEPEST_LINE = 130, UNUSED = 0xAA };
 
 static uint8_t stack[STACK] __attribute__((aligned(4096)));
-static uint8_t message[1024], out[1024], body[256];
+static uint8_t message[1024], out[1024], body[256], line[8192];
+static char nested[512];
 static size_t length;
 static struct dbus_wire_draft draft = {.order = 'l', .kind = DBUS_WIRE_TYPE_SIGNAL, .serial = 1, .body = body};
 static struct dbus_wire_checked told;
@@ -22,7 +23,7 @@ static struct dbus_wire_taken taken;
 static struct dbus_wire_rules rules;
 static struct dbus_wire_rule_id id;
 static struct dbus_wire_rule_refused refused;
-static uint64_t count;
+static uint64_t count, line_length;
 
 /* Ends if the call returned what none here is to return. */
 static void must(uint32_t answer) {
@@ -50,6 +51,16 @@ static void make_message(int has_arrays) {
     draft.body_length = (size_t)writer.length;
     must(dbus_wire_build(&draft, NULL, message, sizeof message, &told));
     length = (size_t)told.length;
+    must(dbus_wire_json(message, length, NULL, NULL, line, sizeof line, &line_length, &told));
+}
+
+/* A line with arrays in an object that nest as deep as a line may. */
+static void make_nested(void) {
+    static const char start[] = "{\"number\":", end[] = ",\"type\":2,\"reply_serial\":1}";
+    memcpy(nested, start, sizeof start - 1);
+    memset(nested + sizeof start - 1, '[', DEEPEST_LINE - 1);
+    memset(nested + sizeof start - 1 + DEEPEST_LINE - 1, ']', DEEPEST_LINE - 1);
+    memcpy(nested + sizeof start - 1 + 2 * (DEEPEST_LINE - 1), end, sizeof end);
 }
 
 static void *nothing(void *unused) { return unused; }
@@ -60,6 +71,12 @@ static void *swap(void *unused) { return must(dbus_wire_swap(message, length, NU
 static void *build(void *unused) { return must(dbus_wire_build(&draft, NULL, out, sizeof out, &told)), unused; }
 static void *rebuild(void *unused) { return must(dbus_wire_rebuild(message, length, NULL, &draft, out, sizeof out, &told)), unused; }
 static void *reply_to(void *unused) { return must(dbus_wire_reply_to(message, length, NULL, &draft, out, sizeof out, &told)), unused; }
+static void *from_json(void *unused) {
+    must(dbus_wire_from_json(line, (size_t)line_length, NULL, 1, out, sizeof out, &told));
+    must(dbus_wire_from_json(nested, strlen(nested), NULL, 1, out, sizeof out, &told));
+    must(told.length == 24 ? DBUS_WIRE_OK : DBUS_WIRE_NO_VALUE);
+    return unused;
+}
 static void *take(void *unused) { return must(dbus_wire_checker_take(&checker, message, length, &taken)), unused; }
 static void *matching(void *unused) { return must(dbus_wire_rules_matching(&rules, message, length, NULL, &id, 1, &count, &told)), unused; }
 
@@ -95,10 +112,11 @@ int main(void) {
         const char *name;
         void *(*calls)(void *);
     } all[] = {{"check", check}, {"parts_of", parts_of}, {"flatten", flatten}, {"swap", swap}, {"build", build}, {"rebuild", rebuild},
-               {"reply_to", reply_to}, {"checker_take", take}, {"rules_matching", matching}};
+               {"reply_to", reply_to}, {"from_json", from_json}, {"checker_take", take}, {"rules_matching", matching}};
     static const char rule[] = "type='signal',path='/a',interface='a.b',member='C'";
     size_t alone = used_by(nothing);
 
+    make_nested();
     must(dbus_wire_checker_new(NULL, &checker));
     must(dbus_wire_rules_add(&rules, rule, sizeof rule - 1, &id, &refused));
     for (size_t i = 0; i < sizeof all / sizeof all[0]; i++) {

@@ -14,14 +14,16 @@ linker finds it.
 
 Bytes that are no message raise Refused or Truncated, which say where and why, as `dbus-wire check`
 does; `explain` says why for a reader, as `dbus-wire check --explain` does, and
-`whole_fields` gives the header fields before the fault. No value that is given is changed: one that is not of its type raises BadValue, which says
-where it is. examples/python has programs. All of it may be called from any thread; a thread needs 128 KiB of stack for a call. A message
-of any depth is read within Python's default limit on recursion.
+`whole_fields` gives the header fields before the fault. `Message.to_json` writes the line of
+`dbus-wire json`, and `Message.from_json` reads one; JSON that spells no message raises BadJson. No
+value that is given is changed: one that is not of its type raises BadValue, which says where it is.
+examples/python has programs. All of it may be called from any thread; a thread needs 128 KiB of
+stack for a call. A message of any depth is read within Python's default limit on recursion.
 """
 
 from ._building import build, error_to, rebuild, reply_to
 from ._checker import Checker
-from ._errors import BadValue, HeaderField, NotAMessage, Refused, Truncated
+from ._errors import BadJson, BadValue, HeaderField, NotAMessage, Refused, Truncated
 from ._explaining import Explanation, StatedText, explain, whole_fields
 from ._handshake import Client, Server, Status, Step
 from ._library import LIBRARY_VERSION
@@ -35,6 +37,7 @@ from ._values import ObjectPath, Order, Signature, UnixFd, Variant
 
 __all__ = [
     "LIBRARY_VERSION",
+    "BadJson",
     "BadLine",
     "BadRule",
     "BadValue",

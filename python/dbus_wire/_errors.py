@@ -1,4 +1,4 @@
-"""What is raised for bytes that are no message, and for values that have no bytes."""
+"""What is raised for bytes and for JSON that are no message, and for values that have no bytes."""
 
 from __future__ import annotations
 
@@ -38,8 +38,7 @@ class NotAMessage(ValueError):
         self.field = field
 
     def __str__(self) -> str:
-        field = "" if self.field is None else f"({int(self.field)})"
-        return f"refused at {self.at}: {self.reason}{field}"
+        return f"refused at {self.at}: {_with_field(self.reason, self.field)}"
 
 
 class Refused(NotAMessage):
@@ -49,6 +48,24 @@ class Refused(NotAMessage):
 
 class Truncated(NotAMessage):
     """The input ends within a message; `at` is its end."""
+
+
+class BadJson(ValueError):
+    """JSON spells no message; as a text, what `dbus-wire encode` tells of it.
+
+    `at` is the place, in bytes of the UTF-8 from its start, and the column is one more. `reason` is
+    the reason's name, as the manual page of dbus-wire lists them ("Refused line"). `field` is the
+    header field that is missing if the reason is "FieldMissing", and else None.
+    """
+
+    def __init__(self, at: int, reason: str, field: HeaderField | None = None) -> None:
+        super().__init__(at, reason, field)
+        self.at = at
+        self.reason = reason
+        self.field = field
+
+    def __str__(self) -> str:
+        return f"refused at column {self.at + 1}: {_with_field(self.reason, self.field)}"
 
 
 class BadValue(ValueError):
@@ -97,8 +114,18 @@ def refused(at: int, reason: int, field: int = 0) -> Refused:
     return Refused(at, _name_of(reason), HeaderField(field) if field else None)
 
 
+def bad_json(at: int, reason: int, field: int) -> BadJson:
+    """The same of JSON."""
+    return BadJson(at, _name_of(reason), HeaderField(field) if field else None)
+
+
 def truncated(at: int) -> Truncated:
     return Truncated(at, _name_of(REASON_TRUNCATED))
+
+
+def _with_field(reason: str, field: HeaderField | None) -> str:
+    """The reason's name, and the code of the field, if there is one."""
+    return reason if field is None else f"{reason}({int(field)})"
 
 
 def _name_of(reason: int) -> str:

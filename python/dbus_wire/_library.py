@@ -157,6 +157,7 @@ _CALLS = {
     "flatten_whole_fields": (c_uint32, *_MESSAGE, c_size_t, *_ITEMS),
     "explain": (c_uint32, *_MESSAGE, POINTER(InputPlace), c_char_p, c_size_t, POINTER(Explained), POINTER(Checked)),
     "json": (c_uint32, *_MESSAGE, POINTER(LinePlace), c_char_p, c_size_t, POINTER(c_uint64), POINTER(Checked)),
+    "from_json": (c_uint32, *_MESSAGE, c_uint32, c_char_p, c_size_t, POINTER(Checked)),
     "wanted": (c_uint64, *_MESSAGE),
     "swap": (c_uint32, *_MESSAGE, c_uint32, c_char_p, c_size_t, POINTER(Checked)),
     "build": (c_uint32, POINTER(Draft), POINTER(Limits), c_char_p, c_size_t, POINTER(Checked)),

@@ -11,10 +11,10 @@ from functools import cached_property
 from typing import Any, BinaryIO, Iterator
 
 from . import _library
-from ._errors import refused, truncated
-from ._library import FIXED_HEADER_LENGTH, NO_ROOM, PARTIAL, REASON_TRAILING, REFUSED, Bytes, as_bytes, library
+from ._errors import bad_json, refused, truncated
+from ._library import FIXED_HEADER_LENGTH, NO_MEMORY, NO_ROOM, PARTIAL, REASON_TRAILING, REFUSED, Bytes, as_bytes, library
 from ._limits import Limits, limits_struct
-from ._values import ObjectPath, Order, Signature, text_at, uint64_of, values_of
+from ._values import ObjectPath, Order, Signature, text_at, uint32_of, uint64_of, values_of
 
 # The most bytes that one read asks for, so that a length that is only stated takes no memory.
 _PIECE = 1 << 20
@@ -163,6 +163,31 @@ class Message:
             out = ctypes.create_string_buffer(count.value + 1)
             answer = library.dbus_wire_json(data, len(data), limits, byref(place), out, len(out), byref(count), byref(told))
         return out.raw[: count.value - 1].decode("utf-8")
+
+    @classmethod
+    def from_json(cls, line: str | Bytes, serial: int = 1, limits: Limits | None = None) -> Message:
+        """The message within the limits that a line of JSON spells, as `to_json` writes it: what
+        `dbus-wire encode` writes of it. Its manual page says which lines spell one: members may
+        stand in any order, with white space anywhere, and some may be left out. A message whose line
+        tells no serial has this one.
+
+            line = json.loads(message.to_json())
+            edited = Message.from_json(json.dumps({**line, "path": "/edited"}))
+
+        Raises BadJson if the line spells none, and BadValue of a serial that is no number of 32 bits.
+        """
+        data = line.encode("utf-8", "surrogatepass") if isinstance(line, str) else as_bytes(line)
+        given, number, told = byref(limits_struct(limits)), uint32_of("serial", serial), _library.Checked()
+        # Room for most messages.
+        told.length, answer = 2 * len(data) + 256, NO_ROOM
+        while answer == NO_ROOM:
+            out = ctypes.create_string_buffer(told.length)
+            answer = library.dbus_wire_from_json(data, len(data), given, number, out, len(out), byref(told))
+        if answer == NO_MEMORY:
+            raise MemoryError
+        if answer == REFUSED:
+            raise bad_json(told.offset, told.reason, told.field)
+        return cls.parse(out.raw[: told.length])
 
     def swapped(self, order: Order | str) -> Message:
         """The same message in the byte order, 'l' or 'B'. Raises BadValue of another."""

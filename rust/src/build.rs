@@ -63,11 +63,11 @@ impl<'a> Parts<'a> {
     }
 }
 
-/// Why [`build`] or [`rebuild`] built nothing.
+/// Why [`build`], [`rebuild`] or [`Message::from_json`] built nothing.
 #[derive(Clone, Copy, Debug, PartialEq, Eq)]
 pub enum BuildError {
-    /// No message within the limits has these parts. The fault is at an offset from the first byte
-    /// that the parts spell, or at 0.
+    /// No message within the limits has these parts, or a line of JSON spells none. The fault is at
+    /// an offset from the first byte that the parts spell, or of the line; or at 0.
     Refused(Fault),
     /// There is no memory for it in the library.
     OutOfMemory,

@@ -43,11 +43,12 @@ macro_rules! reasons {
 }
 
 reasons! {
-    /// Why bytes are refused. Its text is a sentence in English without its full stop;
-    /// `dbus-wire check` prints it as its `Debug` does.
+    /// Why bytes, or a line of JSON, are refused: those from `NotUtf8` on of a line alone. Its text
+    /// is a sentence in English without its full stop; `dbus-wire check` and `dbus-wire encode`
+    /// print it as its `Debug` does.
     Reason:
     ByteOrder = 1, "the first byte is neither 'l' nor 'B'";
-    Kind = 2, "the message type is 0";
+    Kind = 2, "the message type is 0, or a text that names none";
     Version = 3, "the protocol version is not 1";
     ZeroSerial = 4, "the serial, or the REPLY_SERIAL, is 0";
     ArrayTooLong = 5, "an array, or the header fields, have more bytes than the limit on arrays";
@@ -72,6 +73,22 @@ reasons! {
     TooDeep = 24, "more containers are open at once than the limit on depth";
     Truncated = 25, "the input ends within a message";
     FdIndex = 26, "an index of a file descriptor is not below the number of descriptors";
+    NotUtf8 = 28, "a line of JSON is not UTF-8";
+    NotJson = 29, "a line is no JSON value, or one of more than 130 arrays and objects in one another";
+    Form = 30, "a value of JSON has another form than is wanted";
+    MemberUnknown = 31, "an object of JSON has a member that it may not have";
+    MemberTwice = 32, "an object of JSON has two members of one name";
+    TypeMissing = 33, "an object of JSON has no member `type`";
+    ValueMissing = 34, "an object of JSON has no member `value`";
+    CodeMissing = 35, "an object of JSON has no member `code`";
+    BodyMissing = 36, "the message has a signature, and its JSON no member `body`";
+    Order = 37, "the member `order` is neither l nor B";
+    FieldKnown = 38, "an object in `fields` has the code of a field that is a member of its own";
+    FieldPlace = 39, "an object in `fields` has a place where its field cannot be";
+    NotInteger = 40, "a number has a point, an exponent or a minus before 0, and an integer is wanted";
+    Range = 41, "a number is not in the range of its type";
+    Digits = 42, "a string does not have the digits that its type wants";
+    Count = 43, "an array of JSON has more or fewer values than there are types";
 }
 
 reasons! {
@@ -187,13 +204,14 @@ mod tests {
     #[test]
     fn reasons_are_the_librarys_and_the_headers() {
         let (sentences, name) = (sentences("dbus_wire_reason_text"), |number| name(sys::dbus_wire_reason_name, number));
-        for number in 1..sys::DBUS_WIRE_REASON_NOT_YET {
+        let last = sys::DBUS_WIRE_REASON_COUNT;
+        for number in (1..=last).filter(|it| *it != sys::DBUS_WIRE_REASON_NOT_YET) {
             let reason = Reason::new(number, 5);
             assert_eq!(reason.number(), number);
             assert_eq!(format!("{reason:?}").replace("(5)", ""), name(number));
             assert_eq!(reason.sentence(), sentences[number as usize]);
         }
-        assert_eq!(sentences.len(), sys::DBUS_WIRE_REASON_NOT_YET as usize + 1);
+        assert_eq!(sentences.len(), last as usize + 1);
         assert_eq!(Reason::new(99, 0), Reason::Other(99));
         assert_eq!((name(0), Reason::Other(0).sentence()), (String::new(), sentences[0]));
     }

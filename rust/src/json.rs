@@ -1,6 +1,6 @@
-//! A message as a line of JSON.
+//! A message as a line of JSON, and the message of one.
 
-use crate::{sys, Limits, Message};
+use crate::{sys, BuildError, Fault, Limits, Message, OwnedMessage};
 
 /// What a line of JSON says of where its message stands. It is written as it is given.
 ///
@@ -60,5 +60,43 @@ impl Message<'_> {
         debug_assert!(std::str::from_utf8(&line).is_ok());
         // SAFETY: a line of JSON is UTF-8.
         unsafe { String::from_utf8_unchecked(line) }
+    }
+
+    /// The message within the limits that a line of JSON spells, as [`Message::to_json`] writes it:
+    /// what `dbus-wire encode` writes of it. Its manual page says which lines spell one: members may
+    /// stand in any order, with white space anywhere, and some may be left out. A message whose line
+    /// tells no serial has this one.
+    ///
+    /// The place of a fault counts from the first byte of the line.
+    ///
+    /// ```
+    /// use dbus_wire::{BuildError, Limits, Message, Reason};
+    ///
+    /// let line = r#"{"type":"signal","path":"/","interface":"a.b","member":"C","signature":"u","body":[7]}"#;
+    /// let signal = Message::from_json(line, 1, &Limits::default())?;
+    /// assert_eq!(signal.message().body_as::<u32>().unwrap(), 7);
+    /// let Err(BuildError::Refused(fault)) = Message::from_json(line.replace('7', "-7"), 1, &Limits::default()) else {
+    ///     unreachable!()
+    /// };
+    /// assert_eq!((fault.at, fault.reason), (line.len() - 3, Reason::Range));
+    /// # Ok::<(), BuildError>(())
+    /// ```
+    pub fn from_json(line: impl AsRef<[u8]>, serial: u32, limits: &Limits) -> Result<OwnedMessage, BuildError> {
+        let (line, limits) = (line.as_ref(), limits.raw());
+        // Room for most messages.
+        let (mut out, mut told) = (vec![0; line.len() * 2 + 256], sys::dbus_wire_checked::default());
+        loop {
+            // SAFETY: slices and references, as `sys` says.
+            let answer = unsafe {
+                sys::dbus_wire_from_json(line.as_ptr(), line.len(), &limits, serial, out.as_mut_ptr(), out.len(), &mut told)
+            };
+            match answer {
+                sys::DBUS_WIRE_OK => break,
+                sys::DBUS_WIRE_NO_ROOM => out.resize(told.length as usize, 0),
+                sys::DBUS_WIRE_NO_MEMORY => return Err(BuildError::OutOfMemory),
+                _ => return Err(BuildError::Refused(Fault::new(told.offset, told.reason, told.field))),
+            }
+        }
+        Ok(OwnedMessage::parse_within(out, &Limits::default()).expect("a message is written"))
     }
 }

@@ -29,7 +29,8 @@
 //! * [`build`] makes a message of its [`Parts`], whose body is that of [`spell`], or a [`Body`] that
 //!   is spelled value by value; [`rebuild`] changes one, and keeps its header fields in their places;
 //!   [`reply_to`] replies.
-//! * [`Message::to_json`] writes a message as `dbus-wire json` does.
+//! * [`Message::to_json`] writes a message as `dbus-wire json` does, and [`Message::from_json`] reads
+//!   such a line back.
 //! * [`byteswap`] writes a message in the other byte order, and [`check_text`] checks names,
 //!   signatures and other texts.
 //! * A match [`Rule`], or a [`RuleSet`] of many, says which messages a program wants, and keeps who

@@ -93,6 +93,22 @@ pub const DBUS_WIRE_REASON_TOO_DEEP: u32 = 24;
 pub const DBUS_WIRE_REASON_TRUNCATED: u32 = 25;
 pub const DBUS_WIRE_REASON_FD_INDEX: u32 = 26;
 pub const DBUS_WIRE_REASON_NOT_YET: u32 = 27;
+pub const DBUS_WIRE_REASON_NOT_UTF8: u32 = 28;
+pub const DBUS_WIRE_REASON_NOT_JSON: u32 = 29;
+pub const DBUS_WIRE_REASON_FORM: u32 = 30;
+pub const DBUS_WIRE_REASON_MEMBER_UNKNOWN: u32 = 31;
+pub const DBUS_WIRE_REASON_MEMBER_TWICE: u32 = 32;
+pub const DBUS_WIRE_REASON_TYPE_MISSING: u32 = 33;
+pub const DBUS_WIRE_REASON_VALUE_MISSING: u32 = 34;
+pub const DBUS_WIRE_REASON_CODE_MISSING: u32 = 35;
+pub const DBUS_WIRE_REASON_BODY_MISSING: u32 = 36;
+pub const DBUS_WIRE_REASON_ORDER: u32 = 37;
+pub const DBUS_WIRE_REASON_FIELD_KNOWN: u32 = 38;
+pub const DBUS_WIRE_REASON_FIELD_PLACE: u32 = 39;
+pub const DBUS_WIRE_REASON_NOT_INTEGER: u32 = 40;
+pub const DBUS_WIRE_REASON_RANGE: u32 = 41;
+pub const DBUS_WIRE_REASON_DIGITS: u32 = 42;
+pub const DBUS_WIRE_REASON_COUNT: u32 = 43;
 
 pub const DBUS_WIRE_RULE_REASON_NUL: u32 = 1;
 pub const DBUS_WIRE_RULE_REASON_NO_EQUALS: u32 = 2;
@@ -426,6 +442,15 @@ extern "C" {
         out: *mut u8,
         room: usize,
         count: *mut u64,
+        told: *mut dbus_wire_checked,
+    ) -> u32;
+    pub fn dbus_wire_from_json(
+        line: *const u8,
+        length: usize,
+        limits: *const dbus_wire_limits,
+        serial: u32,
+        out: *mut u8,
+        room: usize,
         told: *mut dbus_wire_checked,
     ) -> u32;
     pub fn dbus_wire_wanted(bytes: *const u8, length: usize, limits: *const dbus_wire_limits) -> u64;

@@ -343,6 +343,31 @@ fn a_line_of_json_is_whole() {
 }
 
 #[test]
+fn a_line_of_json_is_read_back() {
+    let limits = Limits::default();
+    for message in CAPTURES.into_iter().flat_map(messages) {
+        let read = Message::from_json(message.to_json(LinePlace::default()) + "\n", 0, &limits).unwrap();
+        assert_eq!(read.message().bytes(), message.bytes());
+    }
+    // Each number takes two bytes of the line and eight of the message, which is more room than there
+    // is at first.
+    let signal = Parts { path: Some("/"), interface: Some("a.b"), member: Some("C"), ..Parts::new(Kind::Signal, 1) };
+    let bytes = signal.build((vec![7u64; 3000],)).unwrap();
+    let line = Message::parse(&bytes).unwrap().to_json(LinePlace::default());
+    assert_eq!(Message::from_json(line, 0, &limits).unwrap().into_bytes(), bytes);
+    let refused = |line: &[u8], limits: &Limits| match Message::from_json(line, 7, limits) {
+        Err(BuildError::Refused(fault)) => (fault.at, fault.reason),
+        other => panic!("{other:?}"),
+    };
+    assert_eq!(refused(b" {\"type\":2}", &limits), (1, Reason::FieldMissing(5)));
+    assert_eq!(refused(b"\"\xFF", &limits), (1, Reason::NotUtf8));
+    assert_eq!(refused(b"", &limits), (0, Reason::NotJson));
+    let reply = br#"{"type":"method_return","reply_serial":1}"#;
+    assert_eq!(Message::from_json(reply, 7, &limits).unwrap().message().serial(), 7);
+    assert_eq!(refused(reply, &Limits { message: 23, ..limits }), (0, Reason::MessageTooLong));
+}
+
+#[test]
 fn a_reply_goes_to_the_caller() {
     for call in CAPTURES.into_iter().flat_map(messages) {
         for (error_name, kind) in [(None, Kind::MethodReturn), (Some("a.b"), Kind::Error)] {

@@ -9,3 +9,4 @@ mod Rebuilt
 pub mod WatchTelling
 mod FaultsTold
 mod Filled
+mod LinesRead

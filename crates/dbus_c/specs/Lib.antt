@@ -11,4 +11,6 @@ pub mod Building
 pub mod Writers
 pub mod Explaining
 pub mod JsonLines
+pub mod JsonReasons
+pub mod LinesRead
 pub mod Written

@@ -68,7 +68,7 @@ field_named reason.NotYet = 0
 abbrev pub OneNumber : Type 0
 OneNumber = (one other : Reason) → reason_number one ≡ reason_number other → field_named one ≡ field_named other → one ≡ other
 
--- The names of the reasons, by their numbers.
+-- The names of the reasons, by their numbers: from 28 on those why lines of JSON alone are refused.
 -- docs/WIRE-FORMAT.md, "Faults".
 
 -- the name of the reason of this number, or nothing where there is none
@@ -82,7 +82,13 @@ name_at n =
     else if nat_eq n 16 then codes "ErrorName" else if nat_eq n 17 then codes "BusName" else if nat_eq n 18 then codes "NameTooLong"
     else if nat_eq n 19 then codes "FieldCode" else if nat_eq n 20 then codes "FieldTwice" else if nat_eq n 21 then codes "FieldType"
     else if nat_eq n 22 then codes "FieldMissing" else if nat_eq n 23 then codes "Trailing" else if nat_eq n 24 then codes "TooDeep"
-    else if nat_eq n 25 then codes "Truncated" else if nat_eq n 26 then codes "FdIndex" else if nat_eq n 27 then codes "NotYet" else []
+    else if nat_eq n 25 then codes "Truncated" else if nat_eq n 26 then codes "FdIndex" else if nat_eq n 27 then codes "NotYet"
+    else if nat_eq n 28 then codes "NotUtf8" else if nat_eq n 29 then codes "NotJson" else if nat_eq n 30 then codes "Form"
+    else if nat_eq n 31 then codes "MemberUnknown" else if nat_eq n 32 then codes "MemberTwice" else if nat_eq n 33 then codes "TypeMissing"
+    else if nat_eq n 34 then codes "ValueMissing" else if nat_eq n 35 then codes "CodeMissing" else if nat_eq n 36 then codes "BodyMissing"
+    else if nat_eq n 37 then codes "Order" else if nat_eq n 38 then codes "FieldKnown" else if nat_eq n 39 then codes "FieldPlace"
+    else if nat_eq n 40 then codes "NotInteger" else if nat_eq n 41 then codes "Range" else if nat_eq n 42 then codes "Digits"
+    else if nat_eq n 43 then codes "Count" else []
 
 -- what stands after a reason's name in its text: of a missing field its code
 abbrev pub code_text : Reason → List ℕ

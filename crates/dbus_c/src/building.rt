@@ -180,7 +180,7 @@ fn build_given(
 }
 
 // Writes a message in this order to the start of `out`, if it has room.
-fn write_built(message: &[u8], order: Order, out: &mut [u8], told: &mut Checked) -> u32
+pub(crate) fn write_built(message: &[u8], order: Order, out: &mut [u8], told: &mut Checked) -> u32
     ensures told { told.new ≡ whole_told order (length message.now) }
     ensures written { length message.now ≤ length out.old →
         (result ≡ WHOLE) × (out.new ≡ message.now ++ drop (length message.now) out.old) }

@@ -5,7 +5,8 @@
 //! [`dbus_wire_parts_of`] gives a message's parts, and [`dbus_wire_swap`] byteswaps.
 //! [`dbus_wire_flatten`] gives all values of its body as one row of items,
 //! [`dbus_wire_flatten_fields`] those of its header fields, and [`dbus_wire_read`] its parts and
-//! its body's values by one validation; [`dbus_wire_json`] writes it as a line of JSON.
+//! its body's values by one validation; [`dbus_wire_json`] writes it as a line of JSON, which
+//! [`dbus_wire_from_json`] reads back.
 //! [`dbus_wire_explain`] explains for a reader why bytes are refused, and
 //! [`dbus_wire_flatten_whole_fields`] gives the header fields before the fault.
 //! [`dbus_wire_checker_new`] makes a checker that takes one
@@ -28,10 +29,12 @@ mod checking;
 mod drafts;
 mod explaining;
 mod flattening;
+mod from_json;
 mod given_limits;
 mod handshake_lines;
 mod handshakes;
 mod json_lines;
+mod json_reasons;
 pub mod line_command;
 mod names;
 mod parts;
@@ -61,6 +64,7 @@ pub use checking::{Checked, dbus_wire_check};
 pub use drafts::{DraftText, WireDraft};
 pub use explaining::{Explained, InputPlace, dbus_wire_explain};
 pub use flattening::{dbus_wire_flatten, dbus_wire_flatten_fields};
+pub use from_json::dbus_wire_from_json;
 pub use given_limits::{ANY_INDEX, INDEX_BELOW_COUNT, WireLimits, dbus_wire_specification_limits};
 pub use handshake_lines::{HandshakeLine, dbus_wire_client_line, dbus_wire_server_line};
 pub use handshakes::{
@@ -68,6 +72,9 @@ pub use handshakes::{
     dbus_wire_handshake_guid, dbus_wire_handshake_take, dbus_wire_server_new,
 };
 pub use json_lines::{WireLinePlace, dbus_wire_json};
+pub use json_reasons::{
+    json_field_named, json_names_are_texts, json_reason_number, json_reasons_have_one_number,
+};
 pub use names::{dbus_wire_reason_name, names_are_texts};
 pub use parts::{TextPlace, WireParts, dbus_wire_parts_of};
 pub use reading::dbus_wire_read;

@@ -1,4 +1,4 @@
-//! The names of the reasons why bytes are refused.
+//! The names of the reasons why bytes, or lines of JSON, are refused.
 #![tactic(auto)]
 
 ghost use Rattle.std.specs.Prelude.{◌≡◌, ◌<◌, ◌≤◌, ◌+◌, ◌∷◌, ◌++◌, drop, length};
@@ -63,6 +63,22 @@ fn name_numbered(number: u32) -> &'static str
         25 => "Truncated",
         26 => "FdIndex",
         27 => "NotYet",
+        28 => "NotUtf8",
+        29 => "NotJson",
+        30 => "Form",
+        31 => "MemberUnknown",
+        32 => "MemberTwice",
+        33 => "TypeMissing",
+        34 => "ValueMissing",
+        35 => "CodeMissing",
+        36 => "BodyMissing",
+        37 => "Order",
+        38 => "FieldKnown",
+        39 => "FieldPlace",
+        40 => "NotInteger",
+        41 => "Range",
+        42 => "Digits",
+        43 => "Count",
         _ => "",
     }
 }
