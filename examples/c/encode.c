@@ -46,7 +46,8 @@ int main(void) {
 
     while (answer != DBUS_WIRE_NO_MEMORY && (length = getline(&line, &size, stdin)) > 0) {
         number++;
-        if (strspn(line, " \t\r\n") == (size_t)length) continue;
+        if (line[length - 1] == '\n') length--;
+        if (strspn(line, " \t\r\n") >= (size_t)length) continue;
         answer = read_line(line, (size_t)length, serial++, &told);
         if (answer == DBUS_WIRE_OK) fwrite(message, 1, told.length, stdout);
         if (answer == DBUS_WIRE_REFUSED) print_refusal(number, &told), status = 1;

@@ -17,7 +17,7 @@ does; `explain` says why for a reader, as `dbus-wire check --explain` does, and
 `whole_fields` gives the header fields before the fault. `Message.to_json` writes the line of
 `dbus-wire json`, and `Message.from_json` reads one; JSON that spells no message raises BadJson. No
 value that is given is changed: one that is not of its type raises BadValue, which says where it is.
-examples/python has programs. All of it may be called from any thread; a thread needs 128 KiB of
+examples/python has programs. All of it may be called from any thread; a thread needs 256 KiB of
 stack for a call. A message of any depth is read within Python's default limit on recursion.
 """
 

@@ -50,8 +50,8 @@
 //!
 //! # Stack
 //!
-//! A call needs at most 131,072 bytes of stack, which is less than a thread has unless it is given
-//! less.
+//! A call needs at most 131,072 bytes of stack, or [`Message::from_json`] 262,144, which is less than
+//! a thread has unless it is given less.
 //!
 //! [D-Bus Specification]: https://dbus.freedesktop.org/doc/dbus-specification.html
 
