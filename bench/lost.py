@@ -27,7 +27,7 @@ def lost(room):
 
 def past(window):
     """A refused message that is larger than the window."""
-    body = b"".join(lost(window - 16))
+    body = b"".join(lost(window - 20))
     return b"l\2\0\2" + number(window - 15) + number(1) + number(0) + body + b"\0" * (window - 15 - len(body))
 
 
