@@ -23,19 +23,23 @@ class HeaderField(enum.IntEnum):
     UNIX_FDS = 9
 
 
-class NotAMessage(ValueError):
-    """Bytes are no message; as a text, the line that `dbus-wire check` prints of them.
-
-    `at` is the place, in bytes from the start of the input. `reason` is the reason's name, as
-    docs/WIRE-FORMAT.md lists them ("Faults"). `field` is the header field that is missing if the
-    reason is "FieldMissing", or one whose text is too long for `build`, and else None.
-    """
+class _AtPlace(ValueError):
+    """A place, the reason that is found there, and the header field that it speaks of, if any."""
 
     def __init__(self, at: int, reason: str, field: HeaderField | None = None) -> None:
         super().__init__(at, reason, field)
         self.at = at
         self.reason = reason
         self.field = field
+
+
+class NotAMessage(_AtPlace):
+    """Bytes are no message; as a text, the line that `dbus-wire check` prints of them.
+
+    `at` is the place, in bytes from the start of the input. `reason` is the reason's name, as
+    docs/WIRE-FORMAT.md lists them ("Faults"). `field` is the header field that is missing if the
+    reason is "FieldMissing", or one whose text is too long for `build`, and else None.
+    """
 
     def __str__(self) -> str:
         return f"refused at {self.at}: {_with_field(self.reason, self.field)}"
@@ -50,19 +54,13 @@ class Truncated(NotAMessage):
     """The input ends within a message; `at` is its end."""
 
 
-class BadJson(ValueError):
+class BadJson(_AtPlace):
     """JSON spells no message; as a text, what `dbus-wire encode` tells of it.
 
     `at` is the place, in bytes of the UTF-8 from its start, and the column is one more. `reason` is
     the reason's name, as the manual page of dbus-wire lists them ("Refused line"). `field` is the
     header field that is missing if the reason is "FieldMissing", and else None.
     """
-
-    def __init__(self, at: int, reason: str, field: HeaderField | None = None) -> None:
-        super().__init__(at, reason, field)
-        self.at = at
-        self.reason = reason
-        self.field = field
 
     def __str__(self) -> str:
         return f"refused at column {self.at + 1}: {_with_field(self.reason, self.field)}"
