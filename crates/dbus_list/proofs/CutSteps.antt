@@ -1,14 +1,14 @@
 -- What a draft that cuts does with a character, and with a text.
-use Rattle.std.proofs.Common.{◌≡◌, ℕ, ◌+◌, ◌-◌, ◌<◌, ◌≤◌, List, [], ◌∷◌, ◌++◌, length, codes, refl, sym, ap, subst, ◌∙◌, arith, append_assoc}
+use Rattle.std.proofs.Common.{◌≡◌, ℕ, ◌+◌, ◌-◌, ◌<◌, ◌≤◌, List, [], ◌∷◌, ◌++◌, codes, refl, sym, ap, subst, ◌∙◌, arith, append_assoc}
 use Rattle.std.specs.Char.{encode_utf8, IsScalar}
-use Rattle.std.specs.Str.{IsUtf8, IsAscii, chars}
+use Rattle.std.specs.Str.{IsUtf8, chars}
 use Rattle.std.proofs.lemmas.Str.{IsUtf8-append, IsUtf8-nil}
 use Rattle.dbus_list.specs.Cuts.{cells, width}
 use Rattle.dbus_list.specs.Cutting.{Leaves, HasCut, Gains}
 use Rattle.dbus_list.specs.declared.cut_draft.CutDraft.{CutDraft}
 use Rattle.dbus_list.specs.declared.cut_draft.Room.{Room}
 use Rattle.dbus_list.specs.declared.cut_draft.Room.TheVariants as room
-use Rattle.dbus_list.proofs.CutTexts.{cells_some, chars_push, cut_after, cut_more, width_ascii, width_more, width_push}
+use Rattle.dbus_list.proofs.CutTexts.{cells_some, chars_push, cut_after, cut_more, width_after, width_more, width_push}
 
 module _ {D : Type 0} (gains : D → List ℕ → D → Type 0) where
   -- ---- the beginning
@@ -41,9 +41,9 @@ module _ {D : Type 0} (gains : D → List ℕ → D → Type 0) where
         let more = width_push so_far c utf8 is in
         (omega (arith, h.0), then before now after so_far (encode_utf8 c) h.1 gained)
 
-    pub ascii_fits : (now after : D) (text : List ℕ) (left used : ℕ) → IsAscii text → used ≡ length text → used ≤ left → gains now text after → Step (room.Left left) now text (room.Left (left - used)) after
-    ascii_fits now after text left used ascii long room gained before most so_far utf8 h =
-        let more = width_ascii so_far text utf8 ascii in
+    pub front_fits : (now after : D) (text : List ℕ) (left used : ℕ) → width (chars text) ≡ used → used ≤ left → gains now text after → Step (room.Left left) now text (room.Left (left - used)) after
+    front_fits now after text left used wide room gained before most so_far utf8 h =
+        let more = width_after so_far text utf8 in
         (omega (arith, h.0), then before now after so_far text h.1 gained)
 
     pub too_wide : (now after : D) (c left : ℕ) → IsScalar c → left + 1 < cells c → gains now (codes "~") after → Step (room.Left left) now (encode_utf8 c) room.Full after

@@ -41,9 +41,12 @@ width_push text c utf8 is =
 pub utf8_push : (text : List ℕ) (c : ℕ) → IsUtf8 text → IsScalar c → IsUtf8 (text ++ encode_utf8 c)
 utf8_push text c utf8 is = IsUtf8-append text (encode_utf8 c) utf8 (IsUtf8-encode c is)
 
-pub width_ascii : (text more : List ℕ) → IsUtf8 text → IsAscii more → width (chars (text ++ more)) ≡ width (chars text) + length more
-width_ascii text more utf8 ascii =
-    ap width (chars-append text more utf8) ∙ width_both (chars text) (chars more) ∙ ap (λ (n : ℕ). width (chars text) + n) (ap width (chars-IsAscii more ascii) ∙ all_ascii more ascii)
+pub width_after : (text more : List ℕ) → IsUtf8 text → width (chars (text ++ more)) ≡ width (chars text) + width (chars more)
+width_after text more utf8 = ap width (chars-append text more utf8) ∙ width_both (chars text) (chars more)
+
+-- an ASCII text has as many cells as bytes
+pub width_ascii : (text : List ℕ) → IsAscii text → width (chars text) ≡ length text
+width_ascii text ascii = ap width (chars-IsAscii text ascii) ∙ all_ascii text ascii
 
 pub width_none : (most : ℕ) → (most ≡ 0 → ⊥) → width (chars []) + (most - 1) + 1 ≡ most
 width_none zero some = absurd (some refl)
@@ -101,8 +104,7 @@ cut_after (suc most) shown c text more utf8 is fits last wide =
     cut_wide most text wide ∙ ap (λ (cs : List ℕ). encode_utf8_all cs ++ codes "~") ends ∙ ap (λ (t : List ℕ). t ++ codes "~") (encodes-chars shown utf8)
 
 pub width_more : (text more : List ℕ) → IsUtf8 text → width (chars text) ≤ width (chars (text ++ more))
-width_more text more utf8 =
-    let all = ap width (chars-append text more utf8) ∙ width_both (chars text) (chars more) in omega arith
+width_more text more utf8 = let all = width_after text more utf8 in omega arith
 
 -- what follows a text that is too wide does not matter
 pub cut_more : (most : ℕ) (text more : List ℕ) → IsUtf8 text → 0 < most → most < width (chars text) → cut most (text ++ more) ≡ cut most text

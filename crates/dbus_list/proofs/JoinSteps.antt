@@ -1,5 +1,5 @@
 -- What a draft that joins pieces does with one.
-use Rattle.std.proofs.Common.{◌≡◌, ℕ, List, [], ◌++◌, refl, sym, ap, subst, ◌∙◌, append_assoc, append-nil}
+use Rattle.std.proofs.Common.{◌≡◌, ℕ, List, [], ◌++◌, sym, ap, subst, ◌∙◌, append_assoc, append-nil}
 use Rattle.dbus_list.specs.Joining.{Gains, HasJoined}
 use Rattle.dbus_list.specs.declared.joined_draft.JoinedDraft.{JoinedDraft}
 

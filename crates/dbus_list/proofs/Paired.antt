@@ -5,7 +5,7 @@ use Rattle.std.specs.Str.{bytes_eq}
 use Rattle.dbus_message_model.specs.Messages.{MessageTree}
 use Rattle.dbus_message_model.specs.declared.message_type.TheConstants as message
 use Rattle.dbus_calls.specs.Answering.{is_unique, may_answer}
-use Rattle.dbus_calls.specs.Events.{Event, caller_of, departed, destination_of, event_of, replied_to, reply_serial_of, sender_of, wants_reply}
+use Rattle.dbus_calls.specs.Events.{Event, caller_of, departed, event_of, replied_to, reply_serial_of, sender_of, wants_reply}
 use Rattle.dbus_calls.specs.Events.Event.{Calls, Replies, Leaves, Passes}
 use Rattle.dbus_calls.specs.Kept.{waiting}
 use Rattle.dbus_calls.specs.OwnerChanges.{Change, change_of}

@@ -1,11 +1,18 @@
 -- What a draft that cuts has written.
-use Rattle.std.specs.Prelude.{◌≡◌, ℕ, ◌+◌, ◌<◌, List, ◌++◌}
+use Rattle.std.specs.Prelude.{◌≡◌, ℕ, ◌+◌, ◌<◌, ◌≤◌, List, ◌++◌, take}
 use Rattle.std.specs.Char.{encode_utf8, IsScalar}
-use Rattle.std.specs.Str.{IsUtf8, chars}
+use Rattle.std.specs.Str.{IsCharBoundary, IsUtf8, chars}
 use Rattle.dbus_list.specs.Cuts.{cut, width}
 use Rattle.dbus_list.specs.declared.cut_draft.CutDraft.{CutDraft}
+use Rattle.dbus_list.specs.declared.cut_draft.Front.{Front}
 use Rattle.dbus_list.specs.declared.cut_draft.Room.{Room}
 use Rattle.dbus_list.specs.declared.cut_draft.Room.TheVariants as room
+
+-- the front ends between two characters of the text, and has these cells, at most so many
+pub record IsFront (text : List ℕ) (most : ℕ) (f : Front) : Type 0 where
+  pub boundary : IsCharBoundary text f.bytes
+  pub width_is : width (chars (take f.bytes text)) ≡ f.cells
+  pub fits : f.cells ≤ most
 
 module _ {D : Type 0} (gains : D → List ℕ → D → Type 0) where
   -- The draft below gained this of a text that is cut to so many cells, and there is this room for

@@ -1,6 +1,8 @@
 pub mod Cuts
 pub mod Cutting
 pub mod CuttingLaws
+pub mod LineDrafts
+pub mod LineDraftLaws
 pub mod BriefValues
 pub mod BriefLaws
 pub mod Columns

@@ -85,5 +85,10 @@ impl ValueForm for Brief {
         ", "
     }
 
+    #[inline]
+    fn is_past<D: Draft>(draft: &D) -> bool {
+        draft.is_full()
+    }
+
     ghost whole = { whole_brief };
 }

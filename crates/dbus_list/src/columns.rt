@@ -19,6 +19,7 @@ const MOST_SPACES: usize = 32;
 const SPACES: &str = "                                ";
 
 /// Appends so many spaces.
+#[inline(always)]
 pub(crate) fn write_spaces<D: Draft>(draft: &mut D, count: usize)
     ensures { D.gains draft.old (replicate count 32) draft.new }
 {
@@ -31,6 +32,7 @@ pub(crate) fn write_spaces<D: Draft>(draft: &mut D, count: usize)
 }
 
 /// Appends a number at the right of a column of so many cells.
+#[inline(always)]
 pub(crate) fn write_right<D: Draft>(draft: &mut D, number: u64, cells: usize)
     ensures { D.gains draft.old (right cells (decimal number)) draft.new }
 {
@@ -93,6 +95,7 @@ pub(crate) fn fits(name: &str, most: usize) -> bool
 }
 
 /// Appends a name as it fits so many cells: how many it takes.
+#[inline(always)]
 pub(crate) fn write_short<D: Draft>(draft: &mut D, name: &str, most: usize) -> usize
     ensures written { D.gains draft.old (short most name.now) draft.new }
     ensures size { result ≡ length (short most name.now) }

@@ -51,6 +51,7 @@ fn write_known<D: Draft>(draft: &mut D, line: u16, name: &str, known: &str) -> u
 }
 
 /// Appends a connection as it fits: how many cells it takes.
+#[inline(always)]
 fn write_connection<D: Draft>(draft: &mut D, line: u16, name: &str, known: Option<&str>) -> usize
     ensures written { D.gains draft.old (connection line name.now (option_map (λ k. k.now) known.entry)) draft.new }
     ensures size { result ≡ length (connection line name.now (option_map (λ k. k.now) known.entry)) }
@@ -63,6 +64,7 @@ fn write_connection<D: Draft>(draft: &mut D, line: u16, name: &str, known: Optio
 
 /// Appends a connection in its column of a line of so many cells: a name of its own, and the one by
 /// which it is known.
+#[inline(always)]
 pub(crate) fn write_column<D: Draft>(draft: &mut D, line: u16, name: &str, known: Option<&str>)
     ensures { D.gains draft.old (column line name.now (option_map (λ k. k.now) known.entry)) draft.new }
 {

@@ -5,7 +5,7 @@ ghost use Rattle.std.specs.Prelude.{◌≡◌, ℕ, [], List, codes};
 ghost use Rattle.std.specs.Char.{encode_utf8, IsScalar};
 ghost use Rattle.std.specs.Str.{IsAscii};
 ghost use Rattle.dbus_list.specs.Cuts.{cells, cut};
-ghost use Rattle.dbus_list.specs.Cutting.{Gains, HasCut};
+ghost use Rattle.dbus_list.specs.Cutting.{Gains, HasCut, IsFront};
 ghost use Rattle.dbus_list.specs.declared.cut_draft.Room.TheVariants.{Full, Left};
 
 use crate::characters::push_char;
@@ -33,11 +33,37 @@ pub(crate) struct CutDraft<'d, D> {
     pub(crate) room: Room,
 }
 
+/// The front of a text.
+#[derive(Clone, Copy)]
+pub(crate) struct Front {
+    /// Its bytes.
+    pub(crate) bytes: usize,
+    /// The cells of its characters.
+    pub(crate) cells: u16,
+}
+
 /// How many cells a character takes at most.
 fn cells_of(c: char) -> u16
     ensures { result ≡ cells c }
 {
     if u32::from(c) < 128 { 1 } else { 2 }
+}
+
+/// The longest front of a text that has at most so many cells.
+#[inline(never)]
+fn front_of(text: &str, most: u16) -> Front
+    ensures { IsFront text.now most result }
+{
+    let mut front = Front { bytes: 0, cells: 0 };
+    for c in text.chars() {
+        let cells = cells_of(c);
+        if cells > most - front.cells {
+            return front;
+        }
+        front.cells += cells;
+        front.bytes += c.len_utf8();
+    }
+    front
 }
 
 impl<'d, D: Draft> CutDraft<'d, D> {
@@ -100,15 +126,28 @@ impl<'d, D: Draft> CutDraft<'d, D> {
     }
 
     /// Appends ASCII characters, of which so many and one more fit: those at once.
-    fn push_ascii(&mut self, left: u16, text: &str)
+    pub(crate) fn push_ascii(&mut self, left: u16, text: &str)
         requires room { self.old.room ≡ Left left }
         requires ascii { IsAscii text.now }
         ensures { Gains D.gains self.old text.now self.new }
     {
         let fits = text.len().min(usize::from(left));
-        let (front, rest) = text.split_at(fits);
-        self.room = Room::Left(left - fits as u16);
-        self.draft.push_str(front);
+        let front = Front {
+            bytes: fits,
+            cells: fits as u16,
+        };
+        self.push_front(left, front, text);
+    }
+
+    /// Appends a text, of which so many cells and one more fit: a front of so many at once.
+    fn push_front(&mut self, left: u16, front: Front, text: &str)
+        requires room { self.old.room ≡ Left left }
+        requires front { IsFront text.now left front }
+        ensures { Gains D.gains self.old text.now self.new }
+    {
+        let (shown, rest) = text.split_at(front.bytes);
+        self.room = Room::Left(left - front.cells);
+        self.draft.push_str(shown);
         self.push_each(rest);
     }
 
@@ -132,9 +171,9 @@ impl<D: Draft> Draft for CutDraft<'_, D> {
     fn push_str(&mut self, text: &str) {
         match self.room {
             Room::Unbounded => self.draft.push_str(text),
-            Room::Left(left) if text.is_ascii() => self.push_ascii(left, text),
+            Room::Left(left) => self.push_front(left, front_of(text, left), text),
+            Room::Held(_) => self.push_each(text),
             Room::Full => {}
-            _ => self.push_each(text),
         }
     }
 

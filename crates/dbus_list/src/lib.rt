@@ -17,6 +17,7 @@ mod joined_draft;
 mod known_call;
 pub mod laws;
 mod line;
+mod line_draft;
 mod names;
 
 pub use beside::Beside;

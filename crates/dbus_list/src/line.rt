@@ -16,9 +16,10 @@ use crate::columns::{write_clock, write_right};
 use crate::connections::write_column;
 use crate::cut_draft::CutDraft;
 use crate::joined_draft::JoinedDraft;
+use crate::line_draft::LineDraft;
 use crate::names::{destination_of, sender_of};
 use dbus_json::LinePlace;
-use dbus_show::{Draft, Visible};
+use dbus_show::Draft;
 use dbus_validate::Whole;
 use dbus_value_text::write_body;
 use dbus_view::MessageView;
@@ -133,7 +134,7 @@ pub fn write_line<D: Draft>(
 {
     let mut line = CutDraft::new(draft, width);
     write_joined(
-        &mut Visible { draft: &mut line },
+        &mut LineDraft { cut: &mut line },
         width,
         whole,
         place,

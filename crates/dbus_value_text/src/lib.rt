@@ -21,4 +21,4 @@ pub use fields::{FieldRun, FieldsTaken, write_field_run, write_fields};
 pub use numbers::write_number_at;
 pub use texts::write_types;
 pub use value_form::ValueForm;
-pub use values::write_value;
+pub use values::{write_value, write_values};

@@ -1,12 +1,12 @@
 //! What a form writes of values.
 #![tactic(auto)]
 
-ghost use Rattle.std.specs.Prelude.{◌≡◌, ℕ, ◌+◌, ◌<◌, ◌≤◌, ◌⊎◌, List, ◌++◌, length, take, drop};
+ghost use Rattle.std.specs.Prelude.{◌≡◌, ℕ, ◌+◌, ◌<◌, ◌≤◌, ◌⊎◌, List, ◌++◌, length, take, drop, true};
 ghost use Rattle.std.specs.Str.{IsAscii};
 ghost use Rattle.dbus_texts.specs.Types.{NumberCode, BYTE, TextCode, NumberType, number_code, text_code};
 ghost use Rattle.dbus_types.specs.Alignments.{width};
 ghost use Rattle.dbus_value_model.specs.Reading.{number_of};
-ghost use Rattle.dbus_value_model.specs.Values.{ValueTree, ValueTrees, NumberValue, TextValue, ArrayValue};
+ghost use Rattle.dbus_value_model.specs.Values.{ValueTree, ValueTrees, NumberValue, TextValue, ArrayValue, IsWellFormed};
 ghost use Rattle.dbus_walk.specs.Containers.{IsOf, parts};
 ghost use Rattle.dbus_walk.specs.declared.container.Container.TheVariants.{Array, Variant};
 ghost use Rattle.dbus_show.specs.ShownValues.{bytes_in};
@@ -67,6 +67,17 @@ pub trait ValueForm {
     /// What comes between two parts.
     fn separator() -> &'static str
         ensures { result.now ≡ separator_text };
+
+    /// Whether the draft gains nothing of the values that follow, which may be left out then. If
+    /// the form does not know, it may return false.
+    #[inline]
+    fn is_past<D: Draft>(_draft: &D) -> bool
+        ensures values { result ≡ true → (depth : ℕ) (v : ValueTree) → IsWellFormed depth v →
+            GainsSome D.gains _draft.now (is_text v) _draft.now }
+        ensures separators { result ≡ true → D.gains _draft.now separator_text _draft.now }
+    {
+        false
+    }
 
     // A container whose parts are written one by one.
     ghost whole: { (v : ValueTree) (texts : List (List ℕ)) →

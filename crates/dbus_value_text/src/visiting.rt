@@ -136,6 +136,11 @@ impl<D: Draft, F: ValueForm> Visitor for Writer<'_, D, F> {
             .push_str(if is_first { "" } else { F::separator() });
     }
 
+    #[inline]
+    fn wants_no_more(&self, _gathered: &()) -> bool {
+        F::is_past(&*self.draft)
+    }
+
     ghost none = { λ s _ _ _. none_written D.gains D.joins F.is_text F.separator_text D.nothing s };
 
     ghost more = { λ s before parted after _ _ _ _ _ _ done v first between _ second.

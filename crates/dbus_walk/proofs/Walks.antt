@@ -7,7 +7,7 @@ use Rattle.dbus_types.specs.Alignments.{alignment_of}
 use Rattle.dbus_value_model.specs.Bytes.{gap_to}
 use Rattle.dbus_value_model.specs.declared.order.Order.{Order}
 use Rattle.dbus_value_model.specs.Spelling.{spelling, spellings}
-use Rattle.dbus_value_model.specs.Values.{ValueTree, ValueTrees, NoValues, MoreValues, StructValue, EntryValue, value_trees, type_of, types_of}
+use Rattle.dbus_value_model.specs.Values.{ValueTree, ValueTrees, NoValues, MoreValues, StructValue, EntryValue, AreWellFormed, IsWellFormed, value_trees, type_of, types_of}
 use Rattle.dbus_types.specs.SignatureCodes.{IsTypeEnd, AreLengths}
 use Rattle.dbus_types.proofs.TypeLengths.{ends_by}
 use Rattle.dbus_walk.specs.Standing.{Stands, AllStand, ElementsStand}
@@ -83,6 +83,16 @@ module _ {order : Order} {depth_left : ℕ} {types : List ℕ} {end : ℕ} {byte
 
   pub no_element : end ≤ place → (vs ≡ value_trees l.done) × (place ≡ at + length (spellings order at vs))
   no_element le = none_left order at vs (λ p us. ElementsStand order depth_left types p end bytes us rest) Q place l (no_elements l.us l.keeps le)
+
+-- ---- elements that are passed over
+
+-- values of which each may be gathered after those before it, so that all are
+pub passed_over : (depth : ℕ) (Q : List ValueTree → Type 0) → ((done : List ValueTree) (v : ValueTree) → IsWellFormed depth v → Q done → Q (done ++ v ∷ []))
+    → (done : List ValueTree) (us : ValueTrees) → AreWellFormed depth us → Q done → (xs : List ValueTree) × (in_front done us ≡ value_trees xs) × Q xs
+passed_over depth Q step done NoValues formed q = (done, front_all done, q)
+passed_over depth Q step done (MoreValues v us) formed q =
+    let later = passed_over depth Q step (done ++ v ∷ []) us formed.1 (step done v formed.0 q) in
+    (later.0, front_more done v us ∙ later.1, later.2)
 
 -- ---- values of some types
 

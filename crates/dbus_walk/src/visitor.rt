@@ -11,7 +11,7 @@ ghost use Rattle.dbus_value_model.specs.Bytes.{gap_to};
 ghost use Rattle.dbus_value_model.specs.Reading.{number_of};
 ghost use Rattle.dbus_value_model.specs.declared.order.Order.{Order};
 ghost use Rattle.dbus_value_model.specs.Spelling.{spellings};
-ghost use Rattle.dbus_value_model.specs.Values.{ValueTree, ValueTrees, type_of, types_of, value_trees};
+ghost use Rattle.dbus_value_model.specs.Values.{ValueTree, ValueTrees, IsWellFormed, type_of, types_of, value_trees};
 ghost use Rattle.dbus_walk.specs.Containers.{number_width, IsOf, inside, parts, is_none};
 ghost use Rattle.dbus_walk.specs.Standing.{StandsAt, StandsThere};
 ghost use Rattle.dbus_walk.specs.declared.container.Container.{Container};
@@ -194,6 +194,17 @@ pub trait Visitor {
         requires ready { ready self.old length }
         ensures ready { ready self.new length }
         ensures takes { parted self.old is_first self.new };
+
+    /// Whether it wants no more: of values that follow it gathers nothing, and they may be passed
+    /// over. If it does not know, it may return false.
+    #[inline]
+    fn wants_no_more(&self, gathered: &Self::Many) -> bool
+        ensures values { result ≡ true → (order : Order) (at depth : ℕ) (v : ValueTree) → IsWellFormed depth v →
+            one self.now gathered.now order at v gathered.now self.now }
+        ensures parts { result ≡ true → (is_first : Bool) → parted self.now is_first self.now }
+    {
+        false
+    }
 
     // No values change nothing.
     ghost none: { (s : Self) (m : Self.Many) (order : Order) (at : ℕ) → many s m order at [] m s };

@@ -226,7 +226,7 @@ fn array<V: Visitor>(
     Ok(())
 }
 
-/// Elements of one type, up to `end`.
+/// Elements of one type, up to `end`, or as many as the visitor wants.
 #[cycle(walk)]
 fn elements<V: Visitor>(
     visitor: &mut V,
@@ -251,6 +251,9 @@ fn elements<V: Visitor>(
     let mut place = spot.at;
     let mut is_first = true;
     while place < end {
+        if visitor.wants_no_more(gathered) {
+            return Ok(());
+        }
         next_part(visitor, is_first, source.bytes.len());
         let mut next = Spot {
             at: place,

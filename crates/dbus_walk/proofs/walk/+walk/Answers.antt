@@ -7,17 +7,17 @@ use Rattle.dbus_types.specs.SignatureCodes.{first_code}
 use Rattle.dbus_types.proofs.TypeCodes.{code_is}
 use Rattle.dbus_types.proofs.TypeLengths.{lengths_within, lengths_rest, one_length}
 use Rattle.dbus_value_model.specs.Spelling.{spelling, spellings}
-use Rattle.dbus_value_model.specs.Values.{ValueTree, ValueTrees, NoValues, MoreValues, VariantValue, StructValue, EntryValue, type_of}
+use Rattle.dbus_value_model.specs.Values.{ValueTree, ValueTrees, NoValues, MoreValues, VariantValue, StructValue, EntryValue, type_of, value_trees}
 use Rattle.dbus_value_laws.proofs.ReadSteps.{one_byte}
 use Rattle.dbus_walk.specs.declared.container.Container.TheVariants as kind
 use Rattle.dbus_walk.specs.Standing.{AllStand, ElementsStand}
-use Rattle.dbus_walk.specs.Containers.{IsOf, inside, parts}
+use Rattle.dbus_walk.specs.Containers.{IsOf, inside, is_none, parts}
 use Rattle.dbus_walk.proofs.Laid.{long_coded, short_coded, laid_as}
 use Rattle.dbus_walk.proofs.Together.{no_row, aligned, between_long, one_struct, one_ends, fields_inside, outermost}
 use Rattle.dbus_walk.proofs.Lists.{no_elements}
 use Rattle.dbus_value_model.proofs.Periods.{no_gap}
 use Rattle.dbus_walk.proofs.Parts.{types_some, ends_within}
-use Rattle.dbus_walk.proofs.Walks.{not_ok, held_ok, ok_from, Taken, none_taken, more_taken, starts, first_part, all_left, next_element, element_left, no_element, first_ends, of_first, of_others, next_value, value_left, no_value}
+use Rattle.dbus_walk.proofs.Walks.{passed_over, not_ok, held_ok, ok_from, Taken, none_taken, more_taken, starts, first_part, all_left, next_element, element_left, no_element, first_ends, of_first, of_others, next_value, value_left, no_value}
 use Rattle.dbus_walk.proofs.walk.+walk.Goals as goal
 
 pub elements-loop-place-init : goal.elements-loop-place-init
@@ -68,6 +68,20 @@ elements-returns-then-is_err-clause-walked g t c = λ vs rest e. not_ok c.value-
 pub elements-returns-then-spot-end-clause-walked : goal.elements-returns-then-spot-end-clause-walked
 elements-returns-then-spot-end-clause-walked g t c = λ vs rest e.
     ([], no_elements vs e c.if-spot-end.true, g.met.V.Visitor.none c.args.visitor.now c.args.gathered.now c.args.source.now.order c.args.spot.now.at)
+
+pub elements-returns-then-wants_no_more-clause-walked : goal.elements-returns-then-wants_no_more-clause-walked
+elements-returns-then-wants_no_more-clause-walked g t c = λ vs rest e.
+    let l = c.loop-place.invariant.left vs rest e in
+    let order = c.args.source.now.order in
+    let at = c.args.spot.now.at in
+    let s = c.loop-place.visitor in
+    let m = c.loop-place.gathered in
+    let no_more = c.wants_no_more.ensures in
+    let all = passed_over c.args.spot.now.depth_left (λ (done : List ValueTree). g.V.Visitor.many c.args.visitor.now c.args.gathered.now order at done m s)
+    (λ done v formed many. g.met.V.Visitor.more c.args.visitor.now s s s c.args.gathered.now m m order at (at + length (spellings order at (value_trees done))) done v many (no_more.parts c.if-wants_no_more.true (is_none done)) refl
+    (no_more.values c.if-wants_no_more.true order (at + length (spellings order at (value_trees done))) c.args.spot.now.depth_left v formed))
+    l.done l.us l.keeps.formed l.walked.taken in
+    (all.0, l.joins ∙ all.1, all.2)
 
 pub elements-returns-clause-walked : goal.elements-returns-clause-walked
 elements-returns-clause-walked g t c = λ vs rest e.
