@@ -5,6 +5,7 @@
 //! and its new value, and of any other message the numbers of each array of UINT32 in its body.
 
 use anyhow::{Result, bail};
+use dbus_display::Shown;
 use dbus_message::{
     Elements, MessageView, ValueView, Values, copy_value, copy_values, stated_length,
 };
@@ -24,16 +25,6 @@ fn print_owners(rt: &HostRuntime, view: &MessageView) -> Result<()> {
     Ok(())
 }
 
-// A property's value that is no container.
-fn print_plain(rt: &HostRuntime, name: &str, value: &ValueView) -> io::Result<()> {
-    match value {
-        ValueView::Str(text) => println!(rt; "{name} is {text}"),
-        ValueView::Bool(is_so) => println!(rt; "{name} is {is_so}"),
-        ValueView::U32(number) => println!(rt; "{name} is {number}"),
-        _ => println!(rt; "{name} is of another type"),
-    }
-}
-
 // A property's value, as a variant holds it. A struct is copied, as to keep it when the bytes are
 // gone.
 fn print_property(rt: &HostRuntime, alloc: Global, name: &str, held: Values) -> io::Result<()> {
@@ -43,10 +34,7 @@ fn print_property(rt: &HostRuntime, alloc: Global, name: &str, held: Values) -> 
         }
         return Ok(());
     }
-    for value in held {
-        print_plain(rt, name, &value)?;
-    }
-    Ok(())
+    println!(rt; "{name} is {}", Shown(&held))
 }
 
 // An interface, a dictionary of its properties and their new values, and the names of others.

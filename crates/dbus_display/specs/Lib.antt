@@ -1,0 +1,3 @@
+pub mod FirstAlone
+pub mod Written
+pub mod WrittenLaws
