@@ -28,7 +28,7 @@ use Rattle.cli_report.specs.declared.ending.Cause.{Cause}
 use Rattle.cli_report.specs.declared.ending.Cause.TheVariants.{Memory, ReadFailed, WriteFailed, TooManyReads}
 use Rattle.cli_run.specs.ByName.{ended_by, stopped_by}
 use Rattle.cli_run.specs.Handing.{GivesNext, Stays}
-use Rattle.cli_run.specs.Onward.{AreAll, AreHanded, HasKnownPackets, HasRead, HandsAllOn, HandsEnough, HandsRawOn, HandsSomeOn, HandsOn, RawHandsOn, StopsFor}
+use Rattle.cli_run.specs.Onward.{AreAll, AreHanded, HasKnownPackets, HasRead, HandsAllOn, HandsRawOn, HandsSomeOn, HandsOn, RawHandsOn, StopsFor}
 use Rattle.cli_run.specs.Inputs.{IsPacketBefore, IsTimeBefore, Placed}
 use Rattle.cli_run.specs.Needed.{ReadsFor}
 use Rattle.cli_run.specs.Visiting.{AddsUp, AreWanted, FillsBy, IsOfReading, TakesOne}

@@ -4,9 +4,7 @@ use Rattle.std.proofs.Common.{◌≡◌, ◌⊎◌, ◌≢◌, ℕ, ◌+◌, Boo
 use Rattle.std.proofs.Math.Path.{transport}
 use Rattle.std.proofs.lemmas.Bool.{false≢true}
 use Rattle.dbus_device.specs.Packets.{Packets}
-use Rattle.dbus_value_model.specs.declared.fault.Fault.{Fault}
 use Rattle.dbus_value_model.specs.declared.limits.Limits.{Limits}
-use Rattle.dbus_value_model.specs.declared.order.Order.{Order}
 use Rattle.dbus_message_model.specs.Messages.{MessageTree}
 use Rattle.dbus_header.proofs.OutcomeLaws.{one_whole}
 use Rattle.dbus_names.specs.NameStates.{NameState}
@@ -14,11 +12,16 @@ use Rattle.dbus_stream.specs.Cut.{CutMessage, CutOutcome, Ended}
 use Rattle.cli_options.specs.declared.command.Command.{Command}
 use Rattle.cli_options.specs.declared.settings.Settings.{Settings}
 use Rattle.cli_options.specs.declared.window.Window.{Window}
+use Rattle.cli_options.specs.Selections.{SelectsBy}
+use Rattle.cli_options.specs.declared.wanted_lines.WantedLines.{WantedLines}
+use Rattle.dbus_call_lines.specs.Listing.{Numbered, nth}
 use Rattle.cli_run.specs.Going.{EndsWhole, passed_count}
+use Rattle.cli_run.specs.CallListing.{number_and_time}
+use Rattle.cli_run.specs.LineListing.{AreLinesFilled, AreLinesOf}
+use Rattle.cli_run.specs.LineNames.{first_names, names_after, owners_for}
 use Rattle.cli_run.specs.Inputs.{ArePlaced, BeginWithParts, Part, PassedOver, Placed, Stated, Whole, sizes_of}
-use Rattle.cli_run.specs.Output.{IsFilledBy, IsOutputOf, IsOutputOfAll, Picks, after, is_spent, owners_after, owners_known}
+use Rattle.cli_run.specs.Output.{IsFilledBy, IsOutputOfAll, Picks, after, is_spent, owners_after, owners_known}
 use Rattle.cli_run.specs.Visiting.{AreWanted}
-use Rattle.cli_run.specs.declared.place.MessagePlace.{MessagePlace}
 use Rattle.cli_run.proofs.SameOutputs.{ActsAs}
 use Rattle.cli_run.proofs.SameParts.{ArePassed, AreSame, AreSamePackets, EndsHere, both_size, no_part, no_whole_part, part_fault}
 
@@ -37,19 +40,15 @@ same_last s t m l e one = items_last s m ∙ ((λ i. e i ++ one i ∷ []) ∙ sy
 
 -- ---- as many texts of the same messages
 
-module _ (a b : Command) (h : ActsAs a b) where
-  same_one : (os : NameState) (o p : Order) (m l : MessageTree) (place there : MessagePlace) (x y : List (List ℕ)) → m ≡ l → IsOutputOf a os o m place x → IsOutputOf b os p l there y → length x ≡ length y
-  same_one os o p m l place there x y e made also = elim made [
-    | inl met ↦ elim also [
-      | inl too ↦ ap length met.3 ∙ sym (ap length too.3)
-      | inr not ↦ absurd (not.0 (subst (λ k. Picks b os k) e ((h.picks os m).0 met.0)))
-    ]
-    | inr unmet ↦ elim also [
-      | inl too ↦ absurd (unmet.0 ((h.picks os m).1 (subst (λ k. Picks b os k) (sym e) too.0)))
-      | inr not ↦ ap length unmet.1 ∙ sym (ap length not.1)
-    ]
-  ]
+-- one text if a message is picked, else none
+same_one : {P Q : Type 0} (to : P → Q) (from : Q → P) {A B : List ℕ → Type 0} (x y : List (List ℕ)) → (P × (text : List ℕ) × A text × (x ≡ text ∷ [])) ⊎ ((P → ⊥) × (x ≡ []))
+    → (Q × (text : List ℕ) × B text × (y ≡ text ∷ [])) ⊎ ((Q → ⊥) × (y ≡ [])) → length x ≡ length y
+same_one to from x y (inl met) (inl too) = ap length met.3 ∙ sym (ap length too.3)
+same_one to from x y (inl met) (inr not) = absurd (not.0 (to met.0))
+same_one to from x y (inr unmet) (inl too) = absurd (unmet.0 (from too.0))
+same_one to from x y (inr unmet) (inr not) = ap length unmet.1 ∙ sym (ap length not.1)
 
+module _ (a b : Command) (h : ActsAs a b) where
   same_many : (os : NameState) (s t : List Placed) (x y : List (List ℕ)) → items_of s ≡ items_of t → IsOutputOfAll a os s x → IsOutputOfAll b os t y → length x ≡ length y
   same_many os [] [] x y e p q = ap length (p ∙ sym q)
   same_many os [] (l ∷ t) x y e p q = absurd cc
@@ -59,7 +58,8 @@ module _ (a b : Command) (h : ActsAs a b) where
       let more : items_of s ≡ items_of t = cc in
       let message : m.item.message ≡ l.item.message = ap (λ (i : CutMessage). i.message) one in
       let learned : owners_after b os l.item.message ≡ owners_after a os m.item.message = ap (λ k. owners_after b os k) (sym message) ∙ sym (h.learned os m.item.message) in
-      let first = same_one os m.item.order l.item.order m.item.message l.item.message m.place l.place p.0 q.0 message p.3 q.3 in
+      let picks = h.picks os m.item.message in
+      let first = same_one (λ is. subst (λ k. Picks b os k) message (picks.0 is)) (λ is. picks.1 (subst (λ k. Picks b os k) (sym message) is)) p.0 q.0 p.3 q.3 in
       let rest = same_many (owners_after a os m.item.message) s t p.1 q.1 more p.4 (subst (λ (o : NameState). IsOutputOfAll b o t q.1) learned q.4) in
       omega (arith, first, rest, ap length p.2, ap length q.2, length-append p.0 p.1, length-append q.0 q.1)
 
@@ -67,6 +67,25 @@ module _ (a b : Command) (h : ActsAs a b) where
   filled_alike window s t x y e p q =
       let n = same_many (owners_known a None) s t p.0 q.0 e p.1 (subst (λ (o : NameState). IsOutputOfAll b o t q.0) (sym h.known) q.1) in
       sym p.2 ∙ ((λ i. is_spent (after window (n i)) && not (h.checks i)) ∙ q.2)
+
+-- and as many lines
+same_lines : (wanted : WantedLines) (os : NameState) (before also : List Numbered) (s t : List Placed) (x y : List (List ℕ)) → items_of s ≡ items_of t → AreLinesOf wanted os before s x → AreLinesOf wanted os also t y → length x ≡ length y
+same_lines wanted os before also [] [] x y e p q = ap length (p ∙ sym q)
+same_lines wanted os before also [] (l ∷ t) x y e p q = absurd cc
+same_lines wanted os before also (m ∷ s) [] x y e p q = absurd cc
+same_lines wanted os before also (m ∷ s) (l ∷ t) x y e p q =
+    let one : m.item ≡ l.item = cc in
+    let more : items_of s ≡ items_of t = cc in
+    let message : m.item.message ≡ l.item.message = ap (λ (i : CutMessage). i.message) one in
+    let first = same_one (subst (SelectsBy wanted.selection (owners_for wanted.selection os)) message) (subst (SelectsBy wanted.selection (owners_for wanted.selection os)) (sym message)) p.0 q.0 p.2 q.2 in
+    let there = subst (λ (k : MessageTree). AreLinesOf wanted (names_after os k) (also ++ nth (number_and_time l.place) l.item.message ∷ []) t q.1) (sym message) q.3 in
+    let rest = same_lines wanted (names_after os m.item.message) _ _ s t p.1 q.1 more p.3 there in
+    omega (arith, first, rest, ap length p.4, ap length q.4, length-append p.0 p.1, length-append q.0 q.1)
+
+pub lines_filled : (wanted : WantedLines) (window : Window) (s t : List Placed) (x y : Bool) → items_of s ≡ items_of t → AreLinesFilled wanted window s x → AreLinesFilled wanted window t y → x ≡ y
+lines_filled wanted window s t x y e p q =
+    let n = same_lines wanted (first_names wanted.selection) [] [] s t p.0 q.0 e p.1 q.1 in
+    sym p.2 ∙ (ap (λ (n : ℕ). is_spent (after window n)) n ∙ q.2)
 
 -- ---- where more is wanted
 

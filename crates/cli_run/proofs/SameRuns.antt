@@ -15,30 +15,30 @@ use Rattle.dbus_call_lines.specs.Keeping.{ended_rows}
 use Rattle.dbus_call_lines.specs.Listing.{AreListed, Row, rows_text, Numbered}
 use Rattle.dbus_call_lines.proofs.Rows.{one_list}
 use Rattle.dbus_call_lines.proofs.Stray.{one_stray}
+use Rattle.dbus_call_lines.specs.declared.wanted.Wanted.{Wanted}
 use Rattle.dbus_call_members.specs.Summing.{members, sums}
 use Rattle.dbus_call_members.specs.Tables.{IsTable}
 use Rattle.dbus_call_members.proofs.OneTable.{one_table as one_member_table}
 use Rattle.dbus_stream.specs.Cut.{IsOutcome, BeginWith, CutMessage, CutOutcome, Ended, Refused, IsCut}
 use Rattle.dbus_stream.specs.CutEnds.{fault_at_end, sizes}
 use Rattle.dbus_stream.proofs.CutLaws.{IsCut-one, BeginWith-more}
-use Rattle.cli_options.specs.Selections.{AreSameCommand}
-use Rattle.cli_options.specs.declared.command.Command.{Command}
 use Rattle.cli_options.specs.declared.resync.Resync.TheVariants.{Off}
 use Rattle.cli_options.specs.declared.settings.Settings.{Settings}
 use Rattle.cli_report.specs.Devices.{Reading, Taken, Writing, taken, writing}
 use Rattle.cli_report.specs.declared.ending.Cause.{Cause}
 use Rattle.cli_report.specs.declared.ending.ExitStatus.{ExitStatus}
 use Rattle.cli_report.specs.declared.ending.ExitStatus.TheVariants as status
-use Rattle.cli_run.specs.Laws.{AreToldAlike, ExplainsNone, GotAlike, OneCalls, OneCount, OneRun, OneSums, OneTelling, OneWithin, ReadAlike, RunAlike}
+use Rattle.cli_run.specs.Laws.{AreOfOneInput, AreOfSamePackets, AreToldAlike, EndAlike, GotAlike, MadeAlike, OneCalls, OneCount, OneListing, OneRun, OneSums, OneWithin, TellAlike}
 use Rattle.cli_run.specs.ByName.{EndsBy, WritesTables, counting, span_of}
 use Rattle.cli_run.specs.CallListing.{EndsNoted, IsNote, WritesCalls, all_named, lack_times, notes, numbered}
-use Rattle.cli_run.specs.CallSumming.{WritesSums}
+use Rattle.cli_run.specs.CallSumming.{IsTableOf, WritesSums}
+use Rattle.cli_run.specs.Ending.{EndsAfterAll}
 use Rattle.cli_run.specs.Going.{AreTold, Goes, GoesFar, GoesThrough, IsThrough, IsToldLast, closing_line, cut_tally, passed_count, status_at, tally_of, tally_with}
 use Rattle.cli_run.specs.Inputs.{ArePlaced, BeginWithParts, Part, Placed, size_of, sizes_of, wholes}
 use Rattle.cli_run.specs.Needed.{IsReadFor}
 use Rattle.cli_run.specs.Output.{IsFilledBy, is_check, check_line, fault_line, form_of, header_before, last_line, output_of, second_output, status_of, written}
 use Rattle.cli_run.specs.Refusals.{IsFaultIn}
-use Rattle.cli_run.specs.Shown.{AllShown, AreShownAlike, last_of, passed_of, shown_of}
+use Rattle.cli_run.specs.Shown.{AllShown, last_of, passed_of, shown_of, shown_through}
 use Rattle.cli_run.specs.Running.{Writes, TellsLine}
 use Rattle.cli_run.specs.Told.{first_of, second_of}
 use Rattle.cli_run.specs.VisitorLaws.{wrote_both}
@@ -48,7 +48,7 @@ use Rattle.cli_run.proofs.GoSteps.{none_is as none_refused_is}
 use Rattle.cli_run.proofs.Outputs.{header_one}
 use Rattle.cli_run.proofs.PartLaws.{is_last, parts_more, parts_of}
 use Rattle.cli_run.proofs.SameOutputs.{ShowAlike, acts_as, are_passed, bare_placed, bare_tally, none_last, none_refused, none_told, one_placed, same_counts, same_last, same_outputs, same_told}
-use Rattle.cli_run.proofs.SameFar.{filled_alike, items_of, not_through, same_far}
+use Rattle.cli_run.proofs.SameFar.{filled_alike, items_of, lines_filled, not_through, same_far}
 use Rattle.cli_run.proofs.SameParts.{AreKnown, AreSame, EndsHere, IsKeptOf, bare, ends_here, packet_by, same_cut, same_parts}
 use Rattle.std.specs.List.{concat}
 use Rattle.std.specs.Option.{is_none}
@@ -77,22 +77,22 @@ taken_alike r s end due is told = elim told [ inl packets ↦ inl (packets.all, 
 abbrev AreAlikeRuns : (t u : Taken) (P Q : List Placed → (told : List ℕ) → Type 0) (end other : ExitStatus) → Type 0
 AreAlikeRuns t u P Q end other = (items also : List Placed) × (told : List ℕ) × P items told × Q also told × (other ≡ end) × (parts : List Part) × ArePlaced t.packets 1 0 parts items × ArePlaced u.packets 1 0 parts also
 
+-- of the same packets
+same_items : {R S : Type 0} (r : Reading R) (s : Reading S) {P Q : List Placed → (told : List ℕ) → Type 0} {end other : ExitStatus} (all : AreAlikeRuns (taken r) (taken s) P Q end other) → AreOfSamePackets r s → all.0 ≡ all.1
+same_items r s all packets =
+    let here = subst (λ (p : Option Packets). ArePlaced p 1 0 all.6 all.0) packets.one all.7 in
+    let there = subst (λ (p : Option Packets). ArePlaced p 1 0 all.6 all.1) packets.same all.8 in
+    one_placed packets.all 1 0 all.6 all.0 all.1 here there
+
 none_passed : (cut : Option (Option ℕ)) (parts : List Part) (rest : List ℕ) → (tally_with cut parts rest).passed ≡ 0 → passed_count parts ≡ 0
 none_passed None parts rest none = none
 none_passed (Some by) parts rest none = absurd (omega (arith, none))
 
--- nothing is explained, or as many bytes of each message that is refused had been read
-abbrev TellsAlike : Settings → ExitStatus → AllShown → AllShown → Type 0
-TellsAlike settings end a b = ExplainsNone settings end ⊎ AreShownAlike settings a b
-
-abbrev shown_through : {t : Taken} {settings : Settings} {is_check : Bool} {most : ℕ} {F : List Placed → Bool → Type 0} {P : List Placed → (told : List ℕ) → Type 0} {end : ExitStatus} → GoesThrough t settings most is_check F P end → AllShown
-shown_through g = record { passed = passed_of g.through.parts; last = last_of g.through.kept g.fault }
-
 abbrev shown_far : {t : Taken} {settings : Settings} {is_check : Bool} {most : ℕ} {F : List Placed → Bool → Type 0} {N : (size : ℕ) → Type 0} {P : List Placed → (told : List ℕ) → Type 0} {end : ExitStatus} → GoesFar t settings most is_check F N P end → AllShown
 shown_far g = record { passed = passed_of g.parts; last = [] }
 
--- then each is told alike, or nothing was refused
-by_bytes : (settings : Settings) (end : ExitStatus) (a b : AllShown) → TellsAlike settings end a b → (end ≡ status.Done) ⊎ (ShowAlike settings a.passed b.passed × ShowAlike settings a.last b.last)
+-- each refused message is told alike, or nothing was refused
+by_bytes : (settings : Settings) (end : ExitStatus) (a b : AllShown) → TellAlike settings end a b → (end ≡ status.Done) ⊎ (ShowAlike settings a.passed b.passed × ShowAlike settings a.last b.last)
 by_bytes settings end a b tells = elim tells [
   | inl none ↦ elim none [ inl off ↦ inr (inl off, inl off) | inr done ↦ inl done ]
   | inr alike ↦ inr (inr alike.passed, inr alike.last)
@@ -132,7 +132,7 @@ module _ (settings : Settings) (is_check : Bool) (input : List ℕ) (bytes : IsB
   -- ---- two runs
 
   module _ {t u : Taken} {most more : ℕ} {F G : List Placed → Bool → Type 0} {P Q : List Placed → (told : List ℕ) → Type 0} {end other : ExitStatus} (g : GoesThrough t settings most is_check F P end) (h : GoesThrough u settings more is_check G Q other)
-      (explains : TellsAlike settings end (shown_through g) (shown_through h)) (known : t.left0 ≡ Some input) (known_too : u.left0 ≡ Some input) (alike : AreTakenAlike t u end) where
+      (explains : TellAlike settings end (shown_through g) (shown_through h)) (known : t.left0 ≡ Some input) (known_too : u.left0 ≡ Some input) (alike : AreTakenAlike t u end) where
     a : IsReached g.through
     a = reached g.through known
 
@@ -236,7 +236,7 @@ module _ (settings : Settings) (is_check : Bool) (input : List ℕ) (bytes : IsB
 
   module _ {t u : Taken} {most more : ℕ} {F G : List Placed → Bool → Type 0} {P Q : List Placed → (told : List ℕ) → Type 0} {end other : ExitStatus} (one : (s l : List Placed) (x y : Bool) → items_of s ≡ items_of l → F s x → G l y → x ≡ y)
       (known : t.left0 ≡ Some input) (known_too : u.left0 ≡ Some input) (alike : AreTakenAlike t u end) where
-    module _ {N M : (size : ℕ) → Type 0} (g : GoesFar t settings most is_check F N P end) (h : GoesFar u settings more is_check G M Q other) (explains : TellsAlike settings end (shown_far g) (shown_far h)) where
+    module _ {N M : (size : ℕ) → Type 0} (g : GoesFar t settings most is_check F N P end) (h : GoesFar u settings more is_check G M Q other) (explains : TellAlike settings end (shown_far g) (shown_far h)) where
       far_same : AreSame g.parts h.parts × ((far_begins g known).0 ≡ (far_begins h known_too).0)
       far_same = same_far settings.limits F G one t.packets u.packets settings 1 0 1 0 input g.parts h.parts _ _ g.messages h.messages [] [] refl (far_begins g known).1 (far_begins h known_too).1 g.placed h.placed g.wanted h.wanted
           g.enough.0 h.enough.0 (are_passed t.packets settings 1 0 g.parts g.told g.covers.tells) (are_passed u.packets settings 1 0 h.parts h.told h.covers.tells) g.enough.1 h.enough.1 refl
@@ -294,7 +294,7 @@ module _ (settings : Settings) (is_check : Bool) (input : List ℕ) (bytes : IsB
         h.placed g.placed h.wanted g.wanted (after_all u.packets h.through.cut (sizes_of h.through.parts) b.last h.through.tells.outcome b.ends) (are_passed u.packets settings 1 0 h.through.parts h.told h.through.covers.tells) (are_passed t.packets settings 1 0 g.parts g.told g.covers.tells) h.unfilled g.enough.1 refl
         (elim alike [ inl packets ↦ inl (packets.0, packets.2, packets.1) | inr done ↦ inr (inr (none_refused (passed_count g.parts) None (sym g.end_is ∙ done)).0) ])
 
-    ends_alike : {N M : (size : ℕ) → Type 0} (g : Goes t settings most is_check F N P end) (h : Goes u settings more is_check G M Q other) → TellsAlike settings end (shown_of g) (shown_of h) → AreAlikeRuns t u P Q end other
+    ends_alike : {N M : (size : ℕ) → Type 0} (g : Goes t settings most is_check F N P end) (h : Goes u settings more is_check G M Q other) → TellAlike settings end (shown_of g) (shown_of h) → AreAlikeRuns t u P Q end other
     ends_alike (inl through) (inl too) explains = goes_alike through too explains known known_too alike
     ends_alike (inl through) (inr far) explains = absurd (far_not through far)
     ends_alike (inr far) (inl too) explains = absurd (not_far far too)
@@ -302,23 +302,23 @@ module _ (settings : Settings) (is_check : Bool) (input : List ℕ) (bytes : IsB
 
 -- ---- the laws
 
--- two runs that tell alike end alike
-one_ending : {R S W V E F : Type 0} (r : Reading R) (s : Reading S) (w : Writing W) (v : Writing V) (e : Writing E) (f : Writing F) (settings : Settings) (most more : ℕ) (command copy : Command) (end other : ExitStatus) → AreSameCommand command copy
-    → ReadAlike r s → AreToldAlike r s end → (g : Goes (taken r) settings most (is_check command) (IsFilledBy command settings.window) (IsReadFor r) (Writes w e settings command) end)
-    → (h : Goes (taken s) settings more (is_check copy) (IsFilledBy copy settings.window) (IsReadFor s) (Writes v f settings copy) other) → TellsAlike settings end (shown_of g) (shown_of h) → RunAlike r s w v e f settings command copy end other
-one_ending r s w v e f settings most more command copy end other same input told g h tells =
+-- two runs of the same packets that took the same messages
+made_alike : {R S : Type 0} (r : Reading R) (s : Reading S) {P Q : List Placed → (told : List ℕ) → Type 0} {end other : ExitStatus} → AreAlikeRuns (taken r) (taken s) P Q end other → AreOfSamePackets r s → MadeAlike P Q end other
+made_alike r s {P} {Q} all packets =
+    let items = same_items r s all packets in
+    record { status_is = all.5; items = all.0; told = all.2; one = all.3; same = subst (λ (l : List Placed). Q l all.2) (sym items) all.4 }
+
+pub one_run : (R S W V E F : Type 0) → OneRun R S W V E F
+one_run R S W V E F r s w v e f settings most more command copy end other same (inl g) (inl h) is =
     let acts = acts_as command copy same in
     let checks = acts.checks in
-    let k = subst (λ c. (k : Goes (taken s) settings more c (IsFilledBy copy settings.window) (IsReadFor s) (Writes v f settings copy) other) × TellsAlike settings end (shown_of g) (shown_of k)) (sym checks) (h, tells) in
-    let all = ends_alike settings (is_check command) input.0 input.1 (filled_alike command copy acts settings.window) input.2 input.3 (taken_alike r s end end refl told) g k.0 k.1 in
+    let input = is.input in
+    let k = subst (λ c. (k : Goes (taken s) settings more c (IsFilledBy copy settings.window) (IsReadFor s) (Writes v f settings copy) other) × TellAlike settings end (shown_of g) (shown_of k)) (sym checks) (h, is.shown) in
+    let all = ends_alike settings (is_check command) input.0 input.1 (filled_alike command copy acts settings.window) input.2 input.3 (taken_alike r s end end refl is.told) g k.0 k.1 in
     let one = all.0 in
     let other = all.1 in
     let told = all.2 in (
-      λ packets.
-          let here = subst (λ (p : Option Packets). ArePlaced p 1 0 all.6 one) packets.one all.7 in
-          let there = subst (λ (p : Option Packets). ArePlaced p 1 0 all.6 other) packets.same all.8 in
-          let items = one_placed packets.all 1 0 all.6 one other here there in
-          record { status_is = all.5; items = one; told = told; one = all.3; same = subst (λ (l : List Placed). Writes v f settings copy l told) (sym items) all.4 },
+      made_alike r s all,
       λ exact alike.
           let texts = same_outputs command copy acts exact (r.packets r.old) (s.packets s.old) alike all.6 one other all.3.texts all.4.texts all.7 all.8 all.3.made all.4.made in
           let header : header_before (form_of command) false one ≡ header_before (form_of copy) false other
@@ -332,20 +332,15 @@ one_ending r s w v e f settings most more command copy end other same input told
             second = (second_of (is_check command) told, all.3.second, subst (λ l. Wrote f.held f.failures f.old l f.new) (sym second) all.4.second);
           },
     )
+one_run R S W V E F r s w v e f settings most more command copy end other same (inl g) (inr gave_up) is = absurd (is.other_done gave_up.failed)
+one_run R S W V E F r s w v e f settings most more command copy end other same (inr gave_up) ran is = absurd (is.done gave_up.failed)
 
-pub one_run : (R S W V E F : Type 0) → OneRun R S W V E F
-one_run R S W V E F r s w v e f settings most more command copy end other same is runs ran = elim runs [
-  | inl g ↦ elim ran [
-    | inl h ↦ one_ending r s w v e f settings most more command copy end other same is.input is.told g h (inl is.explains)
-    | inr gave_up ↦ absurd (is.other_done gave_up.failed)
-  ]
-  | inr gave_up ↦ absurd (is.done gave_up.failed)
-]
-
-pub one_telling : (R S W V E F : Type 0) → OneTelling R S W V E F
-one_telling R S W V E F r s w v e f settings most more command copy end other alike input told (inl g) (inl h) tells = one_ending r s w v e f settings most more command copy end other alike input told g h (inr tells)
-one_telling R S W V E F r s w v e f settings most more command copy end other alike input told (inl g) (inr gave_up) tells = absurd tells
-one_telling R S W V E F r s w v e f settings most more command copy end other alike input told (inr gave_up) ran tells = absurd tells
+pub one_listing : (R S W V E F : Type 0) → OneListing R S W V E F
+one_listing R S W V E F r s w v e f settings wanted most more end other (inl g) (inl h) is packets =
+    let input = is.input in
+    made_alike r s (ends_alike settings false input.0 input.1 (lines_filled wanted settings.window) input.2 input.3 (taken_alike r s end end refl is.told) g h is.shown) packets
+one_listing R S W V E F r s w v e f settings wanted most more end other (inl g) (inr gave_up) is packets = absurd (is.other_done gave_up.failed)
+one_listing R S W V E F r s w v e f settings wanted most more end other (inr gave_up) listed is packets = absurd (is.done gave_up.failed)
 
 -- what is due was written
 ended : {E : Type 0} (Writes : Result (Unit {0}) Cause → Type 0) (e : Writing E) (due end : ExitStatus) → (end ≡ status.Failed → ⊥) → EndsBy Writes e due end → Writes (Ok tt) × (e.new ≡ e.old) × (end ≡ due)
@@ -366,123 +361,105 @@ one_note lacks xs note other h k =
     let same : h.0 ≡ k.0 = h.1.2 ∙ (ap (λ n. min n (2 ^ 64 - 1)) count ∙ sym k.1.2) in
     h.2 ∙ (ap (notes lacks) same ∙ sym k.2)
 
--- nothing is explained, also by the status that was due
-due_explains : (settings : Settings) (due end : ExitStatus) → end ≡ due → ExplainsNone settings end → ExplainsNone settings due
-due_explains settings due end is none = elim none [ inl off ↦ inl off | inr all ↦ inr (sym is ∙ all) ]
+-- two runs that write more at their ends took the same messages, and told the same
+after_alike : {R S E F : Type 0} (r : Reading R) (s : Reading S) (e : Writing E) (f : Writing F) (settings : Settings) {most more : ℕ} {P : List Placed → Writing E → (due end : ExitStatus) → Type 0} {Q : List Placed → Writing F → (due end : ExitStatus) → Type 0} {end other : ExitStatus}
+    (g : EndsAfterAll r e settings most P end) (h : EndsAfterAll s f settings more Q other) → AreOfOneInput r s settings end other (shown_through g.through) (shown_through h.through) → end ≡ g.due
+    → AreAlikeRuns (taken r) (taken s) (λ items told. Wrote e.held e.failures e.old told g.before × P items (writing e.held e.failures g.before e.new) g.due end)
+    (λ items told. Wrote f.held f.failures f.old told h.before × Q items (writing f.held f.failures h.before f.new) h.due other) g.due h.due
+after_alike r s e f settings g h is due =
+    let input = is.input in
+    let tells = subst (λ (x : ExitStatus). TellAlike settings x (shown_through g.through) (shown_through h.through)) due is.shown in
+    goes_alike settings false input.0 input.1 g.through h.through tells input.2 input.3 (taken_alike r s _ g.due (sym due) is.told)
 
 pub one_count : (R S W V E F : Type 0) → OneTable → OneCount R S W V E F
-one_count R S W V E F one_table r s w v e f settings form most more end other is counts counted = elim counts [
-  | inl g ↦ elim counted [
-    | inl h ↦ (
-        let input = is.input in
-        let due = (ended (WritesTables w form _ _) (writing e.held e.failures g.before e.new) g.due end is.done g.through.came.1).2 in
-        let explains = due_explains settings g.due end due is.explains in
-        let all = goes_alike settings false input.0 input.1 g.through h.through (inl explains) input.2 input.3 (taken_alike r s end g.due (sym due) is.told) in
-        let told = all.2 in
-        let items = all.0 in
-        let also = all.1 in
-        let counts_too = λ (name : List ℕ). same_counts (s.packets s.old) (r.packets r.old) 1 0 all.6 also items name None all.8 all.7 in
-        let one = ended (WritesTables w form (counting items) (span_of items)) (writing e.held e.failures g.before e.new) g.due end is.done all.3.1 in
-        let too = ended (WritesTables v form (counting also) (span_of also)) (writing f.held f.failures h.before f.new) h.due other is.other_done all.4.1 in
-        let same = subst (λ (c : Counting). AreTables form c words too.0.1.tables) (λ i name. counts_too name i) too.0.1.are in
-        let table = one_table form (counting items) words one.0.1.tables too.0.1.tables one.0.1.are same in
-        let ends : other ≡ end = too.2 ∙ (all.5 ∙ sym one.2) in
-        let second : GotAlike e f = (
-          told,
-          subst (λ (x : E). Wrote e.held e.failures e.old told x) (sym one.1) all.3.0,
-          subst (λ (x : F). Wrote f.held f.failures f.old told x) (sym too.1) all.4.0,
-        ) in (
-          record {
-            status_is = ends;
-            tables = one.0.1.tables;
-            span = span_of items;
-            other_span = span_of also;
-            one = subst (λ l. Wrote w.held w.failures w.old l w.new) one.0.1.is one.0.2;
-            same = subst (λ l. Wrote v.held v.failures v.old l v.new) (too.0.1.is ∙ ap (λ l. l ++ span_text form (span_of also)) (sym table)) too.0.2;
-            second = second;
-          },
-          λ packets.
-              let here = subst (λ (p : Option Packets). ArePlaced p 1 0 all.6 items) packets.one all.7 in
-              let there = subst (λ (p : Option Packets). ArePlaced p 1 0 all.6 also) packets.same all.8 in
-              let placed = one_placed packets.all 1 0 all.6 items also here there in
-              let text : one.0.0 ≡ too.0.0 = one.0.1.is ∙ ((λ i. table i ++ span_text form (span_of (placed i))) ∙ sym too.0.1.is) in
-              record { status_is = ends; first = (one.0.0, one.0.2, subst (λ l. Wrote v.held v.failures v.old l v.new) (sym text) too.0.2); second = second },
-        )
-        )
-    | inr gave_up ↦ absurd (is.other_done gave_up.0.failed)
-  ]
-  | inr gave_up ↦ absurd (is.done gave_up.0.failed)
-]
+one_count R S W V E F one_table r s w v e f settings form most more end other (inl g) (inl h) is =
+    let due = (ended (WritesTables w form _ _) (writing e.held e.failures g.before e.new) g.due end is.done g.through.came.1).2 in
+    let all = after_alike r s e f settings g h is due in
+    let told = all.2 in
+    let items = all.0 in
+    let also = all.1 in
+    let counts_too = λ (name : List ℕ). same_counts (s.packets s.old) (r.packets r.old) 1 0 all.6 also items name None all.8 all.7 in
+    let one = ended (WritesTables w form (counting items) (span_of items)) (writing e.held e.failures g.before e.new) g.due end is.done all.3.1 in
+    let too = ended (WritesTables v form (counting also) (span_of also)) (writing f.held f.failures h.before f.new) h.due other is.other_done all.4.1 in
+    let same = subst (λ (c : Counting). AreTables form c words too.0.1.tables) (λ i name. counts_too name i) too.0.1.are in
+    let table = one_table form (counting items) words one.0.1.tables too.0.1.tables one.0.1.are same in
+    let ends : other ≡ end = too.2 ∙ (all.5 ∙ sym one.2) in
+    let second : GotAlike e f = (
+      told,
+      subst (λ (x : E). Wrote e.held e.failures e.old told x) (sym one.1) all.3.0,
+      subst (λ (x : F). Wrote f.held f.failures f.old told x) (sym too.1) all.4.0,
+    ) in (
+      record {
+        status_is = ends;
+        tables = one.0.1.tables;
+        span = span_of items;
+        other_span = span_of also;
+        one = subst (λ l. Wrote w.held w.failures w.old l w.new) one.0.1.is one.0.2;
+        same = subst (λ l. Wrote v.held v.failures v.old l v.new) (too.0.1.is ∙ ap (λ l. l ++ span_text form (span_of also)) (sym table)) too.0.2;
+        second = second;
+      },
+      λ packets.
+          let placed = same_items r s all packets in
+          let text : one.0.0 ≡ too.0.0 = one.0.1.is ∙ ((λ i. table i ++ span_text form (span_of (placed i))) ∙ sym too.0.1.is) in
+          record { status_is = ends; first = (one.0.0, one.0.2, subst (λ l. Wrote v.held v.failures v.old l v.new) (sym text) too.0.2); second = second },
+    )
+one_count R S W V E F one_table r s w v e f settings form most more end other (inl g) (inr gave_up) is = absurd (is.other_done gave_up.0.failed)
+one_count R S W V E F one_table r s w v e f settings form most more end other (inr gave_up) counted is = absurd (is.done gave_up.0.failed)
+
+-- two runs that write a text of all messages, and then a note: the text is one
+module _ {R S W V E F : Type 0} (r : Reading R) (s : Reading S) (w : Writing W) (v : Writing V) (e : Writing E) (f : Writing F) (settings : Settings) {most more : ℕ} {end other : ExitStatus} (lacks : List Placed → Bool) (xs : List Placed → List Numbered)
+    (Is : List Placed → List ℕ → Type 0) (one_text : (items : List Placed) (x y : List ℕ) → Is items x → Is items y → x ≡ y) (A B : List Placed → Result (Unit {0}) Cause → Type 0)
+    (writes : (items : List Placed) → A items (Ok tt) → (text : List ℕ) × Is items text × Wrote w.held w.failures w.old text w.new) (wrote : (items : List Placed) → B items (Ok tt) → (text : List ℕ) × Is items text × Wrote v.held v.failures v.old text v.new) where
+  noted_alike : (g : EndsAfterAll r e settings most (λ items rest due end. EndsNoted (A items) (IsNote (lacks items) (xs items)) rest due end) end)
+      (h : EndsAfterAll s f settings more (λ items rest due end. EndsNoted (B items) (IsNote (lacks items) (xs items)) rest due end) other)
+      → AreOfOneInput r s settings end other (shown_through g.through) (shown_through h.through) → AreOfSamePackets r s → EndAlike w v e f end other
+  noted_alike g h is packets =
+      let due = (ended_noted (A g.through.messages) (IsNote (lacks g.through.messages) (xs g.through.messages)) (writing e.held e.failures g.before e.new) g.due end is.done g.through.came.1).4 in
+      let all = after_alike r s e f settings g h is due in
+      let items = all.0 in
+      let also = all.1 in
+      let told = all.2 in
+      let same = same_items r s all packets in
+      let one = ended_noted (A items) (IsNote (lacks items) (xs items)) (writing e.held e.failures g.before e.new) g.due end is.done all.3.1 in
+      let too = ended_noted (B also) (IsNote (lacks also) (xs also)) (writing f.held f.failures h.before f.new) h.due other is.other_done all.4.1 in
+      let note = one_note (lacks items) (xs items) one.1 too.1 one.2 (subst (λ (l : List Placed). IsNote (lacks l) (xs l) too.1) (sym same) too.2) in
+      let first = writes items one.0 in
+      let second = wrote also too.0 in
+      let text = one_text items first.0 second.0 first.1 (subst (λ (l : List Placed). Is l second.0) (sym same) second.1) in
+      record {
+        status_is = too.4 ∙ (all.5 ∙ sym one.4);
+        first = (first.0, first.2, subst (λ l. Wrote v.held v.failures v.old l v.new) (sym text) second.2);
+        second = (
+          told ++ one.1,
+          wrote_both e.held e.failures told one.1 e.old g.before e.new all.3.0 one.3,
+          wrote_both f.held f.failures told one.1 f.old h.before f.new all.4.0 (subst (λ (t : List ℕ). Wrote f.held f.failures h.before t f.new) (sym note) too.3),
+        );
+      }
+
+-- the lines of all calls
+abbrev IsListOf : Wanted → List Placed → List ℕ → Type 0
+IsListOf wanted items text = (rows : List Row) × AreListed [] (all_named items) rows × (text ≡ rows_text wanted rows)
+
+one_list_text : (wanted : Wanted) (items : List Placed) (x y : List ℕ) → IsListOf wanted items x → IsListOf wanted items y → x ≡ y
+one_list_text wanted items x y h k = h.2 ∙ (ap (rows_text wanted) (one_list (all_named items) h.0 k.0 h.1 k.1) ∙ sym k.2)
+
+one_sums_text : (wanted : Wanted) (items : List Placed) (x y : List ℕ) → IsTableOf wanted items x → IsTableOf wanted items y → x ≡ y
+one_sums_text wanted items x y h k =
+    let rows = one_list (numbered items) h.0 k.0 h.1 k.1 in
+    one_member_table wanted.form (sums (ended_rows members wanted h.0)) x y h.2 (subst (λ (l : List Row). IsTable wanted.form (sums (ended_rows members wanted l)) y) (sym rows) k.2)
 
 pub one_calls : (R S W V E F : Type 0) → OneCalls R S W V E F
-one_calls R S W V E F r s w v e f settings wanted most more end other is packets lists listed = elim lists [
-  | inl g ↦ elim listed [
-    | inl h ↦ (
-        let input = is.input in
-        let due = (ended_noted (WritesCalls w wanted g.through.messages) (IsNote (lack_times wanted g.through.messages) (all_named g.through.messages)) (writing e.held e.failures g.before e.new) g.due end is.done g.through.came.1).4 in
-        let explains = due_explains settings g.due end due is.explains in
-        let all = goes_alike settings false input.0 input.1 g.through h.through (inl explains) input.2 input.3 (taken_alike r s end g.due (sym due) is.told) in
-        let items = all.0 in
-        let also = all.1 in
-        let told = all.2 in
-        let one = ended_noted (WritesCalls w wanted items) (IsNote (lack_times wanted items) (all_named items)) (writing e.held e.failures g.before e.new) g.due end is.done all.3.1 in
-        let too = ended_noted (WritesCalls v wanted also) (IsNote (lack_times wanted also) (all_named also)) (writing f.held f.failures h.before f.new) h.due other is.other_done all.4.1 in
-        let here = subst (λ (p : Option Packets). ArePlaced p 1 0 all.6 items) packets.one all.7 in
-        let there = subst (λ (p : Option Packets). ArePlaced p 1 0 all.6 also) packets.same all.8 in
-        let same = one_placed packets.all 1 0 all.6 also items there here in
-        let note = one_note (lack_times wanted items) (all_named items) one.1 too.1 one.2 (subst (λ (l : List Placed). IsNote (lack_times wanted l) (all_named l) too.1) same too.2) in
-        let listed_too = subst (λ (l : List Placed). AreListed [] (all_named l) too.0.0) same too.0.1 in
-        let text : rows_text wanted one.0.0 ≡ rows_text wanted too.0.0 = ap (rows_text wanted) (one_list (all_named items) one.0.0 too.0.0 one.0.1 listed_too) in
-        record {
-          status_is = too.4 ∙ (all.5 ∙ sym one.4);
-          first = (rows_text wanted one.0.0, one.0.2, subst (λ l. Wrote v.held v.failures v.old l v.new) (sym text) too.0.2);
-          second = (
-            told ++ one.1,
-            wrote_both e.held e.failures told one.1 e.old g.before e.new all.3.0 one.3,
-            wrote_both f.held f.failures told one.1 f.old h.before f.new all.4.0 (subst (λ (t : List ℕ). Wrote f.held f.failures h.before t f.new) (sym note) too.3),
-          );
-        }
-        )
-    | inr gave_up ↦ absurd (is.other_done gave_up.failed)
-  ]
-  | inr gave_up ↦ absurd (is.done gave_up.failed)
-]
+one_calls R S W V E F r s w v e f settings wanted most more end other (inl g) (inl h) is packets =
+    noted_alike r s w v e f settings (lack_times wanted) all_named (IsListOf wanted) (one_list_text wanted) (WritesCalls w wanted) (WritesCalls v wanted) (λ items lists. (rows_text wanted lists.0, (lists.0, lists.1, refl), lists.2))
+    (λ items lists. (rows_text wanted lists.0, (lists.0, lists.1, refl), lists.2)) g h is packets
+one_calls R S W V E F r s w v e f settings wanted most more end other (inl g) (inr gave_up) is packets = absurd (is.other_done gave_up.failed)
+one_calls R S W V E F r s w v e f settings wanted most more end other (inr gave_up) listed is packets = absurd (is.done gave_up.failed)
 
 pub one_sums : (R S W V E F : Type 0) → OneSums R S W V E F
-one_sums R S W V E F r s w v e f settings wanted most more end other is packets lists listed = elim lists [
-  | inl g ↦ elim listed [
-    | inl h ↦ (
-        let input = is.input in
-        let due = (ended_noted (WritesSums w wanted g.through.messages) (IsNote (lack_times wanted g.through.messages) (numbered g.through.messages)) (writing e.held e.failures g.before e.new) g.due end is.done g.through.came.1).4 in
-        let explains = due_explains settings g.due end due is.explains in
-        let all = goes_alike settings false input.0 input.1 g.through h.through (inl explains) input.2 input.3 (taken_alike r s end g.due (sym due) is.told) in
-        let items = all.0 in
-        let also = all.1 in
-        let told = all.2 in
-        let one = ended_noted (WritesSums w wanted items) (IsNote (lack_times wanted items) (numbered items)) (writing e.held e.failures g.before e.new) g.due end is.done all.3.1 in
-        let too = ended_noted (WritesSums v wanted also) (IsNote (lack_times wanted also) (numbered also)) (writing f.held f.failures h.before f.new) h.due other is.other_done all.4.1 in
-        let here = subst (λ (p : Option Packets). ArePlaced p 1 0 all.6 items) packets.one all.7 in
-        let there = subst (λ (p : Option Packets). ArePlaced p 1 0 all.6 also) packets.same all.8 in
-        let same = one_placed packets.all 1 0 all.6 also items there here in
-        let note = one_note (lack_times wanted items) (numbered items) one.1 too.1 one.2 (subst (λ (l : List Placed). IsNote (lack_times wanted l) (numbered l) too.1) same too.2) in
-        let listed_too = subst (λ (l : List Placed). AreListed [] (numbered l) too.0.1.0) same too.0.1.1 in
-        let rows = one_list (numbered items) one.0.1.0 too.0.1.0 one.0.1.1 listed_too in
-        let table = subst (λ (l : List Row). IsTable wanted.form (sums (ended_rows members wanted l)) too.0.0) (sym rows) too.0.1.2 in
-        let text : one.0.0 ≡ too.0.0 = one_member_table wanted.form (sums (ended_rows members wanted one.0.1.0)) one.0.0 too.0.0 one.0.1.2 table in
-        record {
-          status_is = too.4 ∙ (all.5 ∙ sym one.4);
-          first = (one.0.0, one.0.2, subst (λ l. Wrote v.held v.failures v.old l v.new) (sym text) too.0.2);
-          second = (
-            told ++ one.1,
-            wrote_both e.held e.failures told one.1 e.old g.before e.new all.3.0 one.3,
-            wrote_both f.held f.failures told one.1 f.old h.before f.new all.4.0 (subst (λ (t : List ℕ). Wrote f.held f.failures h.before t f.new) (sym note) too.3),
-          );
-        }
-        )
-    | inr gave_up ↦ absurd (is.other_done gave_up.0.failed)
-  ]
-  | inr gave_up ↦ absurd (is.done gave_up.0.failed)
-]
+one_sums R S W V E F r s w v e f settings wanted most more end other (inl g) (inl h) is packets =
+    noted_alike r s w v e f settings (lack_times wanted) numbered (IsTableOf wanted) (one_sums_text wanted) (WritesSums w wanted) (WritesSums v wanted) (λ items sums. sums) (λ items sums. sums) g h is packets
+one_sums R S W V E F r s w v e f settings wanted most more end other (inl g) (inr gave_up) is packets = absurd (is.other_done gave_up.0.failed)
+one_sums R S W V E F r s w v e f settings wanted most more end other (inr gave_up) summed is packets = absurd (is.done gave_up.0.failed)
 
 -- ---- runs under limits alone
 

@@ -1,5 +1,5 @@
 -- Which messages are wanted: more of them, and those after others.
-use Rattle.std.proofs.Common.{◌≡◌, ◌≢◌, Bool, false, ℕ, List, [], ◌∷◌, ◌++◌, refl, sym, ap, ◌∙◌, subst, append_assoc, append-nil}
+use Rattle.std.proofs.Common.{◌≡◌, ◌≢◌, Bool, false, ℕ, List, [], ◌∷◌, ◌++◌, refl, sym, ◌∙◌, subst, append_assoc, append-nil}
 use Rattle.dbus_stream.specs.Cut.{CutMessage}
 use Rattle.cli_run.specs.Going.{EndsWhole}
 use Rattle.cli_run.specs.Inputs.{Part, PassedOver, Placed, Whole, wholes}

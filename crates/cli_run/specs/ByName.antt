@@ -10,7 +10,7 @@ use Rattle.dbus_count.specs.declared.count.Count.{Count}
 use Rattle.dbus_count.specs.declared.form.Form.{Form}
 use Rattle.dbus_count.specs.declared.span.Span.{Span}
 use Rattle.cli_options.specs.declared.settings.Settings.{Settings}
-use Rattle.cli_report.specs.Devices.{Reading, Writing, taken, writing, Taken}
+use Rattle.cli_report.specs.Devices.{Reading, Writing, taken, Taken}
 use Rattle.cli_report.specs.Telling.{Told}
 use Rattle.cli_report.specs.declared.ending.Cause.{Cause}
 use Rattle.cli_report.specs.declared.ending.Cause.TheVariants.{Memory, WriteFailed, ReadFailed, TooManyReads}
@@ -18,7 +18,8 @@ use Rattle.cli_report.specs.declared.ending.ExitStatus.{ExitStatus}
 use Rattle.cli_report.specs.declared.ending.ExitStatus.TheVariants as status
 use Rattle.dbus_stream.specs.declared.read_fault.ReadFault.{ReadFault}
 use Rattle.dbus_stream.specs.declared.read_fault.ReadFault.TheVariants as read
-use Rattle.cli_run.specs.Going.{GivesUp, GoesThrough, IsThrough, StopsWithin}
+use Rattle.cli_run.specs.Ending.{EndsAfterAll}
+use Rattle.cli_run.specs.Going.{GivesUp, IsThrough, StopsWithin}
 use Rattle.cli_run.specs.Inputs.{Placed}
 use Rattle.cli_run.specs.Told.{GotSecond}
 use Rattle.cli_run.specs.Visiting.{WantsAll}
@@ -85,11 +86,8 @@ abbrev pub EndsCount : {W E : Type 0} → Writing W → Writing E → Form → C
 EndsCount w e form c span due end = EndsBy (WritesTables w form c span) e due end
 
 -- all was told, and then the tables of all messages and the line of their span were written
-pub record CountsThrough {R W E : Type 0} (r : Reading R) (w : Writing W) (e : Writing E) (settings : Settings) (form : Form) (most : ℕ) (end : ExitStatus) : Type 0 where
-  pub due : ExitStatus
-  pub before : E
-  pub through : GoesThrough (taken r) settings most false WantsAll
-      (λ items told. Wrote e.held e.failures e.old told before × EndsCount w (writing e.held e.failures before e.new) form (counting items) (span_of items) due end) due
+abbrev pub CountsThrough : {R W E : Type 0} → Reading R → Writing W → Writing E → Settings → Form → (most : ℕ) → ExitStatus → Type 0
+CountsThrough r w e settings form most end = EndsAfterAll r e settings most (λ items rest due end. EndsCount w rest form (counting items) (span_of items) due end) end
 
 -- or reading or telling was given up, and no table is written
 abbrev pub CountsByName : {R W E : Type 0} → Reading R → Writing W → Writing E → Settings → Form → (most : ℕ) → ExitStatus → Type 0

@@ -13,14 +13,15 @@ use Rattle.dbus_call_lines.specs.declared.wanted.Wanted.{Wanted}
 use Rattle.dbus_names.specs.Kept.{state_of}
 use Rattle.dbus_names.specs.NameStates.{NameState, known_first}
 use Rattle.cli_options.specs.declared.settings.Settings.{Settings}
-use Rattle.cli_report.specs.Devices.{Reading, Writing, taken, writing}
+use Rattle.cli_report.specs.Devices.{Reading, Writing, taken}
 use Rattle.cli_report.specs.Gathering.{Breaks, Passes, gathered_bytes}
 use Rattle.cli_report.specs.declared.ending.Cause.{Cause}
 use Rattle.cli_report.specs.declared.ending.Cause.TheVariants.{Memory, WriteFailed}
 use Rattle.cli_report.specs.Telling.{Told}
 use Rattle.cli_report.specs.declared.ending.ExitStatus.{ExitStatus}
 use Rattle.cli_report.specs.declared.ending.ExitStatus.TheVariants as status
-use Rattle.cli_run.specs.Going.{GivesUp, GoesThrough}
+use Rattle.cli_run.specs.Ending.{EndsAfterAll}
+use Rattle.cli_run.specs.Going.{GivesUp}
 use Rattle.cli_run.specs.Inputs.{Placed}
 use Rattle.cli_run.specs.LineNames.{known_beside, names_after, names_after_all}
 use Rattle.cli_run.specs.Visiting.{WantsAll}
@@ -158,11 +159,8 @@ EndsNoted Writes Is e due end = (Writes (Ok tt) × (note : List ℕ) × Is note 
     ⊎ ((cause : Cause) × Writes (Err cause) × Told e.held e.failures e.old e.new cause × (end ≡ status.Failed))
 
 -- all was told, and the calls of all messages were listed
-pub record ListsThrough {R W E : Type 0} (r : Reading R) (w : Writing W) (e : Writing E) (settings : Settings) (wanted : Wanted) (most : ℕ) (end : ExitStatus) : Type 0 where
-  pub due : ExitStatus
-  pub before : E
-  pub through : GoesThrough (taken r) settings most false WantsAll
-      (λ items told. Wrote e.held e.failures e.old told before × EndsNoted (WritesCalls w wanted items) (IsNote (lack_times wanted items) (all_named items)) (writing e.held e.failures before e.new) due end) due
+abbrev pub ListsThrough : {R W E : Type 0} → Reading R → Writing W → Writing E → Settings → Wanted → (most : ℕ) → ExitStatus → Type 0
+ListsThrough r w e settings wanted most end = EndsAfterAll r e settings most (λ items rest due end. EndsNoted (WritesCalls w wanted items) (IsNote (lack_times wanted items) (all_named items)) rest due end) end
 
 -- or reading or telling was given up, and the lines that were due before were written
 abbrev pub ListsCalls : {R W E : Type 0} → Reading R → Writing W → Writing E → Settings → Wanted → (most : ℕ) → ExitStatus → Type 0

@@ -12,13 +12,14 @@ use Rattle.dbus_call_members.specs.Summing.{AreSums, is_short, members, sums}
 use Rattle.dbus_call_members.specs.Tables.{IsTable}
 use Rattle.dbus_call_members.specs.declared.member_sums.MemberSums.{MemberSums}
 use Rattle.cli_options.specs.declared.settings.Settings.{Settings}
-use Rattle.cli_report.specs.Devices.{Reading, Writing, taken, writing}
+use Rattle.cli_report.specs.Devices.{Reading, Writing, taken}
 use Rattle.cli_report.specs.declared.ending.Cause.{Cause}
 use Rattle.cli_report.specs.declared.ending.Cause.TheVariants.{Memory, WriteFailed}
 use Rattle.cli_report.specs.declared.ending.ExitStatus.{ExitStatus}
 use Rattle.cli_run.specs.ByName.{IsUnwritten}
 use Rattle.cli_run.specs.CallListing.{EndsNoted, IsNote, have_time, lack_times, notes, numbered}
-use Rattle.cli_run.specs.Going.{GivesUp, GoesThrough}
+use Rattle.cli_run.specs.Ending.{EndsAfterAll}
+use Rattle.cli_run.specs.Going.{GivesUp}
 use Rattle.cli_run.specs.Inputs.{Placed}
 use Rattle.cli_run.specs.Told.{GotSecond}
 use Rattle.cli_run.specs.Visiting.{WantsAll}
@@ -72,11 +73,8 @@ WritesLast w wanted form before earlier lacks_times (Err WriteFailed) = (table n
 WritesLast w wanted form before earlier lacks_times (Err cause) = ⊥
 
 -- all was told, and the table of all messages was written
-pub record SumsThrough {R W E : Type 0} (r : Reading R) (w : Writing W) (e : Writing E) (settings : Settings) (wanted : Wanted) (most : ℕ) (end : ExitStatus) : Type 0 where
-  pub due : ExitStatus
-  pub before : E
-  pub through : GoesThrough (taken r) settings most false WantsAll
-      (λ items told. Wrote e.held e.failures e.old told before × EndsNoted (WritesSums w wanted items) (IsNote (lack_times wanted items) (numbered items)) (writing e.held e.failures before e.new) due end) due
+abbrev pub SumsThrough : {R W E : Type 0} → Reading R → Writing W → Writing E → Settings → Wanted → (most : ℕ) → ExitStatus → Type 0
+SumsThrough r w e settings wanted most end = EndsAfterAll r e settings most (λ items rest due end. EndsNoted (WritesSums w wanted items) (IsNote (lack_times wanted items) (numbered items)) rest due end) end
 
 -- or reading or telling was given up, and no table is written
 abbrev pub SumsCalls : {R W E : Type 0} → Reading R → Writing W → Writing E → Settings → Wanted → (most : ℕ) → ExitStatus → Type 0

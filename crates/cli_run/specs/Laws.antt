@@ -2,7 +2,6 @@
 -- and of each command but `json` exactly one. And what a command does by its settings is what it
 -- does under limits alone, if they ask for no more.
 use Rattle.std.specs.Prelude.{◌≡◌, ℕ, Bool, true, false, List, [], ◌∷◌, ◌++◌, Option, ◌≢◌, ◌⊎◌, Some}
-use mathlib.Core.Logic.{inl}
 use Rattle.std.specs.List.{AllByRecursion}
 use Rattle.dbus_value_model.specs.declared.fault.Fault.{Fault}
 use Rattle.dbus_stream.specs.Cut.{CutMessage}
@@ -15,7 +14,7 @@ use Rattle.dbus_capture.specs.Reading.{IsRead}
 use Rattle.dbus_message_model.specs.Messages.{IsValidMessage}
 use Rattle.dbus_names.specs.NameStates.{NameState}
 use Rattle.cli_options.specs.declared.settings.Settings.{Settings}
-use Rattle.cli_report.specs.Devices.{reading, writing, Reading, Taken, Writing}
+use Rattle.cli_report.specs.Devices.{reading, writing, Reading, Writing}
 use Rattle.cli_report.specs.declared.ending.ExitStatus.{ExitStatus}
 use Rattle.cli_report.specs.Gathering.{IsPrefixTo}
 use Rattle.dbus_device.specs.Device.{Wrote}
@@ -28,7 +27,7 @@ use Rattle.dbus_count.specs.declared.span.Span.{Span}
 use Rattle.cli_options.specs.Selections.{AreSameCommand}
 use Rattle.cli_report.specs.declared.ending.ExitStatus.TheVariants as status
 use Rattle.cli_run.specs.Running.{Runs, RunsWith, Writes}
-use Rattle.cli_run.specs.Going.{Goes, ShowsNone}
+use Rattle.cli_run.specs.Going.{ShowsNone}
 use Rattle.cli_run.specs.Output.{AreAlike, IsExact, IsFirstOutput, IsFront, IsOutputOfAll, form_of, output_of}
 use Rattle.dbus_call_lines.specs.Listing.{AreNames}
 use Rattle.dbus_call_lines.specs.declared.wanted.Wanted.{Wanted}
@@ -36,8 +35,8 @@ use Rattle.cli_run.specs.ByName.{CountsByName}
 use Rattle.cli_run.specs.CallListing.{ListsCalls, all_named}
 use Rattle.cli_run.specs.CallSumming.{SumsCalls}
 use Rattle.cli_run.specs.Inputs.{Placed}
-use Rattle.cli_run.specs.Shown.{AreShownAlike, shown_of}
-use Rattle.cli_run.specs.LineListing.{AreLinesOf}
+use Rattle.cli_run.specs.Shown.{AllShown, AreShownAlike, shown_after, shown_by}
+use Rattle.cli_run.specs.LineListing.{AreLinesOf, ListsLines, WritesLines}
 use Rattle.cli_run.specs.LineNames.{first_names}
 use Rattle.cli_options.specs.declared.wanted_lines.WantedLines.{WantedLines}
 
@@ -108,14 +107,14 @@ pub record EndAlike {W V E F : Type 0} (w : Writing W) (v : Writing V) (e : Writ
   pub first : GotAlike w v
   pub second : GotAlike e f
 
--- the same, but that the first writers got texts of the same messages, which `json` may write by
--- other digits
-pub record MadeAlike {W V E F : Type 0} (w : Writing W) (v : Writing V) (e : Writing E) (f : Writing F) (settings : Settings) (command copy : Command) (end other : ExitStatus) : Type 0 where
+-- the same, but that what the first writers got was made of the same messages: `json` and `list` may
+-- write a DOUBLE by other digits. made and again say what was done with messages, and what was told
+pub record MadeAlike (made again : List Placed → (told : List ℕ) → Type 0) (end other : ExitStatus) : Type 0 where
   pub status_is : other ≡ end
   pub items : List Placed
   pub told : List ℕ
-  pub one : Writes w e settings command items told
-  pub same : Writes v f settings copy items told
+  pub one : made items told
+  pub same : again items told
 
 -- both inputs are of the same packets: a line of JSON has the time of its message's packet, and so
 -- has a message that is written as a packet
@@ -129,11 +128,17 @@ pub record AreOfSamePackets {R S : Type 0} (r : Reading R) (s : Reading S) : Typ
 abbrev pub AreToldAlike : {R S : Type 0} → Reading R → Reading S → ExitStatus → Type 0
 AreToldAlike r s end = AreOfSamePackets r s ⊎ (end ≡ status.Done)
 
--- two runs by the same settings read the same input, and did not fail
-pub record AreOfOneInput {R S : Type 0} (r : Reading R) (s : Reading S) (settings : Settings) (end other : ExitStatus) : Type 0 where
+-- what is told of refused messages is the same: nothing is explained, or it is of as many bytes of
+-- each
+abbrev pub TellAlike : Settings → ExitStatus → (one also : AllShown) → Type 0
+TellAlike settings end one also = ExplainsNone settings end ⊎ AreShownAlike settings one also
+
+-- two runs by the same settings read the same input, and did not fail; these are the messages that
+-- each refused
+pub record AreOfOneInput {R S : Type 0} (r : Reading R) (s : Reading S) (settings : Settings) (end other : ExitStatus) (one also : AllShown) : Type 0 where
   pub input : ReadAlike r s
   pub told : AreToldAlike r s end
-  pub explains : ExplainsNone settings end
+  pub shown : TellAlike settings end one also
   pub done : end ≢ status.Failed
   pub other_done : other ≢ status.Failed
 
@@ -141,25 +146,12 @@ pub record AreOfOneInput {R S : Type 0} (r : Reading R) (s : Reading S) (setting
 -- command is exact, with the same bytes
 abbrev pub RunAlike : {R S W V E F : Type 0} → Reading R → Reading S → Writing W → Writing V → Writing E → Writing F → Settings → (command copy : Command) → (end other : ExitStatus) → Type 0
 RunAlike r s w v e f settings command copy end other =
-    (AreOfSamePackets r s → MadeAlike w v e f settings command copy end other) × (IsExact command → AreAlike (form_of command) (r.packets r.old) (s.packets s.old) → EndAlike w v e f end other)
+    (AreOfSamePackets r s → MadeAlike (Writes w e settings command) (Writes v f settings copy) end other) × (IsExact command → AreAlike (form_of command) (r.packets r.old) (s.packets s.old) → EndAlike w v e f end other)
 
 -- two runs of a command
 abbrev pub OneRun : (R S W V E F : Type 0) → Type 0
 OneRun R S W V E F = (r : Reading R) (s : Reading S) (w : Writing W) (v : Writing V) (e : Writing E) (f : Writing F) (settings : Settings) (most more : ℕ) (command copy : Command) (end other : ExitStatus)
-    → AreSameCommand command copy → AreOfOneInput r s settings end other → RunsWith r w e settings most command end → RunsWith s v f settings more copy other
-    → RunAlike r s w v e f settings command copy end other
-
--- both runs did not fail, and what they told of refused messages, also as JSON or with explanations,
--- is of as many bytes of each
-abbrev pub TellAlike : (settings : Settings) → {t u : Taken} {most more : ℕ} {is_check too : Bool} {F G : List Placed → Bool → Type 0} {N M : (size : ℕ) → Type 0} {P Q : List Placed → (told : List ℕ) → Type 0} {end other : ExitStatus} {A B : Type 0}
-    → Goes t settings most is_check F N P end ⊎ A → Goes u settings more too G M Q other ⊎ B → Type 0
-TellAlike settings (inl a) (inl b) = AreShownAlike settings (shown_of a) (shown_of b)
-TellAlike settings a b = ⊥
-
--- two such runs of a command
-abbrev pub OneTelling : (R S W V E F : Type 0) → Type 0
-OneTelling R S W V E F = (r : Reading R) (s : Reading S) (w : Writing W) (v : Writing V) (e : Writing E) (f : Writing F) (settings : Settings) (most more : ℕ) (command copy : Command) (end other : ExitStatus)
-    → AreSameCommand command copy → ReadAlike r s → AreToldAlike r s end → (runs : RunsWith r w e settings most command end) → (ran : RunsWith s v f settings more copy other) → TellAlike settings runs ran
+    → AreSameCommand command copy → (runs : RunsWith r w e settings most command end) → (ran : RunsWith s v f settings more copy other) → AreOfOneInput r s settings end other (shown_by runs) (shown_by ran)
     → RunAlike r s w v e f settings command copy end other
 
 -- two runs of a command under the same limits alone
@@ -182,13 +174,20 @@ pub record CountAlike {W V E F : Type 0} (w : Writing W) (v : Writing V) (e : Wr
 -- two runs that count messages by their names
 abbrev pub OneCount : (R S W V E F : Type 0) → Type 0
 OneCount R S W V E F = (r : Reading R) (s : Reading S) (w : Writing W) (v : Writing V) (e : Writing E) (f : Writing F) (settings : Settings) (form : Form) (most more : ℕ) (end other : ExitStatus)
-    → AreOfOneInput r s settings end other → CountsByName r w e settings form most end → CountsByName s v f settings form more other
+    → (counts : CountsByName r w e settings form most end) → (counted : CountsByName s v f settings form more other) → AreOfOneInput r s settings end other (shown_after counts) (shown_after counted)
     → CountAlike w v e f form end other × (AreOfSamePackets r s → EndAlike w v e f end other)
 
 -- two runs that list calls, of the same packets: a line has the time of its call's packet
 abbrev pub OneCalls : (R S W V E F : Type 0) → Type 0
 OneCalls R S W V E F = (r : Reading R) (s : Reading S) (w : Writing W) (v : Writing V) (e : Writing E) (f : Writing F) (settings : Settings) (wanted : Wanted) (most more : ℕ) (end other : ExitStatus)
-    → AreOfOneInput r s settings end other → AreOfSamePackets r s → ListsCalls r w e settings wanted most end → ListsCalls s v f settings wanted more other → EndAlike w v e f end other
+    → (lists : ListsCalls r w e settings wanted most end) → (listed : ListsCalls s v f settings wanted more other) → AreOfOneInput r s settings end other (shown_after lists) (shown_after listed)
+    → AreOfSamePackets r s → EndAlike w v e f end other
+
+-- two runs that list messages, of the same packets: a line has the time of its message's packet
+abbrev pub OneListing : (R S W V E F : Type 0) → Type 0
+OneListing R S W V E F = (r : Reading R) (s : Reading S) (w : Writing W) (v : Writing V) (e : Writing E) (f : Writing F) (settings : Settings) (wanted : WantedLines) (most more : ℕ) (end other : ExitStatus)
+    → (lists : ListsLines r w e settings wanted most end) → (listed : ListsLines s v f settings wanted more other) → AreOfOneInput r s settings end other (shown_by lists) (shown_by listed)
+    → AreOfSamePackets r s → MadeAlike (WritesLines w e settings wanted) (WritesLines v f settings wanted) end other
 
 -- of each list of messages `list` has lines
 abbrev pub SomeLines : Type 0
@@ -197,7 +196,8 @@ SomeLines = (wanted : WantedLines) (items : List Placed) → (lines : List (List
 -- two runs that sum up calls, of the same packets
 abbrev pub OneSums : (R S W V E F : Type 0) → Type 0
 OneSums R S W V E F = (r : Reading R) (s : Reading S) (w : Writing W) (v : Writing V) (e : Writing E) (f : Writing F) (settings : Settings) (wanted : Wanted) (most more : ℕ) (end other : ExitStatus)
-    → AreOfOneInput r s settings end other → AreOfSamePackets r s → SumsCalls r w e settings wanted most end → SumsCalls s v f settings wanted more other → EndAlike w v e f end other
+    → (sums : SumsCalls r w e settings wanted most end) → (summed : SumsCalls s v f settings wanted more other) → AreOfOneInput r s settings end other (shown_after sums) (shown_after summed)
+    → AreOfSamePackets r s → EndAlike w v e f end other
 
 -- The names by which `calls` knows connections are bus names.
 abbrev pub TellsBusNames : Type 0

@@ -12,6 +12,7 @@ pub mod Needed
 pub mod Onward
 pub mod PassingOn
 pub mod Going
+pub mod Ending
 pub mod Shown
 pub mod Running
 pub mod CallListing

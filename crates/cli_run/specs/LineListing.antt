@@ -111,11 +111,15 @@ module _ {W E : Type 0} (held : W → Option (List ℕ)) (failures : W → ℕ) 
 abbrev pub AreLinesFilled : WantedLines → Window → List Placed → Bool → Type 0
 AreLinesFilled wanted window items filled = (lines : List (List ℕ)) × AreLinesOf wanted (first_names wanted.selection) [] items lines × (is_spent (after window (length lines)) ≡ filled)
 
--- what the window lets through of the lines of the messages was written, and all was told; or the
--- run was given up, and the lines of the messages before that were written
+-- what the window lets through of the lines of the messages was written, and this was told
+abbrev pub WritesLines : {W E : Type 0} → Writing W → Writing E → Settings → WantedLines → List Placed → (told : List ℕ) → Type 0
+WritesLines w e settings wanted items told = (lines : List (List ℕ)) × AreLinesOf wanted (first_names wanted.selection) [] items lines
+    × Wrote w.held w.failures w.old (written settings.window lines) w.new × Wrote e.held e.failures e.old told e.new
+
+-- that, and all was told; or the run was given up, and the lines of the messages before that were
+-- written
 abbrev pub ListsLines : {R W E : Type 0} → Reading R → Writing W → Writing E → Settings → WantedLines → (most : ℕ) → ExitStatus → Type 0
 ListsLines r w e settings wanted most end =
-    Goes (taken r) settings most false (AreLinesFilled wanted settings.window) (IsReadFor r) (λ items told. (lines : List (List ℕ)) × AreLinesOf wanted (first_names wanted.selection) [] items lines
-    × Wrote w.held w.failures w.old (written settings.window lines) w.new × Wrote e.held e.failures e.old told e.new) end
+    Goes (taken r) settings most false (AreLinesFilled wanted settings.window) (IsReadFor r) (WritesLines w e settings wanted) end
     ⊎ GivesUp (taken r) settings most false (AreLinesFilled wanted settings.window) e (λ before items told stop. (lines : List (List ℕ)) × AreLinesOf wanted (first_names wanted.selection) [] items lines
     × GotFirst w.held w.failures false stop (written settings.window lines) w.old w.new × GotSecond e.held e.failures false stop told e.old before) end

@@ -2,7 +2,7 @@
 //! and it does nothing when it runs.
 #![tactic(auto)]
 
-ghost use Rattle.cli_run.specs.Laws.{OneCalls, OneCount, OneRun, OneSums, OneWithin, OneFront, OneOutput, OneTelling, PlainRuns, SomeLines, SomeOutput, TellsBusNames, WritesFile};
+ghost use Rattle.cli_run.specs.Laws.{OneCalls, OneCount, OneListing, OneRun, OneSums, OneWithin, OneFront, OneOutput, PlainRuns, SomeLines, SomeOutput, TellsBusNames, WritesFile};
 
 use dbus_count::laws::one_table;
 use dbus_stream::{Sink, Source};
@@ -38,20 +38,14 @@ pub fn plain_run<R: Source, W: Sink, E: Sink>()
 {}
 
 /// Two runs of a command by the same settings, neither of which failed, that read the same input
-/// end with the same status, and their writers got the same bytes; but what is explained of a
-/// message that is refused, or told of it as JSON, shows its bytes as far as they happened to be
-/// read, `Json` may write a DOUBLE by other digits that read back as its bits, and times are others
-/// if the packets are. They are the same if a message is refused, since its line has the packet of
-/// its fault; and of `Swap` and `Filter` that write messages as they are read.
+/// end with the same status, and their writers got the same bytes; but `Json` may write a DOUBLE by
+/// other digits that read back as its bits, and times are others if the packets are. Both inputs
+/// are of the same packets if a message is refused, since its line has the packet of its fault, and
+/// of `Swap` and `Filter` that write messages as they are read. If what is refused is explained, or
+/// told as JSON, both had read as many bytes of each such message when it was, since these are
+/// shown, and in JSON its header fields have no DOUBLE.
 pub fn one_run<R, S, W, V, E, F>()
     ensures { OneRun R S W V E F }
-{}
-
-/// The same of two runs that explain what is refused, or tell it as JSON, if both had read as many
-/// bytes of each message that is refused when it was: what they tell of these is the same too. In
-/// JSON a header field of such a message has no DOUBLE.
-pub fn one_telling<R, S, W, V, E, F>()
-    ensures { OneTelling R S W V E F }
 {}
 
 /// The same of two runs of a command under the same limits alone, but `Json`, `List` and `Show`
@@ -71,6 +65,13 @@ pub fn one_count<R, S, W, V, E, F>()
 /// The same of two runs that list calls, if their inputs are of the same packets.
 pub fn one_calls<R, S, W, V, E, F>()
     ensures { OneCalls R S W V E F }
+{}
+
+/// The same of two runs that list messages, if their inputs are of the same packets, but that
+/// `list` may write a DOUBLE by other digits that read back as its bits: what both wrote are lines
+/// of the same messages.
+pub fn one_listing<R, S, W, V, E, F>()
+    ensures { OneListing R S W V E F }
 {}
 
 /// Of each list of messages `list` has lines, of those that are selected.

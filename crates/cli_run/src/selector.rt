@@ -1,12 +1,13 @@
 //! A selection whose rules are in a set, which finds those that match a message.
-ghost use Rattle.std.specs.Prelude.{◌≡◌, ◌↔◌, IfOk, IsTrue};
+ghost use Rattle.std.specs.Prelude.{◌≡◌, ◌↔◌, List, IfOk, IsTrue};
 ghost use Rattle.std.specs.Map.{values_of};
 ghost use Rattle.dbus_value_model.specs.declared.order.Order.{Order};
 ghost use Rattle.dbus_message_model.specs.Messages.{MessageTree};
+ghost use Rattle.dbus_match.specs.Matching.{Ownership};
 ghost use Rattle.dbus_view.specs.Views.{Views};
 ghost use Rattle.dbus_rule_set.specs.Held.{held};
 ghost use Rattle.dbus_rule_set.specs.Owners.{owners_in};
-ghost use Rattle.cli_options.specs.Selections.{SelectsBy};
+ghost use Rattle.cli_options.specs.Selections.{SelectsBy, SomeMatches};
 ghost use Rattle.cli_run.specs.RuleLists.{MatchAlike};
 
 use cli_options::Selection;
@@ -40,7 +41,21 @@ impl<'a> Selector<'a> {
         ensures { (order : Order) (m : MessageTree) → Views view.now order m →
             IsTrue result ↔ SelectsBy self.now.selection.now (owners_in owners.now) m }
     {
+        if takes_all(&self.selection.rules) {
+            return !self.selection.is_inverted;
+        }
         self.rules.any_matches(view, owners) != self.selection.is_inverted
+    }
+}
+
+// Whether the first rule has no keys, as that of a list for which none was given: it matches each
+// message, and no other need be looked for.
+fn takes_all(rules: &[Rule]) -> bool
+    ensures { IsTrue result → (m : MessageTree) (os : List Ownership) → SomeMatches rules.now m os }
+{
+    match rules {
+        [rule, ..] => rule.conditions().is_empty(),
+        [] => false,
     }
 }
 

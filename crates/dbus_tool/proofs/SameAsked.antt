@@ -1,13 +1,16 @@
 -- Words name one thing: a command but for where its rules and owners are kept, one list of
 -- settings, one form of tables, one side.
-use Rattle.std.proofs.Common.{◌≡◌, ◌≢◌, ◌⊎◌, ◌↔◌, ℕ, ◌+◌, ◌*◌, ◌≤◌, Bool, true, false, List, [], ◌∷◌, ◌++◌, map, None, Some, Option, IsTrue, codes, slice_index, refl, sym, ap, ◌∙◌, subst, arith, inl, inr, Result, Ok, Err, append-nil}
-use Rattle.std.specs.List.{AllByRecursion, flat_map}
+use Rattle.std.proofs.Common.{◌≡◌, ◌≢◌, ◌⊎◌, ◌↔◌, ℕ, ◌+◌, ◌*◌, ◌≤◌, Bool, true, false, not, ◌&&◌, List, [], ◌∷◌, ◌++◌, map, None, Some, Option, IsTrue, codes, slice_index, refl, sym, ap, ◌∙◌, subst, arith, inl, inr, Result, Ok, Err, append-nil}
+use Rattle.std.specs.List.{AllByRecursion, flat_map, list_any}
+use Rattle.std.specs.Str.{bytes_eq}
+use Rattle.std.proofs.Math.Path.{fun_ext, transport}
 use Rattle.std.specs.Option.{option_map}
 use Rattle.std.specs.declared.alloc.Global.{Global}
 use Rattle.std.proofs.lemmas.Bool.{false≢true}
 use Rattle.std.proofs.Math.Bridge.{le_prop}
 use mathlib.Core.HLevel.{is_prop→PathP}
 use Rattle.clap.specs.Words.{Row, Text, subcommand_of}
+use Rattle.clap.proofs.WalkLemmas.{list_any-map}
 use Rattle.dbus_texts.specs.Kinds.{IsElement, IsJoined, IsBusName, each_after, is_dashed, is_dashed_start}
 use Rattle.dbus_value_model.specs.declared.fd_rule.FdRule.{FdRule}
 use Rattle.dbus_value_model.specs.declared.fd_rule.FdRule.TheVariants.{Any, BelowCount}
@@ -18,7 +21,9 @@ use Rattle.dbus_device.specs.Packets.{Packets}
 use Rattle.dbus_device.specs.declared.packet.Packet.{Packet}
 use Rattle.dbus_handshake_input.specs.declared.side.Side.{Side}
 use Rattle.dbus_handshake_input.specs.declared.side.Side.TheVariants.{Client, Server}
+use Rattle.dbus_calls.specs.Answering.{is_ownable}
 use Rattle.dbus_rule.proofs.Unique.{one_rule}
+use Rattle.dbus_rule.specs.Rules.{sender_of}
 use Rattle.dbus_match.specs.declared.owner.Owner.{Owner}
 use Rattle.dbus_rule.specs.declared.rule.Rule.{Rule}
 use Rattle.dbus_match.specs.Matching.{Ownership, ownership, ownerships}
@@ -26,7 +31,7 @@ use Rattle.dbus_rule.specs.RuleViews.{rule_pairs}
 use Rattle.cli_options.specs.CommandLine.{wire_app}
 use Rattle.cli_options.specs.Limiting.{HasLimits, HasResync, HasWindow, IsGiven, IsGivenNumber, IsNumberOf, IsRuleOf, fds_word, is_on}
 use Rattle.cli_options.specs.Named.{AreRulesOf, HasEncoding, HasSettings, HasWanted, IsNamedBy, IsSelectionGiven, Names, NamesCommand, order_word, rules_given, side_word, words_of}
-use Rattle.cli_options.specs.Owners.{AreOwnersOf, IsOwnerWord}
+use Rattle.cli_options.specs.Owners.{AreOwnersOf, IsOwnerWord, lacks_owner, needs_owner, selection_lacks_owner, some_needs_owner, some_owns}
 use Rattle.cli_options.specs.Selections.{AreSameCommand, AreSameSelection}
 use Rattle.cli_options.specs.declared.asked.Asked.{Asked}
 use Rattle.cli_options.specs.declared.asked.Asked.TheVariants.{Messages, Count, List as Listing, Calls, Encode, Handshake}
@@ -40,6 +45,7 @@ use Rattle.cli_options.specs.declared.selection.Selection.{Selection}
 use Rattle.cli_options.specs.declared.settings.Settings.{Settings}
 use Rattle.cli_options.specs.declared.wanted_calls.WantedCalls.{WantedCalls}
 use Rattle.cli_options.specs.declared.wanted_encoding.WantedEncoding.{WantedEncoding}
+use Rattle.cli_options.specs.declared.wanted_lines.WantedLines.{WantedLines}
 use Rattle.cli_options.specs.declared.window.Window.{Window}
 use Rattle.dbus_handshake_input.specs.Heard.{HeardLine, Reads, heard}
 use Rattle.dbus_handshake_input.specs.declared.fault.HandshakeFault.{HandshakeFault}
@@ -383,6 +389,42 @@ same_named (Some sub) (Handshake x) (Count t) p q = absurd (let e = sym (ap mark
 
 pub same_asked : (words : List Text) (a b : Asked) → IsNamedBy words a → IsNamedBy words b → AreSameAsked a b
 same_asked words a b p q = same_named (subcommand_of wire_app words) a b p q
+
+-- what holds of each two that ask for one thing holds of two that ask for the same
+pub same_by : (P : Asked → Asked → Type 0) → ((c d : Command) (s : Settings) → AreSameCommand c d → P (Messages c s) (Messages d s)) → ((s : Settings) → P (Count s) (Count s))
+    → ((s : Settings) (a b : WantedLines) → AreSameSelection a.selection b.selection → P (Listing s a) (Listing s b)) → ((s : Settings) (wanted : WantedCalls) → P (Calls s wanted) (Calls s wanted))
+    → ((wanted : WantedEncoding) → P (Encode wanted) (Encode wanted)) → ((side : Side) → P (Handshake side) (Handshake side)) → (a b : Asked) → AreSameAsked a b → P a b
+same_by P messages count listing calls encode handshake (Messages c s) (Messages d t) h = subst (λ (x : Settings). P (Messages c s) (Messages d x)) h.1 (messages c d s h.0)
+same_by P messages count listing calls encode handshake (Count s) (Count t) h = subst (λ (x : Settings). P (Count s) (Count x)) h (count s)
+same_by P messages count listing calls encode handshake (Listing s a) (Listing t b) h = subst (λ (x : Settings). P (Listing s a) (Listing x b)) h.0 (listing s a b h.1)
+same_by P messages count listing calls encode handshake (Calls s f) (Calls t g) h = transport (λ i. P (Calls s f) (Calls (h.0 i) (h.1 i))) (calls s f)
+same_by P messages count listing calls encode handshake (Encode a) (Encode b) h = subst (λ (x : WantedEncoding). P (Encode a) (Encode x)) h (encode a)
+same_by P messages count listing calls encode handshake (Handshake a) (Handshake b) h = subst (λ (x : Side). P (Handshake a) (Handshake x)) h (handshake a)
+same_by P messages count listing calls encode handshake a b h = absurd h
+
+-- ---- owners that lack
+
+same_needs : (a b : List (Owner Global)) → ownerships a ≡ ownerships b → (sender : Option (List ℕ)) → needs_owner a sender ≡ needs_owner b sender
+same_needs a b same None = refl
+same_needs a b same (Some name) =
+    let owns : some_owns a name ≡ some_owns b name = list_any-map (λ (o : Ownership). bytes_eq o.name name) ownership a ∙ (ap (list_any (λ (o : Ownership). bytes_eq o.name name)) same ∙ sym (list_any-map (λ (o : Ownership). bytes_eq o.name name) ownership b)) in
+    ap (λ b. is_ownable name && not b) owns
+
+selection_lacks : (a b : Selection) → AreSameSelection a b → selection_lacks_owner a ≡ selection_lacks_owner b
+selection_lacks a b h =
+    let needs = fun_ext (same_needs a.owners.items b.owners.items h.owners) in
+    let some : some_needs_owner a.owners.items a.rules.items ≡ some_needs_owner b.owners.items b.rules.items
+    = list_any-map (λ p. needs_owner a.owners.items (sender_of p)) rule_pairs a.rules.items ∙ ((λ i. list_any (λ p. needs i (sender_of p)) (h.rules i)) ∙ sym (list_any-map (λ p. needs_owner b.owners.items (sender_of p)) rule_pairs b.rules.items)) in
+    λ i. not (h.learns i) && some i
+
+-- the same commands lack them
+pub same_lacks : (a b : Command) → AreSameCommand a b → lacks_owner a ≡ lacks_owner b
+same_lacks (Show a x) (Show b y) h = refl
+same_lacks (Json a) (Json b) h = refl
+same_lacks Check Check h = refl
+same_lacks (Swap a f) (Swap b g) h = refl
+same_lacks (Filter a f) (Filter b g) h = selection_lacks a b h.0
+same_lacks a b h = absurd h
 
 -- The text of the lines of a handshake, by what its page gained.
 

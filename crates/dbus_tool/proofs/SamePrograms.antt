@@ -1,6 +1,6 @@
 -- Two runs of the program by words that name one way, over the same input, end alike.
 use Rattle.std.proofs.Common.{◌≡◌, ◌≢◌, ◌⊎◌, ◌+◌, ℕ, Bool, true, false, ◌&&◌, List, [], ◌∷◌, ◌++◌, length, None, Some, Option, Result, Ok, Err, IfOk, string_bytes, codes, refl, sym, ap, ◌∙◌, subst, arith, inl, inr, append-nil}
-use Rattle.std.proofs.Math.Path.{fun_ext}
+use Rattle.std.proofs.Math.Path.{fun_ext, transport}
 use Rattle.std.specs.Io.KnownBytes.{Appends}
 use Rattle.std.specs.declared.alloc.Global.{Global}
 use Rattle.clap.specs.Words.{Row, Text, subcommand_of}
@@ -48,19 +48,19 @@ use Rattle.cli_report.specs.declared.ending.ExitStatus.{ExitStatus}
 use Rattle.cli_report.specs.declared.ending.ExitStatus.TheVariants as status
 use Rattle.cli_report.specs.Gathering.{Passes}
 use Rattle.cli_report.specs.declared.gathering.Unwritten.{Unwritten}
-use Rattle.cli_run.specs.Laws.{AreOfOneInput, AreOfSamePackets, AreToldAlike, EndAlike, ExplainsNone, GotAlike, ReadAlike}
+use Rattle.cli_run.specs.Laws.{AreOfOneInput, AreOfSamePackets, AreToldAlike, EndAlike, GotAlike, ReadAlike, TellAlike}
 use Rattle.dbus_call_lines.specs.declared.wanted.Wanted.{Wanted}
 use Rattle.cli_run.specs.Output.{AreAlike, IsExact, form_of}
 use Rattle.cli_run.proofs.SameOutputs.{acts_as}
-use Rattle.cli_run.specs.VisitorLaws.{wrote_nothing}
+use Rattle.cli_run.specs.VisitorLaws.{wrote_both, wrote_nothing}
 use Rattle.cli_run.proofs.SameRuns.{one_calls, one_count, one_run, one_sums}
 use Rattle.cli_encode_laws.proofs.OneEncoding.{one_encoding}
-use Rattle.dbus_tool.specs.Alike.{AskAlike, IsOneWay, OneProgram, RunAlike, TellsOneWay}
+use Rattle.dbus_tool.specs.Alike.{AskAlike, IsOneWay, OneProgram, RunAlike, shown_for, shown_in, shown_in_calls, shown_in_task, shown_noted}
 use Rattle.dbus_tool.specs.Handshaking.{TakesHandshake, TellsHandshake, ahead, handshake_line, EndsList, IsListed, Lengthens, Lists, WritesLines, last_line}
-use Rattle.dbus_tool.specs.Words.{Does, DoesBy, DoesCalls, DoesTask, Notes, RunsNoted, calls_wanted, encoding_wanted, table_form}
+use Rattle.dbus_tool.specs.Words.{Does, DoesBy, DoesCalls, DoesTask, Notes, RunsNoted, calls_wanted, encoding_wanted, owner_note, table_form}
 use Rattle.dbus_tool.specs.declared.words.Task.{Task}
 use Rattle.dbus_tool.specs.declared.words.Task.TheVariants.{Run, CountAll, ListAll}
-use Rattle.dbus_tool.proofs.SameAsked.{AreSameAsked, mark, mark_of, marked, same_asked}
+use Rattle.dbus_tool.proofs.SameAsked.{AreSameAsked, mark, mark_of, marked, same_asked, same_by, same_lacks}
 
 -- ---- words that name something have no rule that is refused
 
@@ -93,9 +93,10 @@ no_fault (Some sub) (Encode wanted) refused p h = takes_none sub.0 sub.1 (mark (
 no_fault (Some sub) (Handshake side) refused p h = takes_none sub.0 sub.1 (mark (codes "handshake")) (ap mark p.0) (λ e. omega (arith, e)) (λ e. omega (arith, e)) h.0.named
 
 module _ {R W E : Type 0} (left : R → Option (List ℕ)) (calls failures : R → ℕ) (packets : R → Option Packets) (packet : R → Option Packet) (old new : ReadAhead R) (w : Writing W) (e : Writing E) (words : List Text) (named_one : Asked) (named_is : IsNamedBy words named_one) (faultless : fault_of wire_app words ≡ []) (end : ExitStatus) (done : end ≢ status.Failed) where
-  pub answer_is : (answer : Result Asked UsageFault) → IfOk answer (IsNamedBy words) → TellsFault words answer → Does left calls failures packets packet old new w e answer end
-      → (asked : Asked) × IsNamedBy words asked × Does left calls failures packets packet old new w e (Ok asked) end
-  answer_is (Ok asked) named told does = (asked, named, does)
+  pub answer_is : (answer : Result Asked UsageFault) → IfOk answer (IsNamedBy words) → TellsFault words answer → (does : Does left calls failures packets packet old new w e answer end)
+      → (asked : Asked) × IsNamedBy words asked × (done : Does left calls failures packets packet old new w e (Ok asked) end)
+      × (shown_for left calls failures packets packet old new w e end answer does ≡ shown_for left calls failures packets packet old new w e end (Ok asked) done)
+  answer_is (Ok asked) named told does = (asked, named, does, refl)
   answer_is (Err Memory) named told does = absurd (done does.2.0)
   answer_is (Err (Help text)) named told does = absurd (subst (λ l. IsAmong DisplayHelp l) faultless told)
   answer_is (Err (Version text)) named told does = absurd (subst (λ l. IsAmong DisplayVersion l) faultless told)
@@ -107,41 +108,8 @@ module _ {R W E : Type 0} (left : R → Option (List ℕ)) (calls failures : R �
 
 -- ---- what is done in one way
 
-shows_none : (settings : Settings) (end : ExitStatus) → TellsOneWay settings end → ExplainsNone settings end
-shows_none settings end one = elim one.1 [ inl in_words ↦ inl (in_words, one.0) | inr all ↦ inr all ]
-
 one_way_too : (end : ExitStatus) (a b : Asked) → AreSameAsked a b → IsOneWay end a → IsOneWay end b
-one_way_too end (Messages c s) (Messages d t) h one = ((acts_as c d h.0).exact one.0, subst (λ (x : Settings). TellsOneWay x end) h.1 one.1)
-one_way_too end (Count s) (Count t) h one = subst (λ (x : Settings). TellsOneWay x end) h one
-one_way_too end (Calls s f) (Calls t g) h one = subst (λ (x : Settings). TellsOneWay x end) h.0 one
-one_way_too end (Handshake a) (Handshake b) h one = tt
-one_way_too end (Listing s a) b h one = absurd one
-one_way_too end (Encode a) (Encode b) h one = one
-one_way_too end (Encode a) (Messages d t) h one = absurd h
-one_way_too end (Encode a) (Count t) h one = absurd h
-one_way_too end (Encode a) (Listing t b) h one = absurd h
-one_way_too end (Encode a) (Calls t g) h one = absurd h
-one_way_too end (Encode a) (Handshake b) h one = absurd h
-one_way_too end (Messages c s) (Encode b) h one = absurd h
-one_way_too end (Count s) (Encode b) h one = absurd h
-one_way_too end (Calls s f) (Encode b) h one = absurd h
-one_way_too end (Handshake a) (Encode b) h one = absurd h
-one_way_too end (Messages c s) (Listing t b) h one = absurd h
-one_way_too end (Count s) (Listing t b) h one = absurd h
-one_way_too end (Calls s f) (Listing t b) h one = absurd h
-one_way_too end (Handshake a) (Listing t b) h one = absurd h
-one_way_too end (Handshake a) (Calls t g) h one = absurd h
-one_way_too end (Messages c s) (Calls t g) h one = absurd h
-one_way_too end (Count s) (Calls t g) h one = absurd h
-one_way_too end (Calls s f) (Messages d t) h one = absurd h
-one_way_too end (Calls s f) (Count t) h one = absurd h
-one_way_too end (Calls s f) (Handshake b) h one = absurd h
-one_way_too end (Handshake a) (Messages d t) h one = absurd h
-one_way_too end (Handshake a) (Count t) h one = absurd h
-one_way_too end (Messages c s) (Count t) h one = absurd h
-one_way_too end (Messages c s) (Handshake b) h one = absurd h
-one_way_too end (Count s) (Messages d t) h one = absurd h
-one_way_too end (Count s) (Handshake b) h one = absurd h
+one_way_too end = same_by (λ a b. IsOneWay end a → IsOneWay end b) (λ c d s same. (acts_as c d same).exact) (λ s one. one) (λ s a b same one. one) (λ s wanted one. one) (λ wanted one. one) (λ side one. one)
 
 -- without a note
 module _ {R W E : Type 0} (left : R → Option (List ℕ)) (calls failures : R → ℕ) (packets : R → Option Packets) (packet : R → Option Packet) (old new : ReadAhead R) (w : Writing W) (e : Writing E) (settings : Settings) where
@@ -155,10 +123,19 @@ module _ {R W E : Type 0} (left : R → Option (List ℕ)) (calls failures : R �
     | inr h ↦ absurd (done h.2)
   ]
 
--- ---- what is written of a handshake
-
 wrote_none : {W : Type 0} (held : W → Option (List ℕ)) (failures : W → ℕ) (old new : W) → new ≡ old → Wrote held failures old [] new
 wrote_none held failures old new same = subst (λ (x : _). Wrote held failures old [] x) (sym same) (wrote_nothing held failures old)
+
+-- with the note that is due
+abbrev note_if : Bool → List ℕ
+note_if false = []
+note_if true = owner_note
+
+noted : {E : Type 0} (held : E → Option (List ℕ)) (failures : E → ℕ) (is_due : Bool) (old new : E) → Notes held failures is_due old new (Ok tt) → Wrote held failures old (note_if is_due) new
+noted held failures false old new same = wrote_none held failures old new same
+noted held failures true old new wrote = wrote
+
+-- ---- what is written of a handshake
 
 wrote_gathered : {W : Type 0} (held : W → Option (List ℕ)) (failures : W → ℕ) (old new : W) (bytes : List ℕ) → Passes held failures bytes [] [] old new → Wrote held failures old bytes new
 wrote_gathered held failures old new bytes h =
@@ -230,9 +207,9 @@ same_after n (Some x) (Some y) (Some c) (Some d) all h k e f =
     let is : y ≡ x = let z : Some y ≡ Some x = f ∙ sym e in cc in
     (c, refl, ap (λ (l : Packets). Some l) (fun_ext (λ i. k i ∙ ap (λ (l : Packets). l (n + i)) is ∙ sym (h i))))
 
-module _ {R S W V E F : Type 0} (one_table : OneTable) (left : R → Option (List ℕ)) (calls failures : R → ℕ) (packets : R → Option Packets) (packet : R → Option Packet) (other_left : S → Option (List ℕ)) (other_calls other_failures : S → ℕ)
+module _ {R S W V : Type 0} (one_table : OneTable) (left : R → Option (List ℕ)) (calls failures : R → ℕ) (packets : R → Option Packets) (packet : R → Option Packet) (other_left : S → Option (List ℕ)) (other_calls other_failures : S → ℕ)
     (other_packets : S → Option Packets) (other_packet : S → Option Packet) (r0 r1 : ReadAhead R)
-    (s0 s1 : ReadAhead S) (w : Writing W) (v : Writing V) (e : Writing E) (f : Writing F) (end other : ExitStatus) (input : ReadAlike (ahead left calls failures packets packet r0 r1) (ahead other_left other_calls other_failures other_packets other_packet s0 s1))
+    (s0 s1 : ReadAhead S) (w : Writing W) (v : Writing V) (end other : ExitStatus) (input : ReadAlike (ahead left calls failures packets packet r0 r1) (ahead other_left other_calls other_failures other_packets other_packet s0 s1))
     (done : end ≢ status.Failed) (other_done : other ≢ status.Failed) where
   -- both inputs are of the same packets
   abbrev Same : ReadAhead R → ReadAhead S → Type 0
@@ -262,17 +239,17 @@ module _ {R S W V E F : Type 0} (one_table : OneTable) (left : R → Option (Lis
       begun (Err why) g = tt
 
   -- what is told of refused messages is the same
-  abbrev Told : Type 0
-  Told = Same r0 s0 ⊎ (end ≡ status.Done)
+  abbrev Told : (r : ReadAhead R) (s : ReadAhead S) → Type 0
+  Told r s = AreToldAlike (ahead left calls failures packets packet r r1) (ahead other_left other_calls other_failures other_packets other_packet s s1) end
 
-  told_from : (r : ReadAhead R) (s : ReadAhead S) → FromHere r s → Told → AreToldAlike (ahead left calls failures packets packet r r1) (ahead other_left other_calls other_failures other_packets other_packet s s1) end
+  told_from : (r : ReadAhead R) (s : ReadAhead S) → FromHere r s → Told r0 s0 → Told r s
   told_from r s here told = elim told [ inl same ↦ inl (here.1 same) | inr all ↦ inr all ]
 
   -- and so is what a command writes in this form
   abbrev Runs : FileForm → Type 0
   Runs form = RunAlike left calls failures packets packet other_left other_calls other_failures other_packets other_packet r0 r1 s0 s1 end form
 
-  told_of : (form : FileForm) → Runs form → Told
+  told_of : (form : FileForm) → Runs form → Told r0 s0
   told_of Raw run = run
   told_of AsRead run = inl run
 
@@ -280,112 +257,99 @@ module _ {R S W V E F : Type 0} (one_table : OneTable) (left : R → Option (Lis
   placed_alike Raw run r s here = tt
   placed_alike AsRead run r s here = let all = here.1 run in (all.all, all.one, all.same)
 
-  tasks_alike : (settings : Settings) (task copy : Task)
-      → ((r : ReadAhead R) (s : ReadAhead S) → TakesHandshake left calls failures packets packet settings.handshake r0 r (Ok tt) → TakesHandshake other_left other_calls other_failures other_packets other_packet settings.handshake s0 s (Ok tt)
-      → FromHere r s → DoesBy (ahead left calls failures packets packet r r1) w e settings task end → DoesBy (ahead other_left other_calls other_failures other_packets other_packet s s1) v f settings copy other
-      → EndAlike w v e f end other)
-      → DoesTask left calls failures packets packet r0 r1 w e settings task end → DoesTask other_left other_calls other_failures other_packets other_packet s0 s1 v f settings copy other → EndAlike w v e f end other
-  tasks_alike settings task copy from does doing = elim does [
-    | inl h ↦ elim doing [
-      | inl k ↦ from h.0 k.0 h.1 k.1 (taken_alike settings.handshake h.0 k.0 (Ok tt) (Ok tt) tt tt h.1 k.1).1 h.2 k.2
-      | inr k ↦ (
-          let one = taken_alike settings.handshake h.0 s1 (Ok tt) (Err k.0) tt (fault_of_input f other other_done (Unit {0}) k.0 k.3) h.1 k.1 in
-          absurd (let is : ◌≡◌ {A = Result (Unit {0}) HandshakeFault} (Ok tt) (Err k.0) = one.0 in cc)
-          )
-    ]
-    | inr h ↦ elim doing [
-      | inl k ↦ (
-          let one = taken_alike settings.handshake r1 k.0 (Err h.0) (Ok tt) (fault_of_input e end done (Unit {0}) h.0 h.3) tt h.1 k.1 in
-          absurd (let is : ◌≡◌ {A = Result (Unit {0}) HandshakeFault} (Err h.0) (Ok tt) = one.0 in cc)
-          )
-      | inr k ↦ (
-          let one = taken_alike settings.handshake r1 s1 (Err h.0) (Err k.0) (fault_of_input e end done (Unit {0}) h.0 h.3) (fault_of_input f other other_done (Unit {0}) k.0 k.3) h.1 k.1 in
-          let same : h.0 ≡ k.0 = let is : ◌≡◌ {A = Result (Unit {0}) HandshakeFault} (Err h.0) (Err k.0) = one.0 in cc in
-          let all = tells_alike e f end other done other_done h.0 k.0 same h.3 k.3 in
-          record { status_is = all.0; first = ([], wrote_none w.held w.failures w.old w.new h.2, wrote_none v.held v.failures v.old v.new k.2); second = all.1 }
-          )
-    ]
-  ]
+  module _ {E F : Type 0} (e : Writing E) (f : Writing F) (settings : Settings) where
+    -- tasks end alike that do so with what follows a handshake
+    tasks_alike : (task copy : Task)
+        → ((r : ReadAhead R) (s : ReadAhead S) → FromHere r s → (does : DoesBy (ahead left calls failures packets packet r r1) w e settings task end) → (doing : DoesBy (ahead other_left other_calls other_failures other_packets other_packet s s1) v f settings copy other)
+        → TellAlike settings end (shown_in (ahead left calls failures packets packet r r1) w e settings end task does) (shown_in (ahead other_left other_calls other_failures other_packets other_packet s s1) v f settings other copy doing) → EndAlike w v e f end other)
+        → (does : DoesTask left calls failures packets packet r0 r1 w e settings task end) → (doing : DoesTask other_left other_calls other_failures other_packets other_packet s0 s1 v f settings copy other)
+        → TellAlike settings end (shown_in_task left calls failures packets packet r0 r1 w e end settings task does) (shown_in_task other_left other_calls other_failures other_packets other_packet s0 s1 v f other settings copy doing) → EndAlike w v e f end other
+    tasks_alike task copy from (inl h) (inl k) tells = from h.0 k.0 (taken_alike settings.handshake h.0 k.0 (Ok tt) (Ok tt) tt tt h.1 k.1).1 h.2 k.2 tells
+    tasks_alike task copy from (inl h) (inr k) tells =
+        let one = taken_alike settings.handshake h.0 s1 (Ok tt) (Err k.0) tt (fault_of_input f other other_done (Unit {0}) k.0 k.3) h.1 k.1 in
+        absurd (let is : ◌≡◌ {A = Result (Unit {0}) HandshakeFault} (Ok tt) (Err k.0) = one.0 in cc)
+    tasks_alike task copy from (inr h) (inl k) tells =
+        let one = taken_alike settings.handshake r1 k.0 (Err h.0) (Ok tt) (fault_of_input e end done (Unit {0}) h.0 h.3) tt h.1 k.1 in
+        absurd (let is : ◌≡◌ {A = Result (Unit {0}) HandshakeFault} (Err h.0) (Ok tt) = one.0 in cc)
+    tasks_alike task copy from (inr h) (inr k) tells =
+        let one = taken_alike settings.handshake r1 s1 (Err h.0) (Err k.0) (fault_of_input e end done (Unit {0}) h.0 h.3) (fault_of_input f other other_done (Unit {0}) k.0 k.3) h.1 k.1 in
+        let same : h.0 ≡ k.0 = let is : ◌≡◌ {A = Result (Unit {0}) HandshakeFault} (Err h.0) (Err k.0) = one.0 in cc in
+        let all = tells_alike e f end other done other_done h.0 k.0 same h.3 k.3 in
+        record { status_is = all.0; first = ([], wrote_none w.held w.failures w.old w.new h.2, wrote_none v.held v.failures v.old v.new k.2); second = all.1 }
 
-  listed_alike : (side : Side) → Lists left calls failures packets packet r0 r1 w e side end → Lists other_left other_calls other_failures other_packets other_packet s0 s1 v f side other → EndAlike w v e f end other
-  listed_alike side lists listing =
-      let h = written left calls failures packets packet r0 r1 w e side end done lists in
-      let k = written other_left other_calls other_failures other_packets other_packet s0 s1 v f side other other_done listing in
-      let one = one_handshake left calls packets packet other_left other_calls other_packets other_packet Lengthens Lengthens side input.0 r0 r1 s0 s1 [] h.text [] k.text h.read k.read input.2 input.3 h.of k.of h.listed k.listed in
-      let texts : h.text ≡ k.text = one.2 ∙ sym one.3 in
-      let all : h.text ++ last_line h.read ≡ k.text ++ last_line k.read = λ i. texts i ++ last_line (one.1 i) in
-      let ends = lists_alike e f end other done other_done h.read k.read one.1 h.ends k.ends in
-      record { status_is = ends.0; first = (h.text ++ last_line h.read, h.wrote, subst (λ l. Wrote v.held v.failures v.old l v.new) (sym all) k.wrote); second = ends.1 }
+    runs_alike : (c d : Command) → Runs (form_of c) → AreSameCommand c d → IsExact c → (does : DoesTask left calls failures packets packet r0 r1 w e settings (Run c) end) → (doing : DoesTask other_left other_calls other_failures other_packets other_packet s0 s1 v f settings (Run d) other)
+        → TellAlike settings end (shown_in_task left calls failures packets packet r0 r1 w e end settings (Run c) does) (shown_in_task other_left other_calls other_failures other_packets other_packet s0 s1 v f other settings (Run d) doing) → EndAlike w v e f end other
+    runs_alike c d run same exact = tasks_alike (Run c) (Run d) (λ r s here does doing tells.
+        (one_run (ReadAhead R) (ReadAhead S) W V E F (ahead left calls failures packets packet r r1) (ahead other_left other_calls other_failures other_packets other_packet s s1) w v e f settings _ _ c d end other same does doing
+        (record { input = here.0; told = told_from r s here (told_of (form_of c) run); shown = tells; done = done; other_done = other_done })).1 exact (placed_alike (form_of c) run r s here))
 
-  runs_alike : (c d : Command) (settings : Settings) → Runs (form_of c) → AreSameCommand c d → IsExact c → TellsOneWay settings end → DoesTask left calls failures packets packet r0 r1 w e settings (Run c) end
-      → DoesTask other_left other_calls other_failures other_packets other_packet s0 s1 v f settings (Run d) other → EndAlike w v e f end other
-  runs_alike c d settings run same exact off = tasks_alike settings (Run c) (Run d) (λ r s taken also here does doing.
-      (one_run (ReadAhead R) (ReadAhead S) W V E F (ahead left calls failures packets packet r r1) (ahead other_left other_calls other_failures other_packets other_packet s s1) w v e f settings _ _ c d end other same
-      (record { input = here.0; told = told_from r s here (told_of (form_of c) run); explains = shows_none settings end off; done = done; other_done = other_done }) does doing).1 exact (placed_alike (form_of c) run r s here))
+    counts_alike : Same r0 s0 → (does : DoesTask left calls failures packets packet r0 r1 w e settings CountAll end) → (doing : DoesTask other_left other_calls other_failures other_packets other_packet s0 s1 v f settings CountAll other)
+        → TellAlike settings end (shown_in_task left calls failures packets packet r0 r1 w e end settings CountAll does) (shown_in_task other_left other_calls other_failures other_packets other_packet s0 s1 v f other settings CountAll doing) → EndAlike w v e f end other
+    counts_alike same = tasks_alike CountAll CountAll (λ r s here does doing tells.
+        (one_count (ReadAhead R) (ReadAhead S) W V E F one_table (ahead left calls failures packets packet r r1) (ahead other_left other_calls other_failures other_packets other_packet s s1) w v e f settings (table_form settings.as_json) _ _ end other does doing
+        (record { input = here.0; told = inl (here.1 same); shown = tells; done = done; other_done = other_done })).1 (here.1 same))
 
-  counts_alike : (settings : Settings) → Same r0 s0 → TellsOneWay settings end → DoesTask left calls failures packets packet r0 r1 w e settings CountAll end
-      → DoesTask other_left other_calls other_failures other_packets other_packet s0 s1 v f settings CountAll other → EndAlike w v e f end other
-  counts_alike settings same off = tasks_alike settings CountAll CountAll (λ r s taken also here does doing.
-      (one_count (ReadAhead R) (ReadAhead S) W V E F one_table (ahead left calls failures packets packet r r1) (ahead other_left other_calls other_failures other_packets other_packet s s1) w v e f settings (table_form settings.as_json) _ _ end other
-      (record { input = here.0; told = inl (here.1 same); explains = shows_none settings end off; done = done; other_done = other_done }) does doing).1 (here.1 same))
+    either_alike : (r : Reading (ReadAhead R)) (s : Reading (ReadAhead S)) (by_member : Bool) (wanted : Wanted) → AreOfSamePackets r s → (does : DoesCalls r w e settings by_member wanted end) → (doing : DoesCalls s v f settings by_member wanted other)
+        → AreOfOneInput r s settings end other (shown_in_calls r w e settings end by_member wanted does) (shown_in_calls s v f settings other by_member wanted doing) → EndAlike w v e f end other
+    either_alike r s true wanted same does doing is = one_sums (ReadAhead R) (ReadAhead S) W V E F r s w v e f settings wanted _ _ end other does doing is same
+    either_alike r s false wanted same does doing is = one_calls (ReadAhead R) (ReadAhead S) W V E F r s w v e f settings wanted _ _ end other does doing is same
 
-  either_alike : (r : Reading (ReadAhead R)) (s : Reading (ReadAhead S)) (settings : Settings) (by_member : Bool) (wanted : Wanted) → AreOfOneInput r s settings end other → AreOfSamePackets r s → DoesCalls r w e settings by_member wanted end
-      → DoesCalls s v f settings by_member wanted other → EndAlike w v e f end other
-  either_alike r s settings true wanted is same does doing = one_sums (ReadAhead R) (ReadAhead S) W V E F r s w v e f settings wanted _ _ end other is same does doing
-  either_alike r s settings false wanted is same does doing = one_calls (ReadAhead R) (ReadAhead S) W V E F r s w v e f settings wanted _ _ end other is same does doing
+    called_alike : (wanted : WantedCalls) → Same r0 s0 → (does : DoesTask left calls failures packets packet r0 r1 w e settings (ListAll wanted) end) → (doing : DoesTask other_left other_calls other_failures other_packets other_packet s0 s1 v f settings (ListAll wanted) other)
+        → TellAlike settings end (shown_in_task left calls failures packets packet r0 r1 w e end settings (ListAll wanted) does) (shown_in_task other_left other_calls other_failures other_packets other_packet s0 s1 v f other settings (ListAll wanted) doing)
+        → EndAlike w v e f end other
+    called_alike wanted same = tasks_alike (ListAll wanted) (ListAll wanted) (λ r s here does doing tells.
+        either_alike (ahead left calls failures packets packet r r1) (ahead other_left other_calls other_failures other_packets other_packet s s1) wanted.by_member (calls_wanted settings.as_json wanted) (here.1 same) does doing
+        (record { input = here.0; told = inl (here.1 same); shown = tells; done = done; other_done = other_done }))
 
-  called_alike : (settings : Settings) (wanted : WantedCalls) → Same r0 s0 → TellsOneWay settings end → DoesTask left calls failures packets packet r0 r1 w e settings (ListAll wanted) end
-      → DoesTask other_left other_calls other_failures other_packets other_packet s0 s1 v f settings (ListAll wanted) other → EndAlike w v e f end other
-  called_alike settings wanted same off = tasks_alike settings (ListAll wanted) (ListAll wanted) (λ r s taken also here does doing.
-      either_alike (ahead left calls failures packets packet r r1) (ahead other_left other_calls other_failures other_packets other_packet s s1) settings wanted.by_member (calls_wanted settings.as_json wanted)
-      (record { input = here.0; told = inl (here.1 same); explains = shows_none settings end off; done = done; other_done = other_done }) (here.1 same) does doing)
+  module _ {E F : Type 0} (e : Writing E) (f : Writing F) where
+    listed_alike : (side : Side) → Lists left calls failures packets packet r0 r1 w e side end → Lists other_left other_calls other_failures other_packets other_packet s0 s1 v f side other → EndAlike w v e f end other
+    listed_alike side lists listing =
+        let h = written left calls failures packets packet r0 r1 w e side end done lists in
+        let k = written other_left other_calls other_failures other_packets other_packet s0 s1 v f side other other_done listing in
+        let one = one_handshake left calls packets packet other_left other_calls other_packets other_packet Lengthens Lengthens side input.0 r0 r1 s0 s1 [] h.text [] k.text h.read k.read input.2 input.3 h.of k.of h.listed k.listed in
+        let texts : h.text ≡ k.text = one.2 ∙ sym one.3 in
+        let all : h.text ++ last_line h.read ≡ k.text ++ last_line k.read = λ i. texts i ++ last_line (one.1 i) in
+        let ends = lists_alike e f end other done other_done h.read k.read one.1 h.ends k.ends in
+        record { status_is = ends.0; first = (h.text ++ last_line h.read, h.wrote, subst (λ l. Wrote v.held v.failures v.old l v.new) (sym all) k.wrote); second = ends.1 }
 
-  alike : (a b : Asked) → AreSameAsked a b → IsOneWay end a → AskAlike left calls failures packets packet other_left other_calls other_failures other_packets other_packet r0 r1 s0 s1 end a → Does left calls failures packets packet r0 r1 w e (Ok a) end → Does other_left other_calls other_failures other_packets other_packet s0 s1 v f (Ok b) other → EndAlike w v e f end other
-  alike (Messages c settings) (Messages d t) same one told does doing =
-      let there = subst (λ (x : Settings). Does other_left other_calls other_failures other_packets other_packet s0 s1 v f (Ok (Messages d x)) other) (sym same.1) doing in
-      runs_alike c d settings told same.0 one.0 one.1 (unnoted left calls failures packets packet r0 r1 w e settings c end done one.1.0 does)
-      (unnoted other_left other_calls other_failures other_packets other_packet s0 s1 v f settings d other other_done one.1.0 there)
-  alike (Count settings) (Count t) same one told does doing =
-      counts_alike settings told one does (subst (λ (x : Settings). Does other_left other_calls other_failures other_packets other_packet s0 s1 v f (Ok (Count x)) other) (sym same) doing)
-  alike (Calls settings wanted) (Calls t g) same one told does doing =
-      let there = subst (λ (x : Settings). Does other_left other_calls other_failures other_packets other_packet s0 s1 v f (Ok (Calls x g)) other) (sym same.0) doing in
-      called_alike settings wanted told one does (subst (λ (x : WantedCalls). Does other_left other_calls other_failures other_packets other_packet s0 s1 v f (Ok (Calls settings x)) other) (sym same.1) there)
-  alike (Handshake side) (Handshake b) same one told does doing =
-      listed_alike side does (subst (λ (x : Side). Does other_left other_calls other_failures other_packets other_packet s0 s1 v f (Ok (Handshake x)) other) (sym same) doing)
-  alike (Listing t a) b same one told does doing = absurd one
-  alike (Encode a) (Encode b) same one told does doing =
-      let both = one_encoding (ReadAhead R) (ReadAhead S) W V E F (ahead left calls failures packets packet r0 r1) (ahead other_left other_calls other_failures other_packets other_packet s0 s1) w v e f (encoding_wanted a) _ _ end other input done other_done does
-      (subst (λ (x : WantedEncoding). Does other_left other_calls other_failures other_packets other_packet s0 s1 v f (Ok (Encode x)) other) (sym same) doing) in
-      record { status_is = both.status_is; first = both.first; second = both.second one }
-  alike (Encode a) (Messages d u) same one told does doing = absurd same
-  alike (Encode a) (Count u) same one told does doing = absurd same
-  alike (Encode a) (Listing u b) same one told does doing = absurd same
-  alike (Encode a) (Calls u k) same one told does doing = absurd same
-  alike (Encode a) (Handshake b) same one told does doing = absurd same
-  alike (Messages c t) (Encode b) same one told does doing = absurd same
-  alike (Count t) (Encode b) same one told does doing = absurd same
-  alike (Calls t g) (Encode b) same one told does doing = absurd same
-  alike (Handshake side) (Encode b) same one told does doing = absurd same
-  alike (Messages c t) (Listing u b) same one told does doing = absurd same
-  alike (Count t) (Listing u b) same one told does doing = absurd same
-  alike (Calls t g) (Listing u b) same one told does doing = absurd same
-  alike (Handshake side) (Listing u b) same one told does doing = absurd same
-  alike (Handshake side) (Messages d u) same one told does doing = absurd same
-  alike (Handshake side) (Count u) same one told does doing = absurd same
-  alike (Messages c t) (Count u) same one told does doing = absurd same
-  alike (Messages c t) (Handshake b) same one told does doing = absurd same
-  alike (Count t) (Messages d u) same one told does doing = absurd same
-  alike (Count t) (Handshake b) same one told does doing = absurd same
-  alike (Count t) (Calls u k) same one told does doing = absurd same
-  alike (Messages c t) (Calls u k) same one told does doing = absurd same
-  alike (Handshake side) (Calls u k) same one told does doing = absurd same
-  alike (Calls t g) (Messages d u) same one told does doing = absurd same
-  alike (Calls t g) (Count u) same one told does doing = absurd same
-  alike (Calls t g) (Handshake b) same one told does doing = absurd same
+    -- after a note that is due, or is not
+    noted_alike : (c d : Command) (settings : Settings) → Runs (form_of c) → AreSameCommand c d → IsExact c
+        → (does : RunsNoted left calls failures packets packet r0 r1 w e settings (lacks_owner c) (Run c) end) → (doing : RunsNoted other_left other_calls other_failures other_packets other_packet s0 s1 v f settings (lacks_owner d) (Run d) other)
+        → TellAlike settings end (shown_noted left calls failures packets packet r0 r1 w e end settings (lacks_owner c) (Run c) does) (shown_noted other_left other_calls other_failures other_packets other_packet s0 s1 v f other settings (lacks_owner d) (Run d) doing)
+        → EndAlike w v e f end other
+    noted_alike c d settings run same exact (inl h) (inl k) tells =
+        let all = runs_alike (writing e.held e.failures h.0 e.new) (writing f.held f.failures k.0 f.new) settings c d run same exact h.2 k.2 tells in
+        let due = settings.explains && lacks_owner c in
+        let here = noted e.held e.failures due e.old h.0 h.1 in
+        let there = noted f.held f.failures due f.old k.0 (subst (λ (b : Bool). Notes f.held f.failures (settings.explains && b) f.old k.0 (Ok tt)) (sym (same_lacks c d same)) k.1) in
+        let told = all.second in
+        record {
+          status_is = all.status_is;
+          first = all.first;
+          second = (note_if due ++ told.0, wrote_both e.held e.failures (note_if due) told.0 e.old h.0 e.new here told.1, wrote_both f.held f.failures (note_if due) told.0 f.old k.0 f.new there told.2);
+        }
+    noted_alike c d settings run same exact (inl h) (inr k) tells = absurd (other_done k.2)
+    noted_alike c d settings run same exact (inr h) doing tells = absurd (done h.2)
+
+    -- two that ask for the same
+    abbrev DoAlike : Asked → Asked → Type 0
+    DoAlike a b = IsOneWay end a → (does : Does left calls failures packets packet r0 r1 w e (Ok a) end) → (doing : Does other_left other_calls other_failures other_packets other_packet s0 s1 v f (Ok b) other)
+        → AskAlike left calls failures packets packet other_left other_calls other_failures other_packets other_packet r0 r1 s0 s1 end (shown_for left calls failures packets packet r0 r1 w e end (Ok a) does)
+        (shown_for other_left other_calls other_failures other_packets other_packet s0 s1 v f other (Ok b) doing) a → EndAlike w v e f end other
+
+    encoded_alike : (wanted : WantedEncoding) → DoAlike (Encode wanted) (Encode wanted)
+    encoded_alike wanted one does doing told =
+        let both = one_encoding (ReadAhead R) (ReadAhead S) W V E F (ahead left calls failures packets packet r0 r1) (ahead other_left other_calls other_failures other_packets other_packet s0 s1) w v e f (encoding_wanted wanted) _ _ end other input done other_done does doing in
+        record { status_is = both.status_is; first = both.first; second = both.second one }
+
+    alike : (a b : Asked) → AreSameAsked a b → DoAlike a b
+    alike = same_by DoAlike (λ c d settings same one does doing told. noted_alike c d settings told.0 same one does doing told.1) (λ settings one does doing told. counts_alike e f settings told.0 does doing told.1)
+        (λ settings a b same one does doing told. absurd one) (λ settings wanted one does doing told. called_alike e f settings wanted told.0 does doing told.1) encoded_alike (λ side one does doing told. listed_alike side does doing)
 
 pub one_program : (R S W V E F : Type 0) → OneTable → OneProgram R S W V E F
-one_program R S W V E F one_table left calls failures packets packet other_left other_calls other_failures other_packets other_packet r0 r1 s0 s1 w v e f words end other one input told done other_done runs ran =
+one_program R S W V E F one_table left calls failures packets packet other_left other_calls other_failures other_packets other_packet r0 r1 s0 s1 w v e f words end other one input done other_done runs ran told =
     let a = answer_is left calls failures packets packet r0 r1 w e words one.asked one.named one.faultless end done runs.answer runs.named runs.told runs.does in
     let b = answer_is other_left other_calls other_failures other_packets other_packet s0 s1 v f words one.asked one.named one.faultless other other_done ran.answer ran.named ran.told ran.does in
-    alike one_table left calls failures packets packet other_left other_calls other_failures other_packets other_packet r0 r1 s0 s1 w v e f end other input done other_done a.0 b.0 (same_asked words a.0 b.0 a.1 b.1)
-    (one_way_too end one.asked a.0 (same_asked words one.asked a.0 one.named a.1) one.one_way) (told a.0 a.1) a.2 b.2
+    let tells = transport (λ i. AskAlike left calls failures packets packet other_left other_calls other_failures other_packets other_packet r0 r1 s0 s1 end (a.3 i) (b.3 i) a.0) (told a.0 a.1) in
+    alike one_table left calls failures packets packet other_left other_calls other_failures other_packets other_packet r0 r1 s0 s1 w v end other input done other_done e f a.0 b.0 (same_asked words a.0 b.0 a.1 b.1)
+    (one_way_too end one.asked a.0 (same_asked words one.asked a.0 one.named a.1) one.one_way) a.2 b.2 tells

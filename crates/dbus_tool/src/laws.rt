@@ -10,11 +10,12 @@ use dbus_count::laws::one_table;
 /// with the same status, and their writers got the same bytes. The words name something, with or
 /// without a handshake. If a message is refused, or of `count` and `calls`, and of `swap` and
 /// `filter` without `--raw`, both inputs are of the same packets: the line of a refusal has the
-/// packet of its fault, and the others have times. Left out are `json` and `list`, which may write
-/// a DOUBLE by other digits; `encode` if a line is refused, which may tell another reason; `show
-/// --time`, as the input has other times if its packets are others; `--explain`, which shows bytes
-/// of a refused message as far as they happened to be read, and `--json` if one is refused; and
-/// words in which clap finds a fault, since it may report any of several.
+/// packet of its fault, and the others have times. If what is refused is explained, or told as
+/// JSON, both had read as many bytes of each such message when it was, since these are shown, and
+/// in JSON its header fields have no DOUBLE. Left out are `json` and `list`, which may write a
+/// DOUBLE by other digits; `encode` if a line is refused, which may tell another reason; `show
+/// --time`, as the input has other times if its packets are others; and words in which clap finds a
+/// fault, since it may report any of several.
 pub fn one_program<R, S, W, V, E, F>()
     ensures { OneProgram R S W V E F }
 {

@@ -1,8 +1,7 @@
-use Rattle.std.proofs.Common.{◌≡◌, List, ℕ, rules, refl, ap, sym, ◌∙◌}
+use Rattle.std.proofs.Common.{◌≡◌, rules, refl}
 use Rattle.std.proofs.Math.Path.{transport}
 use Rattle.dbus_call_lines.proofs.Written.{are_lines}
 use Rattle.cli_report.specs.Gathering.{Breaks, Passes, gathered_bytes}
-use Rattle.cli_report.specs.declared.page.Page.{Page}
 use Rattle.cli_run.proofs.call_listing.gather_waiting.Goals as goal
 
 pub returns-then-lines-clause-lists : goal.returns-then-lines-clause-lists

@@ -1,10 +1,9 @@
-use Rattle.std.proofs.Common.{◌≡◌, ◌+◌, List, [], ◌∷◌, ◌++◌, map, take, get_or, rules, sym, ap, ◌∙◌, string_bytes}
+use Rattle.std.proofs.Common.{◌≡◌, ◌+◌, List, [], ◌∷◌, ◌++◌, take, get_or, rules, sym, ap, ◌∙◌, string_bytes}
 use Rattle.std.specs.FinSet.{from_list, insert}
 use Rattle.std.proofs.lemmas.List.{map_more, take_all}
 use Rattle.std.specs.declared.alloc.Global.{Global}
 use Rattle.dbus_match.specs.declared.owner.Owner.{Owner}
 use Rattle.dbus_match.specs.Matching.{Ownership, ownership, ownerships}
-use Rattle.dbus_rule_set.specs.Owners.{OwnerSet}
 use Rattle.dbus_rule_set.proofs.OwnerSets.{more_owners}
 use Rattle.cli_run.proofs.filtering.owners_of.Goals as goal
 

@@ -1,7 +1,4 @@
-use Rattle.std.proofs.Common.{◌≡◌, [], rules, inl, inr, refl, sym, ap}
-use Rattle.cli_options.specs.declared.wanted_lines.WantedLines.{WantedLines}
-use Rattle.cli_run.specs.LineListing.{Carries}
-use Rattle.cli_run.specs.declared.line_listing.Liner.{Liner}
+use Rattle.std.proofs.Common.{◌≡◌, rules, inl, inr, refl}
 use Rattle.cli_run.proofs.EndSteps.{taken_by}
 use Rattle.cli_run.proofs.LineSteps.{gave_up, ran, unread}
 use Rattle.cli_run.proofs.line_listing.list_lines.Goals as goal

@@ -1,9 +1,9 @@
-use Rattle.std.proofs.Common.{◌≡◌, [], refl, ap, subst}
+use Rattle.std.proofs.Common.{[], refl, ap, subst}
 use Rattle.dbus_message_model.specs.Messages.{message_bytes}
 use Rattle.cli_report.specs.Devices.{writing}
 use Rattle.cli_report.specs.Gathering.{gathered_bytes}
 use Rattle.cli_report.specs.PageLaws.{passes_none}
-use Rattle.cli_run.specs.Handing.{WritesFramed, front_of}
+use Rattle.cli_run.specs.Handing.{WritesFramed}
 use Rattle.cli_run.specs.Output.{framed, is_framed, seen_if, shown_text, told_place}
 use Rattle.cli_run.specs.declared.framing.Front.{Front}
 use Rattle.cli_run.proofs.OutputSteps.{bytes_are, validated_short}
