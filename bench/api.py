@@ -16,8 +16,8 @@ from sources import TYPES, all_items, all_types, cases, exports, methods
 PAGE = ROOT / "docs" / "API.md"
 
 # What a program names in its line of crates.txt. A call is listed under the first of them that has it.
-CALLERS = """dbus_c dbus_page dbus_value dbus_message dbus_compose dbus_body dbus_validate dbus_resync dbus_swap dbus_stream dbus_device dbus_lines dbus_capture dbus_pcap dbus_match dbus_rule_set dbus_calls dbus_names dbus_auth dbus_handshake_input
-    dbus_auth_lines dbus_count dbus_call_lines dbus_list dbus_show dbus_room dbus_show_handshake dbus_show_view dbus_json dbus_explain dbus_types dbus_texts dbus_json_lines dbus_tool cli_run cli_encode
+CALLERS = """dbus_c dbus_page dbus_value dbus_message dbus_compose dbus_body dbus_typed dbus_validate dbus_resync dbus_swap dbus_stream dbus_device dbus_lines dbus_capture dbus_pcap dbus_match dbus_rule_set dbus_calls dbus_names dbus_auth dbus_handshake_input
+    dbus_auth_lines dbus_count dbus_call_lines dbus_list dbus_show dbus_room dbus_show_handshake dbus_show_view dbus_display dbus_json dbus_explain dbus_types dbus_texts dbus_json_lines dbus_tool cli_run cli_encode
     cli_options cli_report""".split()
 
 # What tests are made of.
@@ -26,16 +26,16 @@ NOT_CALLED = ("_tests", "case_questions", "refusing_alloc")
 # Each heading, with the crates, and the files of crates, whose calls stand below it in this order.
 HEADINGS = {
     "Read a message": "dbus_decode dbus_message_model dbus_header",
-    "Look at a message without a tree": "dbus_view/view.rt dbus_view dbus_values/values.rt dbus_values dbus_unmarshal/copying.rt dbus_count",
+    "Look at a message without a tree": "dbus_view/view.rt dbus_view dbus_values/values.rt dbus_values dbus_typed dbus_unmarshal/copying.rt dbus_count",
     "Check bytes": "dbus_check dbus_validate/validating.rt dbus_validate dbus_resync",
     "Make a message and encode it": "dbus_compose dbus_build dbus_encode dbus_body dbus_swap",
     "Values alone": "dbus_unmarshal dbus_marshal dbus_value_model",
-    "Read and write streams": """dbus_stream/cutter.rt dbus_stream/message_reader.rt dbus_stream/raw_reader.rt dbus_stream/check_reader.rt
+    "Read and write streams": """dbus_stream/cutter.rt dbus_stream/message_reader.rt dbus_stream/raw_reader.rt dbus_stream/going_on.rt dbus_stream/check_reader.rt
         dbus_stream/writing.rt dbus_device dbus_lines dbus_capture/capture.rt dbus_capture dbus_pcap dbus_stream""",
     "Match rules": "dbus_rule/parse.rt dbus_rule/to_text.rt dbus_match dbus_rule dbus_rule_set",
     "Calls and replies": "dbus_calls dbus_names dbus_call_lines",
     "The handshake": "dbus_auth/server_end.rt dbus_auth/client_end.rt dbus_auth dbus_handshake_input dbus_auth_lines",
-    "Print": "dbus_show_view dbus_json dbus_json_lines dbus_list dbus_show_handshake dbus_explain dbus_show dbus_room",
+    "Print": "dbus_show_view dbus_display dbus_json dbus_json_lines dbus_list dbus_show_handshake dbus_explain dbus_show dbus_room",
     "Texts and types": "dbus_types dbus_texts",
     "Limits": "dbus_value_model/limits.rt dbus_value_model/fd_rule.rt",
     "From C": "dbus_c",

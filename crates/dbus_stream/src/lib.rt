@@ -15,6 +15,7 @@ mod buffer;
 mod check_reader;
 mod cutter;
 mod gatherer;
+mod going_on;
 pub mod laws;
 mod lengths;
 mod message_reader;
