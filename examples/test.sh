@@ -79,8 +79,8 @@ try_growths sharing "member='Hello'"
 try_growths pieces 64
 try_growths build again
 # Lines of JSON, some of which spell no message: of each its message, or why not; 3 is the status if memory runs out.
-"$program" json < "$given" > "$built/lines"
-(head -n 2 "$built/lines"; echo '{"type":2'; echo '{"type":2,"fields":[{"code":10}]}'; tail -n 1 "$built/lines") > "$built/some_lines"
+"$program" json < "$given" > "$built/json_lines"
+(head -n 2 "$built/json_lines"; echo '{"type":2'; echo '{"type":2,"fields":[{"code":10}]}'; tail -n 1 "$built/json_lines") > "$built/some_lines"
 given=$built/some_lines growths=400 try_growths encode
 for sample in session big-endian; do
 	"$program" json < "$here/../samples/$sample.dbus" | $run "$built/encode" | cmp - "$here/../samples/$sample.dbus"

@@ -24,7 +24,7 @@ static void sizes(void) {
     expect(sizeof(struct dbus_wire_checker) == 8 && sizeof(struct dbus_wire_taken) == 24, "checker 8, taken 24 bytes");
     expect(sizeof(struct dbus_wire_rules) == 8 && sizeof(struct dbus_wire_rule_id) == 24 && sizeof(struct dbus_wire_rule_refused) == 16,
            "rules 8, rule_id 24, rule_refused 16 bytes");
-    expect(sizeof(struct dbus_wire_flat_item) == 32, "flat_item 32 bytes");
+    expect(sizeof(struct dbus_wire_flat_item) == 32 && sizeof(struct dbus_wire_whole_count) == 16, "flat_item 32, whole_count 16 bytes");
     expect(sizeof(struct dbus_wire_text_checked) == 16, "text_checked 16 bytes");
     expect(sizeof(struct dbus_wire_input_place) == 16 && sizeof(struct dbus_wire_explained) == 104,
            "input_place 16, explained 104 bytes");
@@ -145,32 +145,52 @@ static void lines(void) {
     expect(is_fresh(out, sizeof out), "then nothing is written");
 }
 
-/* The header fields of a refused signal that are whole before its fault: those of the whole one, but
- * for their array. */
+/* What of a refused signal is whole before its fault: the header fields of the whole one, but for
+ * their array. */
 static void fields_before(const uint8_t *bad) {
     struct dbus_wire_flat_item all[32], some[32];
+    struct dbus_wire_whole_count count = {7, 7};
     struct dbus_wire_checked told;
     uint8_t cut[SIGNAL_LENGTH];
-    uint64_t all_count, count = 7;
+    uint64_t all_count;
 
     expect(dbus_wire_flatten_fields(SIGNAL, SIGNAL_LENGTH, NULL, 0, all, 32, &all_count, NULL) == DBUS_WIRE_OK && all_count == 17,
            "a signal has four fields");
-    expect(dbus_wire_flatten_whole_fields(SIGNAL, SIGNAL_LENGTH, NULL, 0, some, 32, &count, &told) == DBUS_WIRE_NO_VALUE &&
-               dbus_wire_flatten_whole_fields(NULL, 0, NULL, 0, NULL, 0, &count, NULL) == DBUS_WIRE_PARTIAL && count == 7,
+    expect(dbus_wire_flatten_whole(SIGNAL, SIGNAL_LENGTH, NULL, 0, some, 32, &count, &told) == DBUS_WIRE_NO_VALUE &&
+               dbus_wire_flatten_whole(NULL, 0, NULL, 0, NULL, 0, &count, NULL) == DBUS_WIRE_PARTIAL && count.fields == 7 && count.all == 7,
            "which are not refused");
-    expect(dbus_wire_flatten_whole_fields(bad, SIGNAL_LENGTH, NULL, 0, some, 32, &count, NULL) == DBUS_WIRE_OK && count == 16 &&
-               memcmp(some, all + 1, 16 * sizeof *some) == 0,
-           "a fault in the body leaves all of them");
-    expect(dbus_wire_flatten_whole_fields(bad, SIGNAL_LENGTH, NULL, 15, NULL, 0, &count, NULL) == DBUS_WIRE_NO_ROOM && count == 16,
+    expect(dbus_wire_flatten_whole(bad, SIGNAL_LENGTH, NULL, 0, some, 32, &count, NULL) == DBUS_WIRE_OK && count.fields == 16 &&
+               count.all == 16 && memcmp(some, all + 1, 16 * sizeof *some) == 0,
+           "a fault in the first value of the body leaves all of them");
+    expect(dbus_wire_flatten_whole(bad, SIGNAL_LENGTH, NULL, 15, NULL, 0, &count, NULL) == DBUS_WIRE_NO_ROOM && count.all == 16,
            "of which the last has no room here");
     memcpy(cut, SIGNAL, SIGNAL_LENGTH);
     cut[43] = 1;
-    expect(dbus_wire_flatten_whole_fields(cut, SIGNAL_LENGTH, NULL, 0, some, 32, &count, &told) == DBUS_WIRE_OK && count == 4 &&
+    expect(dbus_wire_flatten_whole(cut, SIGNAL_LENGTH, NULL, 0, some, 32, &count, &told) == DBUS_WIRE_OK && count.all == 4 &&
                told.offset == 43 && memcmp(some, all + 1, 4 * sizeof *some) == 0,
            "one in the second field leaves the first");
     cut[1] = 0;
-    expect(dbus_wire_flatten_whole_fields(cut, SIGNAL_LENGTH, NULL, 0, some, 32, &count, NULL) == DBUS_WIRE_OK && count == 0,
+    expect(dbus_wire_flatten_whole(cut, SIGNAL_LENGTH, NULL, 0, some, 32, &count, NULL) == DBUS_WIRE_OK && count.fields == 0 && count.all == 0,
            "and one in the first bytes leaves none");
+}
+
+/* And the values of its body that are whole, here 7 of 7 and "hi". */
+static void values_before(void) {
+    static const uint8_t two[] = "l\4\0\1\13\0\0\0\1\0\0\0\70\0\0\0\1\1o\0\1\0\0\0/\0\0\0\0\0\0\0\2\1s\0\3\0\0\0a.b\0\0\0\0\0\3\1s\0"
+                                 "\1\0\0\0c\0\0\0\0\0\0\0\10\1g\0\2us\0\7\0\0\0\2\0\0\0hi";
+    struct dbus_wire_flat_item all[2], some[32];
+    struct dbus_wire_whole_count count;
+    uint8_t bad[sizeof two];
+    uint64_t all_count;
+
+    expect(dbus_wire_flatten(two, sizeof two, NULL, 0, all, 2, &all_count, NULL) == DBUS_WIRE_OK && all_count == 2, "a signal has two values");
+    memcpy(bad, two, sizeof two);
+    bad[sizeof two - 1] = 1;
+    expect(dbus_wire_flatten_whole(bad, sizeof two, NULL, 0, some, 32, &count, NULL) == DBUS_WIRE_OK && count.fields == 16 &&
+               count.all == 17 && memcmp(some + 16, all, sizeof *all) == 0,
+           "a fault in the second leaves the first");
+    expect(dbus_wire_flatten_whole(bad, sizeof two, NULL, 16, some, 1, &count, NULL) == DBUS_WIRE_OK && memcmp(some, all, sizeof *all) == 0,
+           "which stands behind the fields");
 }
 
 /* Why a signal is refused of which the last 0 is another byte: what is written in each room. */
@@ -200,6 +220,7 @@ static void explanations(void) {
     expect(explained.text.is_there && explained.text.length == 2 && memcmp(bad + explained.text.offset, "hi", 2) == 0,
            "it is in a text");
     fields_before(bad);
+    values_before();
     for (room = 0; room < sizeof cut; room++) {
         size_t written = room <= explained.length ? room : explained.length + 1;
         FRESH(cut);

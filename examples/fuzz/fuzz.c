@@ -164,18 +164,21 @@ static void try_explained(const uint8_t *bytes, size_t length, uint32_t answer, 
     struct dbus_wire_explained explained = {0};
     static struct dbus_wire_flat_item items[ROOM];
     struct dbus_wire_checked by_lines;
-    uint64_t count = 0, at;
+    struct dbus_wire_whole_count count = {0, 0};
+    uint64_t at;
     uint32_t given = dbus_wire_explain(bytes, length, NULL, NULL, lines, ROOM, &explained, &by_lines);
     expect(memcmp(&by_lines, told, sizeof *told) == 0, "an explanation tells the same");
     if (answer == DBUS_WIRE_REFUSED) {
         const struct dbus_wire_text *rule = &explained.rule, *name = &explained.name;
         expect(given == (explained.length < ROOM ? DBUS_WIRE_OK : DBUS_WIRE_NO_ROOM), "a fault is explained");
         expect(given == DBUS_WIRE_NO_ROOM || strlen((const char *)lines) == explained.length, "by lines that end in a 0");
-        expect(dbus_wire_flatten_whole_fields(bytes, length, NULL, 0, items, ROOM, &count, NULL) ==
-                   (count > ROOM ? DBUS_WIRE_NO_ROOM : DBUS_WIRE_OK),
-               "it has header fields before it, if any");
-        for (at = 0; at < count && count <= ROOM; at += items[at].number + 1)
-            expect(items[at].code == '(' && items[at + 2].code == 'v' && items[at].offset < told->offset, "each is whole");
+        expect(dbus_wire_flatten_whole(bytes, length, NULL, 0, items, ROOM, &count, NULL) ==
+                   (count.all > ROOM ? DBUS_WIRE_NO_ROOM : DBUS_WIRE_OK),
+               "it has header fields and values before it, if any");
+        for (at = 0; at < count.fields && count.all <= ROOM; at += items[at].number + 1)
+            expect(items[at].code == '(' && items[at + 2].code == 'v' && items[at].offset < told->offset, "each field is whole");
+        for (; at < count.all && count.all <= ROOM; at++)
+            expect(items[at].offset + items[at].length <= told->offset, "each value is whole");
         expect(name->length > 0 && name->offset + name->length < rule->offset && rule->offset + rule->length < explained.length,
                "which have a name and a rule");
     } else {

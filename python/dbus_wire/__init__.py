@@ -14,9 +14,10 @@ linker finds it.
 
 Bytes that are no message raise Refused or Truncated, which say where and why, as `dbus-wire check`
 does; `explain` says why for a reader, as `dbus-wire check --explain` does, and
-`whole_fields` gives the header fields before the fault. `Message.to_json` writes the line of
-`dbus-wire json`, and `Message.from_json` reads one; JSON that spells no message raises BadJson. No
-value that is given is changed: one that is not of its type raises BadValue, which says where it is.
+`whole_parts` gives the header fields and the values of the body before the fault. `Message.to_json`
+writes the line of `dbus-wire json`, and `Message.from_json` reads one; JSON that spells no message
+raises BadJson. No value that is given is changed: one that is not of its type raises BadValue,
+which says where it is.
 examples/python has programs. All of it may be called from any thread; a thread needs 256 KiB of
 stack for a call. A message of any depth is read within Python's default limit on recursion.
 """
@@ -24,7 +25,7 @@ stack for a call. A message of any depth is read within Python's default limit o
 from ._building import build, error_to, rebuild, reply_to
 from ._checker import Checker
 from ._errors import BadJson, BadValue, HeaderField, NotAMessage, Refused, Truncated
-from ._explaining import Explanation, StatedText, explain, whole_fields
+from ._explaining import Explanation, StatedText, WholeParts, explain, whole_parts
 from ._handshake import Client, Server, Status, Step
 from ._library import LIBRARY_VERSION
 from ._limits import Limits
@@ -69,6 +70,7 @@ __all__ = [
     "UnixFd",
     "Variant",
     "Watch",
+    "WholeParts",
     "build",
     "byteswap",
     "check_text",
@@ -81,5 +83,5 @@ __all__ = [
     "server_line",
     "spell_body",
     "stated_length",
-    "whole_fields",
+    "whole_parts",
 ]

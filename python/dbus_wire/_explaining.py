@@ -49,6 +49,16 @@ class Explanation:
         return self.lines
 
 
+@dataclass(frozen=True)
+class WholeParts:
+    """What of a message that is refused is whole before its fault."""
+
+    header_fields: list[tuple[int, Any]]
+    """Its header fields, each as its code and its value, as `Message.header_fields` has them."""
+    body: list[Any]
+    """The values of its body, as `Message.body` has them."""
+
+
 def explain(data: Bytes, limits: Limits | None = None, *, number: int = 1, offset: int = 0) -> Explanation | None:
     """Why the bytes begin with no message within the limits, for a reader; None if they begin with
     one, or show no fault yet.
@@ -67,21 +77,25 @@ def explain(data: Bytes, limits: Limits | None = None, *, number: int = 1, offse
     return _explanation(out.raw[: explained.length], explained, refused(told.offset, told.reason, told.field))
 
 
-def whole_fields(data: Bytes, limits: Limits | None = None) -> list[tuple[int, Any]] | None:
-    """The header fields that are whole before the fault of bytes that begin with no message within
-    the limits, each as its code and its value, as `Message.header_fields` has them; None if they
-    begin with one, or show no fault yet."""
-    message, given, count, told = as_bytes(data), limits_struct(limits), ctypes.c_uint64(), _library.Checked()
+def whole_parts(data: Bytes, limits: Limits | None = None) -> WholeParts | None:
+    """The header fields and the values of the body that are whole before the fault of bytes that
+    begin with no message within the limits; None if they begin with one, or show no fault yet.
+
+    A field or a value is there if it ends at the fault or before it, and so do all before it.
+    """
+    message, given, count, told = as_bytes(data), limits_struct(limits), _library.WholeCount(), _library.Checked()
     items, answer = (_library.FlatItem * 64)(), NO_ROOM
     while answer == NO_ROOM:
-        answer = library.dbus_wire_flatten_whole_fields(message, len(message), byref(given), 0, items, len(items), byref(count), byref(told))
+        answer = library.dbus_wire_flatten_whole(message, len(message), byref(given), 0, items, len(items), byref(count), byref(told))
         if answer == NO_ROOM:
-            items = (_library.FlatItem * count.value)()
+            items = (_library.FlatItem * count.all)()
     if answer != OK:
         return None
     order = Order.BIG if message[:1] == b"B" else Order.LITTLE
-    fields = values_of(message, order, memoryview(items).cast("B")[: count.value * ctypes.sizeof(_library.FlatItem)])
-    return [(code, variant.value) for code, variant in fields]
+    rows, first = memoryview(items).cast("B"), count.fields * ctypes.sizeof(_library.FlatItem)
+    fields = values_of(message, order, rows[:first])
+    body = values_of(message, order, rows[first : count.all * ctypes.sizeof(_library.FlatItem)])
+    return WholeParts([(code, variant.value) for code, variant in fields], body)
 
 
 def _explanation(lines: bytes, explained: _library.Explained, fault: Refused) -> Explanation:

@@ -73,6 +73,10 @@ class FlatItem(ctypes.Structure):
     ]
 
 
+class WholeCount(ctypes.Structure):
+    _fields_ = [(name, c_uint64) for name in ("fields", "all")]
+
+
 class InputPlace(ctypes.Structure):
     _fields_ = [(name, c_uint64) for name in ("number", "offset")]
 
@@ -154,7 +158,7 @@ _CALLS = {
     "parts_of": (c_uint32, *_MESSAGE, POINTER(Parts), POINTER(Checked)),
     "flatten": (c_uint32, *_MESSAGE, c_size_t, *_ITEMS),
     "flatten_fields": (c_uint32, *_MESSAGE, c_size_t, *_ITEMS),
-    "flatten_whole_fields": (c_uint32, *_MESSAGE, c_size_t, *_ITEMS),
+    "flatten_whole": (c_uint32, *_MESSAGE, c_size_t, POINTER(FlatItem), c_size_t, POINTER(WholeCount), POINTER(Checked)),
     "explain": (c_uint32, *_MESSAGE, POINTER(InputPlace), c_char_p, c_size_t, POINTER(Explained), POINTER(Checked)),
     "json": (c_uint32, *_MESSAGE, POINTER(LinePlace), c_char_p, c_size_t, POINTER(c_uint64), POINTER(Checked)),
     "from_json": (c_uint32, *_MESSAGE, c_uint32, c_char_p, c_size_t, POINTER(Checked)),

@@ -44,6 +44,7 @@ from dbus_wire import (
     Truncated,
     Variant,
     Watch,
+    WholeParts,
     build,
     byteswap,
     check_text,
@@ -54,7 +55,7 @@ from dbus_wire import (
     server_line,
     spell_body,
     stated_length,
-    whole_fields,
+    whole_parts,
 )
 from dbus_wire import _library
 
@@ -312,20 +313,22 @@ class Messages(unittest.TestCase):
         self.assertEqual(explain(signal, Limits(message=16)).name, "the length of the header fields")
         for data in (signal, signal + b"x", signal[:-1], b""):
             self.assertIsNone(explain(data), data)
-            self.assertIsNone(whole_fields(data), data)
+            self.assertIsNone(whole_parts(data), data)
 
-    def test_header_fields_before_a_fault(self):
+    def test_parts_before_a_fault(self):
         for order in "lB":
-            signal = build(MessageType.SIGNAL, 7, "s", "hi", order=order, path="/a", interface="b.c", member="D")
-            fields, data = signal.header_fields, signal.data
-            self.assertEqual(whole_fields(data[:-1] + b"\1"), fields)
+            body = ("hi", 7, {"A": Variant("s", "b")}, ["c", "d"])
+            signal = build(MessageType.SIGNAL, 7, "sua{sv}as", *body, order=order, path="/a", interface="b.c", member="D")
+            fields, values, data = signal.header_fields, signal.body, signal.data
+            self.assertEqual(whole_parts(data[:-1] + b"\1"), WholeParts(fields, values[:3]))
             changed = (data[:at] + b"\xff" + data[at + 1 :] for at in range(16, len(data)))
             # What comes before the changed byte is as it was.
             at_it = [it for it in changed if (found := explain(it)) and data[: found.fault.at] == it[: found.fault.at]]
-            found = [whole_fields(it) for it in at_it]
-            self.assertEqual([it for it in found if it != fields[: len(it)]], [])
-            self.assertEqual({len(it) for it in found}, set(range(len(fields) + 1)))
-        self.assertEqual(whole_fields(b"l\0"), [])
+            found = [whole_parts(it) for it in at_it]
+            self.assertEqual([it for it in found if it != WholeParts(fields[: len(it.header_fields)], values[: len(it.body)])], [])
+            self.assertEqual({len(it.header_fields) for it in found}, set(range(len(fields) + 1)))
+            self.assertEqual({len(it.body) for it in found}, {0, 1, 2, 3})
+        self.assertEqual(whole_parts(b"l\0"), WholeParts([], []))
 
     def test_the_missing_field_is_reported(self):
         with self.assertRaises(Refused) as caught:

@@ -3,7 +3,7 @@
 use std::fmt;
 use std::ops::Range;
 
-use crate::{sys, Fault, Fields, Limits};
+use crate::{sys, Fault, Limits, WholeParts};
 
 /// The room of the first call, which most explanations fit in.
 const ROOM: usize = 1024;
@@ -122,16 +122,22 @@ pub fn explain(bytes: &[u8], limits: &Limits, place: InputPlace) -> Option<Expla
     Some(Explanation::new(String::from_utf8_lossy(&lines).into_owned(), &explained, &told))
 }
 
-/// The header fields that are whole before the fault of bytes that begin with no message within the
-/// limits. `None` if they begin with one, or show no fault yet.
+/// The header fields and the values of the body that are whole before the fault of bytes that begin
+/// with no message within the limits. `None` if they begin with one, or show no fault yet. A field
+/// or a value is there if it ends at the fault or before it, and so do all before it.
 ///
 /// ```
-/// use dbus_wire::{whole_fields, Limits, Value};
+/// use dbus_wire::{whole_parts, Limits, Value};
 ///
-/// let bytes = b"l\x01\0\x01\0\0\0\0\x07\0\0\0\x20\0\0\0\x01\x01o\0\x02\0\0\0/a\0\0\0\0\0\0\0\x01s\0\x01\0\0\0D\0\0\0\0\0\0\0";
-/// let fields: Vec<_> = whole_fields(bytes, &Limits::default()).unwrap().collect();
-/// assert_eq!(fields, [(1, Value::ObjectPath("/a"))]);
+/// let bytes = b"l\x01\0\x01\x0b\0\0\0\x07\0\0\0\x28\0\0\0\x01\x01o\0\x02\0\0\0/a\0\0\0\0\0\0\x03\x01s\0\x01\0\0\0D\0\0\0\0\0\0\0\
+///     \x08\x01g\0\x02us\0\x07\0\0\0\x02\0\0\0hi\x01";
+/// let whole = whole_parts(bytes, &Limits::default()).unwrap();
+/// let fields: Vec<_> = whole.fields.collect();
+/// assert_eq!(fields, [(1, Value::ObjectPath("/a")), (3, Value::String("D")), (8, Value::Signature("us"))]);
+/// // The 0 that ends the STRING is another byte.
+/// assert_eq!(whole.body.types(), "u");
+/// assert!(whole.body.eq([Value::Uint32(7)]));
 /// ```
-pub fn whole_fields<'a>(bytes: &'a [u8], limits: &Limits) -> Option<Fields<'a>> {
-    Fields::before_fault(bytes, limits)
+pub fn whole_parts<'a>(bytes: &'a [u8], limits: &Limits) -> Option<WholeParts<'a>> {
+    WholeParts::before_fault(bytes, limits)
 }

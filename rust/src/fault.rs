@@ -89,6 +89,7 @@ reasons! {
     Range = 41, "a number is not in the range of its type";
     Digits = 42, "a string does not have the digits that its type wants";
     Count = 43, "an array of JSON has more or fewer values than there are types";
+    MayBeRounded = 44, "an integer beyond 2^53 - 1 is a number, and has to be a string";
 }
 
 reasons! {
@@ -204,7 +205,7 @@ mod tests {
     #[test]
     fn reasons_are_the_librarys_and_the_headers() {
         let (sentences, name) = (sentences("dbus_wire_reason_text"), |number| name(sys::dbus_wire_reason_name, number));
-        let last = sys::DBUS_WIRE_REASON_COUNT;
+        let last = sys::DBUS_WIRE_REASON_MAY_BE_ROUNDED;
         for number in (1..=last).filter(|it| *it != sys::DBUS_WIRE_REASON_NOT_YET) {
             let reason = Reason::new(number, 5);
             assert_eq!(reason.number(), number);

@@ -39,7 +39,7 @@
 //!   and [`server_line`] give the lines of one between others, which a [`Watch`] passes on.
 //! * [`Limits`] are those that a message has to keep, and a [`Fault`] says where and why bytes are
 //!   no message; [`explain`] says it for a reader, with the name of the place and the rule,
-//!   and [`whole_fields`] gives the header fields before the fault.
+//!   and [`whole_parts`] gives the header fields and the values of the body before the fault.
 //! * [`sys`] has the C calls themselves.
 //!
 //! # Linking
@@ -81,7 +81,7 @@ pub use body::{Body, TooLong};
 pub use build::{build, rebuild, reply_to, BuildError, Parts};
 pub use check::{check, wanted, Answer, Order};
 pub use checker::{Checker, OutOfMemory, Taken};
-pub use explain::{explain, whole_fields, Explanation, InputPlace, StatedText};
+pub use explain::{explain, whole_parts, Explanation, InputPlace, StatedText};
 pub use fault::{Fault, ParseError, Reason, RuleReason};
 pub use handshake::{Client, External, HandshakeError, Server, Status, Step};
 pub use json::LinePlace;
@@ -94,7 +94,7 @@ pub use swap::{byteswap, SwapError};
 pub use sys::dbus_wire_flat_item as FlatItem;
 pub use text::{check_text, TextFault, TextKind};
 pub use typed::{spell, AnyVariant, FromValue, MakeError, ObjectPath, Signature, Spelled, ToValue, Typed, UnixFd, VariantOf};
-pub use value::{Array, Entry, Fields, Value, Values, Variant};
+pub use value::{Array, Entry, Fields, Value, Values, Variant, WholeParts};
 pub use watch::{NotPassed, Passage, Watch};
 
 /// The version of the library that is linked or loaded: its three numbers.

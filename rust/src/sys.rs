@@ -109,6 +109,7 @@ pub const DBUS_WIRE_REASON_NOT_INTEGER: u32 = 40;
 pub const DBUS_WIRE_REASON_RANGE: u32 = 41;
 pub const DBUS_WIRE_REASON_DIGITS: u32 = 42;
 pub const DBUS_WIRE_REASON_COUNT: u32 = 43;
+pub const DBUS_WIRE_REASON_MAY_BE_ROUNDED: u32 = 44;
 
 pub const DBUS_WIRE_RULE_REASON_NUL: u32 = 1;
 pub const DBUS_WIRE_RULE_REASON_NO_EQUALS: u32 = 2;
@@ -218,6 +219,13 @@ pub struct dbus_wire_flat_item {
     pub length: u64,
     pub code: u32,
     pub element: u32,
+}
+
+#[repr(C)]
+#[derive(Clone, Copy, Debug, Default)]
+pub struct dbus_wire_whole_count {
+    pub fields: u64,
+    pub all: u64,
 }
 
 #[repr(C)]
@@ -356,6 +364,7 @@ const _: () = assert!(size_of::<dbus_wire_parts>() == 208);
 const _: () = assert!(size_of::<dbus_wire_draft_text>() == 24);
 const _: () = assert!(size_of::<dbus_wire_draft>() == 208);
 const _: () = assert!(size_of::<dbus_wire_flat_item>() == 32);
+const _: () = assert!(size_of::<dbus_wire_whole_count>() == 16);
 const _: () = assert!(size_of::<dbus_wire_input_place>() == 16);
 const _: () = assert!(size_of::<dbus_wire_explained>() == 104);
 const _: () = assert!(size_of::<dbus_wire_line_place>() == 32);
@@ -404,14 +413,14 @@ extern "C" {
         count: *mut u64,
         told: *mut dbus_wire_checked,
     ) -> u32;
-    pub fn dbus_wire_flatten_whole_fields(
+    pub fn dbus_wire_flatten_whole(
         bytes: *const u8,
         length: usize,
         limits: *const dbus_wire_limits,
         first: usize,
         items: *mut dbus_wire_flat_item,
         room: usize,
-        count: *mut u64,
+        count: *mut dbus_wire_whole_count,
         told: *mut dbus_wire_checked,
     ) -> u32;
     pub fn dbus_wire_read(

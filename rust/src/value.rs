@@ -220,6 +220,16 @@ impl<'a> Row<'a> {
         Values { row: self.clone(), left: Left::Items(self.places(at)), types }
     }
 
+    // The types of the values at these places, which come first in a signature.
+    fn types_of(&self, mut places: Range<usize>, signature: &'a str) -> &'a str {
+        let mut others = signature;
+        while let Some(at) = places.next() {
+            places.start += within(&self.items[at]);
+            others = split_type(others).1;
+        }
+        &signature[..signature.len() - others.len()]
+    }
+
     // The value of the item at a place, which has this type.
     fn value(&self, at: usize, of: &'a str) -> Value<'a> {
         let item = &self.items[at];
@@ -337,7 +347,7 @@ impl FusedIterator for Values<'_> {}
 const FIELD: &str = "(yv)";
 
 /// A message's header fields, each as its code and its value, in their order in the message.
-/// [`Message::fields`](crate::Message::fields) returns it, and [`whole_fields`](crate::whole_fields)
+/// [`Message::fields`](crate::Message::fields) returns it, and [`whole_parts`](crate::whole_parts)
 /// those of a message that is refused.
 #[derive(Clone)]
 pub struct Fields<'a> {
@@ -353,17 +363,45 @@ impl<'a> Fields<'a> {
         Self { fields: row.array(0, FIELD).elements }
     }
 
-    /// Those that are whole before the fault of these bytes, if they have one.
+    // The types of the body that they say.
+    fn signature(&self) -> &'a str {
+        let mut said = self.clone().filter_map(|(code, value)| match value {
+            Value::Signature(types) if u32::from(code) == sys::DBUS_WIRE_FIELD_SIGNATURE => Some(types),
+            _ => None,
+        });
+        said.next().unwrap_or_default()
+    }
+}
+
+/// What of a message that is refused is whole before its fault, as
+/// [`whole_parts`](crate::whole_parts) returns it.
+#[derive(Clone, Debug)]
+pub struct WholeParts<'a> {
+    /// Its header fields.
+    pub fields: Fields<'a>,
+    /// The values of its body.
+    pub body: Values<'a>,
+}
+
+impl<'a> WholeParts<'a> {
+    /// Those of these bytes, if they have a fault.
     pub(crate) fn before_fault(bytes: &'a [u8], limits: &Limits) -> Option<Self> {
-        let (limits, mut told) = (limits.raw(), Default::default());
+        let (limits, mut told, mut counted) = (limits.raw(), Default::default(), sys::dbus_wire_whole_count::default());
         let (answer, items) = items_written(|to, count| {
             let (items, room) = (to.as_mut_ptr(), to.len());
             // SAFETY: slices and references, as `sys` says.
-            unsafe { sys::dbus_wire_flatten_whole_fields(bytes.as_ptr(), bytes.len(), &limits, 0, items, room, count, &mut told) }
+            let answer = unsafe {
+                sys::dbus_wire_flatten_whole(bytes.as_ptr(), bytes.len(), &limits, 0, items, room, &mut counted, &mut told)
+            };
+            *count = counted.all;
+            answer
         });
-        let left = Left::Elements(0..items.len());
         let row = Row { bytes, items: items.into() };
-        (answer == sys::DBUS_WIRE_OK).then_some(Self { fields: Values { row, left, types: FIELD } })
+        let of_body = counted.fields as usize..row.items.len();
+        let left = Left::Elements(0..of_body.start);
+        let fields = Fields { fields: Values { row: row.clone(), left, types: FIELD } };
+        let types = row.types_of(of_body.clone(), fields.signature());
+        (answer == sys::DBUS_WIRE_OK).then_some(Self { fields, body: Values { row, left: Left::Items(of_body), types } })
     }
 }
 

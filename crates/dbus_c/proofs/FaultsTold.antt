@@ -1,11 +1,10 @@
 -- What a call that explains a fault answers, and leaves in the caller's bytes.
-use Rattle.std.proofs.Common.{nat_eq, map, ◌≡◌, ◌⊎◌, ⊎_elim, inl, inr, ℕ, List, [], ◌++◌, length, if◌then◌else◌, refl, ap, sym, subst, ◌∙◌}
+use Rattle.std.proofs.Common.{nat_eq, ◌≡◌, ◌⊎◌, ⊎_elim, inl, inr, ℕ, List, [], ◌++◌, length, if◌then◌else◌, refl, ap, sym, subst, ◌∙◌}
 use Rattle.std.proofs.lemmas.Bool.{cases_lt}
 use Rattle.std.proofs.Math.Seq.{drop-nil, take-nil}
-use Rattle.dbus_value_model.specs.Values.{value_trees}
+use Rattle.dbus_value_model.specs.Values.{NoValues}
 use Rattle.dbus_value_model.specs.declared.order.Order.{Order}
-use Rattle.dbus_message_model.specs.Messages.{field_struct}
-use Rattle.dbus_flatten.specs.Flattening.{AreFlat, flats, over}
+use Rattle.dbus_flatten.specs.Flattening.{ArePartsFlat, flats, over}
 use Rattle.dbus_flatten.specs.declared.flat_item.FlatItem.{FlatItem}
 use Rattle.dbus_explain.specs.declared.message.Refused.{Refused}
 use Rattle.dbus_c.specs.Explaining.{IsExplainedIn, checked_answer}
@@ -27,10 +26,13 @@ module _ (refused : Refused) (old new : List ℕ) (told : Explained) (answer : �
   pub explained_told : IsTold answer
   explained_told = ⊎_elim (λ (e : answer ≡ 0). subst IsTold (sym e) refl) (λ (e : answer ≡ 4). subst IsTold (sym e) refl) one_of
 
--- no header field has an item
-pub no_items : (order : Order) (first : ℕ) (items : List FlatItem) → AreFlat order 16 (value_trees (map field_struct [])) first items items 0
+-- nothing has no item
+pub no_items : (order : Order) (first : ℕ) (items : List FlatItem) → ArePartsFlat order [] 0 NoValues first items items (record { fields = 0; all = 0 })
 unfolding flats
 no_items order first items = record {
-  counted = refl;
-  written = λ small. sym (ap (λ (l : List FlatItem). over l items) (drop-nil first) ∙ ap (λ (l : List FlatItem). l ++ items) (take-nil (length items)));
+  fields = refl;
+  all = record {
+    counted = refl;
+    written = λ small. sym (ap (λ (l : List FlatItem). over l items) (drop-nil first) ∙ ap (λ (l : List FlatItem). l ++ items) (take-nil (length items)));
+  };
 }

@@ -1,13 +1,15 @@
 -- Why bytes are refused, as it is explained for a reader.
 -- D-Bus Specification, "Message Protocol".
-use Rattle.std.specs.Prelude.{◌≡◌, ℕ, ◌-◌, ◌<◌, ◌≤◌, List, [], map, min, nat_eq, if◌then◌else◌, Option, None, Some}
+use Rattle.std.specs.Prelude.{◌≡◌, ℕ, ◌-◌, ◌<◌, ◌≤◌, List, [], min, nat_eq, if◌then◌else◌, Option, None, Some}
 use Rattle.dbus_value_model.specs.declared.limits.Limits.{Limits}
-use Rattle.dbus_value_model.specs.Values.{value_trees}
+use Rattle.dbus_value_model.specs.Values.{ValueTrees, NoValues}
 use Rattle.dbus_value_model.specs.declared.fault.Fault.{Fault}
-use Rattle.dbus_message_model.specs.Messages.{FieldTree, field_struct}
+use Rattle.dbus_message_model.specs.Messages.{FieldTree}
 use Rattle.dbus_header.specs.MessageOutcomes.{IsRefused}
-use Rattle.dbus_flatten.specs.Flattening.{AreFlat}
+use Rattle.dbus_flatten.specs.Flattening.{ArePartsFlat}
 use Rattle.dbus_flatten.specs.declared.flat_item.FlatItem.{FlatItem}
+use Rattle.dbus_flatten.specs.declared.parts.PartsCount.{PartsCount}
+use Rattle.dbus_explain.specs.Before.{AreValuesBefore}
 use Rattle.dbus_explain.specs.Explained.{ArePartsOf, IsExplained, place_in}
 use Rattle.dbus_explain.specs.Heads.{AreWhole}
 use Rattle.dbus_explain.specs.Places.{fields_end, order_of}
@@ -37,17 +39,21 @@ pub record IsRefusedAt (limits : Limits) (bytes : List ℕ) (place : InputPlace)
 
 -- What is whole of a message that is refused.
 
--- the header fields that are whole before the place of the fault, or before the end of the bytes if
--- that comes first; none, if the first sixteen bytes are not
-pub data AreWholeBefore (bytes : List ℕ) (fault : Fault) : List FieldTree → Type 0 where
-  none : place_in bytes fault < 16 → AreWholeBefore bytes fault []
-  some : (fs : List FieldTree) → 16 ≤ place_in bytes fault → AreWhole bytes (min (place_in bytes fault) (fields_end bytes)) fs → AreWholeBefore bytes fault fs
+-- the header fields, and the values of the body from an offset on, that are whole before the place of
+-- the fault, or before the end of the bytes if that comes first; none, if the first sixteen bytes are
+-- not
+pub data AreWholeBefore (bytes : List ℕ) (fault : Fault) : List FieldTree → (start : ℕ) → ValueTrees → Type 0 where
+  none : (start : ℕ) → place_in bytes fault < 16 → AreWholeBefore bytes fault [] start NoValues
+  some : (fs : List FieldTree) (start : ℕ) (vs : ValueTrees) → 16 ≤ place_in bytes fault → AreWhole bytes (min (place_in bytes fault) (fields_end bytes)) fs
+      → AreValuesBefore bytes (place_in bytes fault) start vs → AreWholeBefore bytes fault fs start vs
 
 -- they make so many items, of which those from a place on are written over those before
-pub record AreWholeFlat (bytes : List ℕ) (fault : Fault) (first : ℕ) (before items : List FlatItem) (count : ℕ) : Type 0 where
+pub record AreWholeFlat (bytes : List ℕ) (fault : Fault) (first : ℕ) (before items : List FlatItem) (count : PartsCount) : Type 0 where
   pub fields : List FieldTree
-  pub whole : AreWholeBefore bytes fault fields
-  pub flat : AreFlat (order_of bytes) 16 (value_trees (map field_struct fields)) first before items count
+  pub start : ℕ
+  pub values : ValueTrees
+  pub whole : AreWholeBefore bytes fault fields start values
+  pub flat : ArePartsFlat (order_of bytes) fields start values first before items count
 
 -- The parts of an explanation in numbers.
 

@@ -24,6 +24,7 @@ json_reason_number reason.FieldKnown = 38
 json_reason_number reason.FieldPlace = 39
 json_reason_number reason.NotInteger = 40
 json_reason_number reason.Range = 41
+json_reason_number reason.MayBeRounded = 44
 json_reason_number reason.Digits = 42
 json_reason_number reason.Count = 43
 json_reason_number reason.Text = 10

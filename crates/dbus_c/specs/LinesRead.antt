@@ -4,6 +4,7 @@ use Rattle.std.specs.Prelude.{◌≡◌, ℕ, ◌<◌, ◌≤◌, List, ◌++◌
 use Rattle.dbus_value_model.specs.declared.limits.Limits.{Limits}
 use Rattle.dbus_value_model.specs.declared.order.Order.{Order}
 use Rattle.dbus_message_model.specs.Messages.{MessageTree, message_bytes}
+use Rattle.dbus_json.specs.declared.integers.Integers.TheVariants.{Exact}
 use Rattle.dbus_json_lines.specs.JsonLines.{IsLineOf}
 use Rattle.dbus_json_lines.specs.LineFaults.{IsPlaceOf}
 use Rattle.dbus_json_lines.specs.declared.fault.LineFault.{LineFault}
@@ -20,10 +21,10 @@ line_fault_told f = record { length = 0; offset = f.at; order = 0; reason = json
 -- that the line spells is written, in the order that the line names, exactly if it spells one and
 -- there is room; but memory may run out. A message with no serial has this one.
 pub data ReadsLine (limits : Limits) (serial : ℕ) (line : List ℕ) (answer : ℕ) (told : Checked) (old new : List ℕ) : Type 0 where
-  written : (order : Order) (m : MessageTree) → IsLineOf limits serial line order m → length (message_bytes order m) ≤ length old → answer ≡ WHOLE
+  written : (order : Order) (m : MessageTree) → IsLineOf Exact limits serial line order m → length (message_bytes order m) ≤ length old → answer ≡ WHOLE
       → told ≡ whole_told order (length (message_bytes order m)) → new ≡ message_bytes order m ++ drop (length (message_bytes order m)) old → ReadsLine limits serial line answer told old new
-  no_room : (order : Order) (m : MessageTree) → IsLineOf limits serial line order m → length old < length (message_bytes order m) → answer ≡ NO_ROOM
+  no_room : (order : Order) (m : MessageTree) → IsLineOf Exact limits serial line order m → length old < length (message_bytes order m) → answer ≡ NO_ROOM
       → told ≡ whole_told order (length (message_bytes order m)) → new ≡ old → ReadsLine limits serial line answer told old new
-  refused : (f : LineFault) → ((order : Order) (m : MessageTree) → IsLineOf limits serial line order m → ⊥) → IsPlaceOf line f → answer ≡ REFUSED
+  refused : (f : LineFault) → ((order : Order) (m : MessageTree) → IsLineOf Exact limits serial line order m → ⊥) → IsPlaceOf line f → answer ≡ REFUSED
       → told ≡ line_fault_told f → new ≡ old → ReadsLine limits serial line answer told old new
   no_memory : answer ≡ NO_MEMORY → told ≡ nothing_told → new ≡ old → ReadsLine limits serial line answer told old new

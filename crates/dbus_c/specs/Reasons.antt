@@ -88,7 +88,7 @@ name_at n =
     else if nat_eq n 34 then codes "ValueMissing" else if nat_eq n 35 then codes "CodeMissing" else if nat_eq n 36 then codes "BodyMissing"
     else if nat_eq n 37 then codes "Order" else if nat_eq n 38 then codes "FieldKnown" else if nat_eq n 39 then codes "FieldPlace"
     else if nat_eq n 40 then codes "NotInteger" else if nat_eq n 41 then codes "Range" else if nat_eq n 42 then codes "Digits"
-    else if nat_eq n 43 then codes "Count" else []
+    else if nat_eq n 43 then codes "Count" else if nat_eq n 44 then codes "MayBeRounded" else []
 
 -- what stands after a reason's name in its text: of a missing field its code
 abbrev pub code_text : Reason → List ℕ

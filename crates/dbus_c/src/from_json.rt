@@ -4,6 +4,7 @@
 ghost use Rattle.std.specs.Prelude.{◌≡◌, Err, IfOk};
 ghost use Rattle.dbus_c.specs.GivenLimits.{limits_of};
 ghost use Rattle.dbus_c.specs.LinesRead.{ReadsLine, line_fault_told};
+ghost use Rattle.dbus_json.specs.declared.integers.Integers.TheVariants.{Exact};
 ghost use Rattle.dbus_json_lines.specs.JsonLines.{IsLineOf};
 ghost use Rattle.dbus_json_lines.specs.LineFaults.{IsPlaceOf};
 ghost use Rattle.dbus_json_lines.specs.declared.fault.LineFault.{LineFault as TheFault};
@@ -16,6 +17,7 @@ use crate::checking::{Checked, nothing_told};
 use crate::given_limits::{WireLimits, given_limits};
 use crate::json_reasons::{json_field_named, json_reason_number};
 use dbus_encode::encode;
+use dbus_json::Integers;
 use dbus_json_lines::{LineFault, NoMessage, message_of_line};
 use dbus_value_model::{Limits, Order};
 use json::Scratch;
@@ -65,15 +67,22 @@ fn bytes_of_line(
     limits: Limits,
     serial: u32,
 ) -> Result<(Order, Vec<u8, Global>), NoMessage>
-    ensures ok { IfOk result (λ r. (m : MessageTree) × IsLineOf limits serial line.now r.0 m ×
+    ensures ok { IfOk result (λ r. (m : MessageTree) × IsLineOf Exact limits serial line.now r.0 m ×
         (r.1.items ≡ message_bytes r.0 m)) }
     ensures refused { (fault : TheFault) → result ≡ Err (NoMessage.Refused fault) →
-        (order : TheOrder) (m : MessageTree) → IsLineOf limits serial line.now order m → ⊥ }
+        (order : TheOrder) (m : MessageTree) → IsLineOf Exact limits serial line.now order m → ⊥ }
     ensures place { (fault : TheFault) → result ≡ Err (NoMessage.Refused fault) →
         IsPlaceOf line.now fault }
 {
     let mut scratch = Scratch::new(alloc);
-    let (order, message) = match message_of_line(alloc, line, limits, serial, &mut scratch) {
+    let (order, message) = match message_of_line(
+        alloc,
+        line,
+        limits,
+        serial,
+        Integers::Exact,
+        &mut scratch,
+    ) {
         Ok(read) => read,
         Err(why) => return Err(why),
     };

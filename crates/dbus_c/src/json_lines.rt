@@ -8,6 +8,7 @@ ghost use Rattle.dbus_c.specs.JsonLines.{line_place};
 ghost use Rattle.dbus_c.specs.Outcomes.{IsTold, with_room};
 ghost use Rattle.dbus_c.specs.Written.{IsWritten};
 ghost use Rattle.dbus_header.specs.MessageOutcomes.{IsWhole};
+ghost use Rattle.dbus_json.specs.declared.integers.Integers.TheVariants.{Exact};
 ghost use Rattle.dbus_json.specs.JsonMessages.{IsJsonLine};
 ghost use Rattle.dbus_message_model.specs.Messages.{MessageTree};
 ghost use Rattle.dbus_room.specs.Counting.{counted};
@@ -18,7 +19,7 @@ ghost use Rattle.dbus_value_model.specs.declared.order.Order.{Order};
 use crate::checking::{Checked, first_validated};
 use crate::given_limits::{WireLimits, given_limits};
 use crate::written::end_text;
-use dbus_json::{LinePlace, write_json};
+use dbus_json::{Integers, LinePlace, write_json};
 use dbus_room::{Counted, Room};
 use dbus_validate::Validated;
 use dbus_value_model::Limits;
@@ -75,7 +76,7 @@ pub extern "C" fn dbus_wire_json(
     ensures checked { IsChecked (limits_of limits.now) bytes.now (with_room result) told.new }
     ensures written { (order : Order) (m : MessageTree) (n : ℕ) →
         IsWhole (limits_of limits.now) bytes.now order m n →
-        (line : List ℕ) × IsJsonLine order m (line_place place.now) line ×
+        (line : List ℕ) × IsJsonLine Exact order m (line_place place.now) line ×
         IsWritten line out.old out.new result × (count.new ≡ counted (length line)) }
     ensures unchanged { (IsTold result → ⊥) → (out.new ≡ out.old) × (count.new ≡ count.old) }
 {
@@ -100,13 +101,20 @@ fn write_line(
     requires validated { IsValidated limits bytes.now validated.now }
     ensures { (m : MessageTree) →
         IsWhole limits bytes.now validated.now.order m validated.now.length →
-        (line : List ℕ) × IsJsonLine validated.now.order m (line_place place.now) line ×
+        (line : List ℕ) × IsJsonLine Exact validated.now.order m (line_place place.now) line ×
         Gains room.old line room.new × (result ≡ counted (length line)) }
 {
     let mut draft = Counted {
         draft: room,
         len: 0,
     };
-    write_json(&mut draft, bytes, limits, validated, line_place(place));
+    write_json(
+        &mut draft,
+        bytes,
+        limits,
+        validated,
+        line_place(place),
+        Integers::Exact,
+    );
     draft.len
 }

@@ -29,6 +29,7 @@ pub fn json_reason_number(reason: JsonReason) -> u32
         JsonReason::FieldPlace => 39,
         JsonReason::NotInteger => 40,
         JsonReason::Range => 41,
+        JsonReason::MayBeRounded => 44,
         JsonReason::Digits => 42,
         JsonReason::Count => 43,
         JsonReason::Text => 10,

@@ -8,7 +8,7 @@
 //! its body's values by one validation; [`dbus_wire_json`] writes it as a line of JSON, which
 //! [`dbus_wire_from_json`] reads back.
 //! [`dbus_wire_explain`] explains for a reader why bytes are refused, and
-//! [`dbus_wire_flatten_whole_fields`] gives the header fields before the fault.
+//! [`dbus_wire_flatten_whole`] gives the header fields and the values of the body before the fault.
 //! [`dbus_wire_checker_new`] makes a checker that takes one
 //! piece after another, and [`dbus_wire_rules_add`] keeps match rules,
 //! [`dbus_wire_rules_owner`] the owners of names that their senders may be;
@@ -47,7 +47,7 @@ mod texts;
 mod version;
 mod wanted;
 mod watching;
-mod whole_fields;
+mod whole_parts;
 mod writers;
 mod written;
 
@@ -91,7 +91,7 @@ pub use texts::{TextChecked, dbus_wire_text_check};
 pub use version::{VERSION, dbus_wire_version};
 pub use wanted::dbus_wire_wanted;
 pub use watching::{HandshakeWatch, dbus_wire_watch_client, dbus_wire_watch_server};
-pub use whole_fields::dbus_wire_flatten_whole_fields;
+pub use whole_parts::dbus_wire_flatten_whole;
 pub use writers::{
     WireArray, WireWriter, dbus_wire_begin_struct, dbus_wire_close_array, dbus_wire_open_array,
     dbus_wire_put_number, dbus_wire_put_signature, dbus_wire_put_text,

@@ -79,6 +79,7 @@ fn name_numbered(number: u32) -> &'static str
         41 => "Range",
         42 => "Digits",
         43 => "Count",
+        44 => "MayBeRounded",
         _ => "",
     }
 }

@@ -22,15 +22,15 @@ use Rattle.dbus_walk.proofs.Containers.{array_found, array_stands, elements_ther
 use Rattle.dbus_walk.proofs.MessageParts.{fields_stand}
 use Rattle.dbus_walk.proofs.Parts.{stands_positive}
 use Rattle.dbus_explain.specs.FirstFields.{FirstFields}
-use Rattle.dbus_explain.specs.Places.{order_of}
+use Rattle.dbus_explain.specs.Places.{fields_end, order_of}
 
-abbrev rows : List FieldTree → ValueTrees
+abbrev pub rows : List FieldTree → ValueTrees
 rows fs = value_trees (map field_struct fs)
 
 -- fields that are spelled within the limits of the specification
-record AreSpelled (order : Order) (o : ℕ) (fs : List FieldTree) : Type 0 where
-  formed : AreWellFormed DEPTH_LIMIT (rows fs)
-  within : AreWithinLimits (bounds_of specification).array order o (rows fs)
+pub record AreSpelled (order : Order) (o : ℕ) (fs : List FieldTree) : Type 0 where
+  pub formed : AreWellFormed DEPTH_LIMIT (rows fs)
+  pub within : AreWithinLimits (bounds_of specification).array order o (rows fs)
 
 -- one field is another, if they are one value
 same_field : (f g : FieldTree) → field_struct f ≡ field_struct g → f ≡ g
@@ -74,24 +74,24 @@ same_order Little k (y ∷ bytes) more e = let first : 108 ≡ y = ap (λ (l : L
 same_order Big k (y ∷ bytes) more e = let first : 66 ≡ y = ap (λ (l : List ℕ). get_or l 0 0) e in subst (λ (n : ℕ). order_of (n ∷ bytes) ≡ Big) first refl
 
 -- what is behind a front is the same too
-behind : (n k : ℕ) (xs ys : List ℕ) → take (n + k) xs ≡ take (n + k) ys → take k (drop n xs) ≡ take k (drop n ys)
+pub behind : (n k : ℕ) (xs ys : List ℕ) → take (n + k) xs ≡ take (n + k) ys → take k (drop n xs) ≡ take k (drop n ys)
 behind n k xs ys e = sym (drop-take n k xs) ∙ ap (λ (l : List ℕ). drop n l) e ∙ drop-take n k ys
 
-shorter : (m n : ℕ) (xs ys : List ℕ) → m ≤ n → take n xs ≡ take n ys → take m xs ≡ take m ys
+pub shorter : (m n : ℕ) (xs ys : List ℕ) → m ≤ n → take n xs ≡ take n ys → take m xs ≡ take m ys
 shorter m n xs ys le e = sym (take-take m n xs le) ∙ ap (λ (l : List ℕ). take m l) e ∙ take-take m n ys le
 
-gaps : (gap_to 4 12 ≡ 0) × (gap_to 8 16 ≡ 0) × (contents_start field_type 12 ≡ 16)
+pub gaps : (gap_to 4 12 ≡ 0) × (gap_to 8 16 ≡ 0) × (contents_start field_type 12 ≡ 16)
 unfolding gap_to
 gaps = (refl, refl, refl)
 
 -- the fields of a message, as they are spelled behind its first 16 bytes
-record Spelled (order : Order) (m : MessageTree) : Type 0 where
-  rest : List ℕ
-  spelled : drop 16 (message_bytes order m) ≡ spellings order 16 (rows m.fields) ++ rest
-  long : length (spellings order 16 (rows m.fields)) ≡ number_of order (take 4 (drop 12 (message_bytes order m)))
-  are : AreSpelled order 16 m.fields
+pub record Spelled (order : Order) (m : MessageTree) : Type 0 where
+  pub rest : List ℕ
+  pub spelled : drop 16 (message_bytes order m) ≡ spellings order 16 (rows m.fields) ++ rest
+  pub long : length (spellings order 16 (rows m.fields)) ≡ number_of order (take 4 (drop 12 (message_bytes order m)))
+  pub are : AreSpelled order 16 m.fields
 
-fields_spelled : (order : Order) (m : MessageTree) → IsMessage specification order m → Spelled order m
+pub fields_spelled : (order : Order) (m : MessageTree) → IsMessage specification order m → Spelled order m
 fields_spelled order m valid =
     let b = message_bytes order m in
     let n = number_of order (take 4 (drop 12 b)) in
@@ -115,16 +115,22 @@ fields_spelled order m valid =
       };
     }
 
-pub first_fields : FirstFields
-first_fields bytes at fs whole limits order m is same =
+-- and they state the same length of the fields
+pub stated_same : (order : Order) (m : MessageTree) (bytes : List ℕ) → order_of bytes ≡ order → take 16 (message_bytes order m) ≡ take 16 bytes
+    → number_of (order_of bytes) (take 4 (drop 12 bytes)) ≡ number_of order (take 4 (drop 12 (message_bytes order m)))
+stated_same order m bytes ordered same =
+    ap (λ (o : Order). number_of o (take 4 (drop 12 bytes))) ordered ∙ ap (λ (l : List ℕ). number_of order l) (sym (behind 12 4 (message_bytes order m) bytes same))
+
+-- they are the first of the fields of the message, if those are spelled in the same bytes
+pub fields_begin : (bytes : List ℕ) (fs : List FieldTree) (e : ℕ) → SpelledAll (bounds_of specification) (order_of bytes) DEPTH_LIMIT 16 (drop 16 bytes) (rows fs) e (drop e bytes) → e ≤ fields_end bytes → (order : Order) (m : MessageTree)
+    → IsMessage specification order m → take e (message_bytes order m) ≡ take e bytes → (order_of bytes ≡ order) × (more : List FieldTree) × (m.fields ≡ fs ++ more)
+fields_begin bytes fs e spelt within order m valid same =
     let b = message_bytes order m in
-    let e = whole.end in
-    let valid = wider_message limits specification order m (widest limits) is in
     let its = fields_spelled order m valid in
-    let front : 16 ≤ e = omega (arith, whole.spelled.place) in
+    let front : 16 ≤ e = omega (arith, spelt.place) in
     let split : suc (e - 1) ≡ e = omega (arith, front) in
     let ordered : order_of bytes ≡ order = same_order order (e - 1) bytes _ (subst (λ (k : ℕ). take k b ≡ take k bytes) (sym split) same) in
-    let spelled = subst (λ (o : Order). SpelledAll (bounds_of specification) o DEPTH_LIMIT 16 (drop 16 bytes) (rows fs) e (drop e bytes)) ordered whole.spelled in
+    let spelled = subst (λ (o : Order). SpelledAll (bounds_of specification) o DEPTH_LIMIT 16 (drop 16 bytes) (rows fs) e (drop e bytes)) ordered spelt in
     let k = length (spellings order 16 (rows fs)) in
     let apart : 16 + k ≡ e = omega (arith, spelled.place) in
     let shared = behind 16 k b bytes (subst (λ (j : ℕ). take j b ≡ take j bytes) (sym apart) same) in
@@ -132,8 +138,11 @@ first_fields bytes at fs whole limits order m is same =
     shared ∙ ap (λ (l : List ℕ). take k l) spelled.bytes ∙ take-append_seam (spellings order 16 (rows fs)) (drop e bytes) in
     let both : spellings order 16 (rows fs) ++ drop k (drop 16 b) ≡ spellings order 16 (rows m.fields) ++ its.rest =
     ap (λ (l : List ℕ). l ++ drop k (drop 16 b)) (sym mine) ∙ take-append-drop k (drop 16 b) ∙ its.spelled in
-    let lengths : take 4 (drop 12 b) ≡ take 4 (drop 12 bytes) = behind 12 4 b bytes (shorter 16 e b bytes front same) in
-    let stated : number_of (order_of bytes) (take 4 (drop 12 bytes)) ≡ number_of order (take 4 (drop 12 b)) =
-    ap (λ (o : Order). number_of o (take 4 (drop 12 bytes))) ordered ∙ ap (λ (l : List ℕ). number_of order l) (sym lengths) in
-    begins order 16 fs m.fields (drop k (drop 16 b)) its.rest (record { formed = spelled.formed; within = spelled.within }) its.are both
-    (omega (arith, apart, whole.within, stated, its.long))
+    let begun = begins order 16 fs m.fields (drop k (drop 16 b)) its.rest (record { formed = spelled.formed; within = spelled.within }) its.are both
+    (omega (arith, apart, within, stated_same order m bytes ordered (shorter 16 e b bytes front same), its.long)) in
+    (ordered, begun.0, begun.1)
+
+pub first_fields : FirstFields
+first_fields bytes at fs whole limits order m is same =
+    let begun = fields_begin bytes fs whole.end whole.spelled (omega (arith, whole.within)) order m (wider_message limits specification order m (widest limits) is) same in
+    (begun.1, begun.2)

@@ -1,5 +1,5 @@
 -- A place has one name.
-use Rattle.std.proofs.Common.{◌≡◌, ℕ, zero, suc, ◌+◌, ◌<◌, ◌≤◌, List, [], ◌∷◌, ◌++◌, codes, decimal, drop, take, length, slice_index, true, inl, inr, Option, None, Some, refl, sym, ap, ◌∙◌, subst, arith}
+use Rattle.std.proofs.Common.{◌≡◌, ℕ, zero, suc, ◌+◌, ◌<◌, ◌≤◌, List, [], ◌∷◌, ◌++◌, codes, drop, take, length, slice_index, true, inl, inr, Option, None, Some, refl, sym, ap, ◌∙◌, subst, arith}
 use Rattle.std.proofs.Math.Path.{transport}
 use Rattle.std.proofs.lemmas.Bool.{cases_lt, false≢true}
 use Rattle.dbus_texts.specs.Types.{TypeTree, TypeTrees, NumberType, TextType, VariantType, ArrayType, StructType, EntryType, NoTypes, MoreTypes, IsShaped, AreShaped, sig, sigs}
@@ -11,7 +11,7 @@ use Rattle.dbus_value_model.specs.Bytes.{gap_to}
 use Rattle.dbus_value_model.specs.declared.fault.Reason.{Reason}
 use Rattle.dbus_show.specs.ShownValues.{quoted}
 use Rattle.dbus_explain.specs.Names.{IsFieldName, in_field, behind_fields, IsValueName, in_value, behind_values, IsNameOf, first, missing, field, padding, value}
-use Rattle.dbus_explain.specs.Names.{IsTextIf, code_name, path_text, step_text, text_part}
+use Rattle.dbus_explain.specs.Names.{IsTextIf, code_name, path_text, step_text}
 use Rattle.dbus_explain.specs.Places.{AreBodyTypes, Enters, EntersNone, IsAmong, IsInFieldText, IsInText, IsKeyOf, IsPath, IsSignatureField, IsTyped, IsWholePath, Pass, body_begin, field_type, fields_end, first_element}
 use Rattle.dbus_explain.specs.declared.path.PathStep.{PathStep}
 use Rattle.dbus_explain.specs.declared.path.PathStep.TheVariants.{Number, Keyed, Key, Value, Variant}

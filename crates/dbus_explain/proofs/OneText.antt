@@ -10,6 +10,7 @@ use Rattle.dbus_value_model.specs.declared.order.Order.{Order}
 use Rattle.dbus_message_model.specs.Messages.{FieldTree, is_known}
 use Rattle.dbus_show.specs.ShownMessages.{field_name}
 use Rattle.dbus_value_text.specs.Forms.{AreFieldTexts}
+use Rattle.dbus_json.specs.declared.integers.Integers.TheVariants.{Exact}
 use Rattle.dbus_json.specs.JsonMessages.{IsJsonHeader, IsKnown, IsOther, head_members, is_before_known, known_fields, other_fields, place_members}
 use Rattle.dbus_json.specs.JsonValues.{AreJson, IsJson, array, listed, member, object, plain, string}
 use Rattle.dbus_explain.specs.Explained.{bytes_line, place_in, rule_line}
@@ -55,7 +56,7 @@ array_one true x y text P Q one h k = h.0 refl ∙ sym (k.0 refl)
 array_one false x y text P Q one h k = one (h.1 refl) (k.1 refl)
 
 mutual
-  json_one : (v : ValueTree) (x y : List ℕ) → HasNoDouble v → IsJson v x → IsJson v y → x ≡ y
+  json_one : (v : ValueTree) (x y : List ℕ) → HasNoDouble v → IsJson Exact v x → IsJson Exact v y → x ≡ y
   json_one (NumberValue DOUBLE n) x y none h k = absurd none
   json_one (NumberValue c n) x y none h k = h ∙ sym k
   json_one (TextValue c t) x y none h k = h ∙ sym k
@@ -70,7 +71,7 @@ mutual
       let value = json_one w h.0 k.0 none h.1 k.1 in
       h.2 ∙ ((λ i. object (member (codes "type") (plain (sig (type_of w))) ∷ member (codes "value") (value i) ∷ [])) ∙ sym k.2)
 
-  jsons_one : (vs : ValueTrees) (x y : List (List ℕ)) → HaveNoDouble vs → AreJson vs x → AreJson vs y → x ≡ y
+  jsons_one : (vs : ValueTrees) (x y : List (List ℕ)) → HaveNoDouble vs → AreJson Exact vs x → AreJson Exact vs y → x ≡ y
   jsons_one NoValues [] [] none h k = refl
   jsons_one NoValues (t ∷ x) y none h k = absurd h
   jsons_one NoValues [] (t ∷ y) none h k = absurd k
@@ -102,18 +103,18 @@ texts_one Is one (p ∷ ps) [] y none h k = absurd h
 texts_one Is one (p ∷ ps) (t ∷ x) [] none h k = absurd k
 texts_one Is one (p ∷ ps) (t ∷ x) (u ∷ y) none h k = λ i. one p.0 p.1.code p.1.value t u none.0 h.0 k.0 i ∷ texts_one Is one ps x y none.1 h.1 k.1 i
 
-known_one : (code : ℕ) (v : ValueTree) (x y : List ℕ) → HasNoDouble v → IsKnown code v x → IsKnown code v y → x ≡ y
+known_one : (code : ℕ) (v : ValueTree) (x y : List ℕ) → HasNoDouble v → IsKnown Exact code v x → IsKnown Exact code v y → x ≡ y
 known_one code v x y none h k = h.is ∙ (ap (λ (l : List ℕ). member (field_name code) l) (json_one v h.value k.value none h.json k.json) ∙ sym k.is)
 
-other_one : (before : Bool) (place code : ℕ) (v : ValueTree) (x y : List ℕ) → HasNoDouble v → IsOther before place code v x → IsOther before place code v y → x ≡ y
+other_one : (before : Bool) (place code : ℕ) (v : ValueTree) (x y : List ℕ) → HasNoDouble v → IsOther Exact before place code v x → IsOther Exact before place code v y → x ≡ y
 other_one before place code v x y none h k =
     let value = json_one v h.value k.value none h.json k.json in
     h.is ∙ ((λ i. object (member (codes "code") (decimal code) ∷ member (codes "type") (plain (sig (type_of v))) ∷ member (codes "value") (value i) ∷ place_members before place)) ∙ sym k.is)
 
 header_one : (order : Order) (kind flags serial : ℕ) (fs : List FieldTree) (x y : List ℕ) → FieldsHaveNoDouble fs → IsJsonHeader order kind flags serial fs x → IsJsonHeader order kind flags serial fs y → x ≡ y
 header_one order kind flags serial fs x y none h k =
-    let known = texts_one (λ _ code v text. IsKnown code v text) (λ _ code v t u. known_one code v t u) (known_fields fs) h.known k.known (taken_none is_known 0 fs none) h.fields.0 k.fields.0 in
-    let others = texts_one (λ place code v text. IsOther (is_before_known fs place) place code v text) (λ place code v t u. other_one (is_before_known fs place) place code v t u) (other_fields fs) h.others k.others
+    let known = texts_one (λ _ code v text. IsKnown Exact code v text) (λ _ code v t u. known_one code v t u) (known_fields fs) h.known k.known (taken_none is_known 0 fs none) h.fields.0 k.fields.0 in
+    let others = texts_one (λ place code v text. IsOther Exact (is_before_known fs place) place code v text) (λ place code v t u. other_one (is_before_known fs place) place code v t u) (other_fields fs) h.others k.others
     (taken_none (λ code. not (is_known code)) 0 fs none) h.fields.1 k.fields.1 in
     h.is ∙ ((λ i. object (head_members order kind flags serial ++ (known i ++ (member (codes "fields") (array (others i)) ∷ [])))) ∙ sym k.is)
 

@@ -6,7 +6,7 @@ use Rattle.hex.specs.Hex.{encode_lower}
 use Rattle.dbus_value_model.specs.declared.fault.Fault.{Fault}
 use Rattle.dbus_show.specs.Escapes.{escaped, visible}
 use Rattle.dbus_show.specs.ShownValues.{quoted}
-use Rattle.dbus_show.specs.declared.escapes.Escapes.TheVariants.{Shown}
+use Rattle.dbus_show.specs.declared.escapes.Escapes.TheVariants.{Line, Shown}
 use Rattle.dbus_room.specs.Counting.{counted}
 use Rattle.dbus_explain.specs.Heads.{IsHead, head_lines, head_part, head_shown}
 use Rattle.dbus_explain.specs.Looks.{look_text}
@@ -104,12 +104,19 @@ pub record ArePartsOf {refused : Refused} {text : List ℕ} (is : IsExplained re
   pub rule : IsPart text (before_rule refused (place_in refused.bytes.now refused.fault) is.name is.stated is.head) (rule_text refused.fault.reason) parts.rule
   pub stated : parts.text ≡ is.stated
 
--- The lines that explain why a match rule is refused. Which text says what may be there is not
--- stated.
+-- The lines that show a place in a line.
 
 -- a blank for each character of a text
 abbrev pub blanks : List ℕ → List ℕ
 blanks text = replicate (length (chars text)) 32
+
+-- the line, with its escapes, of what comes before the place and what is there; and a mark under the
+-- character that is there, or under the end
+abbrev pub marked_lines : (before there : List ℕ) → List ℕ
+marked_lines before there = codes "  " ++ (escaped Line before ++ (escaped Line there ++ (codes "\n  " ++ (blanks (escaped Line before) ++ codes "^\n"))))
+
+-- The lines that explain why a match rule is refused. Which text says what may be there is not
+-- stated.
 
 -- the rule as a text is shown, with hidden characters seen
 abbrev pub quoted_line : (text : List ℕ) → List ℕ

@@ -10,4 +10,6 @@ pub mod EscapingLaws
 pub mod Heads
 pub mod Members
 pub mod Laws
+pub mod Before
 pub mod FirstFields
+pub mod FirstValues

@@ -1,6 +1,6 @@
 -- In which value of a message a place is, by the values before it.
 -- D-Bus Specification, "Marshaling (Wire Format)", "Header Fields".
-use Rattle.std.specs.Prelude.{◌≡◌, ℕ, zero, suc, ◌+◌, ◌<◌, ◌≤◌, List, [], ◌∷◌, length, nat_eq, if◌then◌else◌, slice_index, take, drop, true, Bool}
+use Rattle.std.specs.Prelude.{◌≡◌, ℕ, ⊤, zero, suc, ◌+◌, ◌<◌, ◌≤◌, List, [], ◌∷◌, length, nat_eq, if◌then◌else◌, slice_index, take, drop, true, Bool}
 use Rattle.std.specs.Int.{is_in_range}
 use Rattle.std.specs.List.{list_all}
 use Rattle.dbus_texts.specs.Types.{TypeTree, TypeTrees, BYTE, SIGNATURE, NumberType, TextType, VariantType, ArrayType, StructType, EntryType, NoTypes, MoreTypes}
@@ -58,6 +58,18 @@ module _ (bytes : List ℕ) (at : ℕ) where
   abbrev pub Pass : TypeTree → (n p q : ℕ) → Type 0
   Pass t zero p q = q ≡ p
   Pass t (suc n) p q = (r : ℕ) × Pass t n p r × Passes t r q
+
+  -- n values of these types, one after the other from p on, and q is where the others would be, of
+  -- these types
+  abbrev pub PassEach : (n : ℕ) → TypeTrees → (p : ℕ) → (others : TypeTrees) → (q : ℕ) → Type 0
+  PassEach zero ts p us q = (us ≡ ts) × (q ≡ p)
+  PassEach (suc n) NoTypes p us q = ⊥
+  PassEach (suc n) (MoreTypes t ts) p us q = (r : ℕ) × Passes t p r × PassEach n ts r us q
+
+  -- the place is in the first value of these types at p, if there is one
+  abbrev pub IsInFirst : TypeTrees → (p : ℕ) → Type 0
+  IsInFirst NoTypes p = ⊤
+  IsInFirst (MoreTypes t ts) p = IsIn t p
 
   -- of values of these types, which begin at p, those before number n end there, and the place is
   -- in that one, which is of type u and at q

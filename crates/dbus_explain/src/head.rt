@@ -2,7 +2,7 @@
 //! Format", "Header Fields".
 #![tactic(auto)]
 
-ghost use Rattle.std.specs.Prelude.{◌≡◌, ◌<◌, ◌≤◌, ℕ, List, Option, None, Some, IfSome, length};
+ghost use Rattle.std.specs.Prelude.{◌≡◌, ◌≤◌, ℕ, List, Option, Some, length};
 ghost use Rattle.std.specs.Prelude.{min};
 ghost use Rattle.dbus_message_model.specs.Messages.{FieldTree};
 ghost use Rattle.dbus_show.specs.Escapes.{escaped};
@@ -11,18 +11,16 @@ ghost use Rattle.dbus_value_text.specs.Runs.{AreInRun, IsRun};
 ghost use Rattle.dbus_room.specs.Counting.{Counts};
 ghost use Rattle.dbus_explain.specs.Heads.{AreWhole, IsHead, IsHeadPart, first_part_of};
 ghost use Rattle.dbus_explain.specs.Heads.{head_part};
-ghost use Rattle.dbus_explain.specs.Explained.{place_in};
 ghost use Rattle.dbus_explain.specs.Places.{fields_end, order_of};
 
 use crate::escaping::Escaping;
 use crate::explanation::LinesPart;
-use crate::message::place_in;
 use crate::places::{FIELD, FIELDS, end_of_fields, order_of};
 use crate::search::{Search, ValuePlace};
 use dbus_room::Counted;
 use dbus_show::{Draft, Escapes, write_front, write_start};
 use dbus_show_view::write_shown_fields;
-use dbus_value_model::{DEPTH_LIMIT, Fault, Order};
+use dbus_value_model::{DEPTH_LIMIT, Order};
 use dbus_value_text::FieldRun;
 use dbus_walk::MessageBytes;
 
@@ -118,32 +116,11 @@ pub(crate) fn first_part(bytes: &[u8]) -> FirstPart
     }
 }
 
-/// The header fields that are whole before the place of a fault, or before the end of the bytes if
-/// that comes first: they stand one after another from the first on. `None` if the first 16 bytes
-/// are not whole before it.
-///
-/// Any bytes and any fault are safe, and it allocates nothing. D-Bus Specification, "Header
-/// Fields".
-pub fn fields_before(bytes: &[u8], fault: Fault) -> Option<FieldRun<'_>>
-    ensures none { result ≡ None → place_in bytes.now fault < 16 }
-    ensures begun { IfSome result (λ run. 16 ≤ place_in bytes.now fault) }
-    ensures order { IfSome result (λ run. run.source.order ≡ order_of bytes.now) }
-    ensures stand { IfSome result (λ run. IsRun run) }
-    ensures fields { IfSome result (λ run. (fs : List FieldTree) × (rest : List ℕ) ×
-        AreInRun run fs rest ×
-        AreWhole bytes.now (min (place_in bytes.now fault) (fields_end bytes.now)) fs) }
-{
-    let at = place_in(bytes, fault);
-    if at < FIELDS {
-        return None;
-    }
-    Some(whole_fields(bytes, at))
-}
-
 /// Where the header fields are that are whole before the place.
 pub(crate) fn whole_fields(bytes: &[u8], at: usize) -> FieldRun<'_>
     requires begun { 16 ≤ at }
     requires within { at ≤ length bytes.now }
+    ensures bytes { result.source.bytes.now ≡ bytes.now }
     ensures order { result.source.order ≡ order_of bytes.now }
     ensures stand { IsRun result }
     ensures fields { (fs : List FieldTree) × (rest : List ℕ) × AreInRun result fs rest ×
@@ -159,6 +136,7 @@ pub(crate) fn whole_fields(bytes: &[u8], at: usize) -> FieldRun<'_>
 // The same before the place of a search.
 fn fields_passed<'a>(search: &Search<'a>) -> FieldRun<'a>
     requires { 16 ≤ search.now.at }
+    ensures bytes { result.source.bytes.now ≡ search.now.bytes.now }
     ensures order { result.source.order ≡ search.now.order }
     ensures fields { (fs : List FieldTree) × (rest : List ℕ) × AreInRun result fs rest ×
         AreWhole search.now.bytes.now search.now.at fs }

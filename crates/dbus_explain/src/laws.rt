@@ -3,6 +3,7 @@
 #![tactic(auto)]
 
 ghost use Rattle.dbus_explain.specs.FirstFields.{FirstFields};
+ghost use Rattle.dbus_explain.specs.FirstValues.{FirstValues};
 ghost use Rattle.dbus_explain.specs.Laws.{OneExplanation, OneRefusal};
 
 /// A message that is refused is explained in one way, by its bytes as far as they were read, its
@@ -22,4 +23,12 @@ pub fn one_refusal()
 /// that has the same bytes up to the end of the last of them. D-Bus Specification, "Header Fields".
 pub fn first_fields()
     ensures { FirstFields }
+{}
+
+/// The values of the body that are whole before the place of a fault are the first ones of the body
+/// of each message that has the same bytes up to the end of the last of them. So what
+/// `dbus_flatten` gives of them is how its row of that body begins. D-Bus Specification, "Message
+/// Format".
+pub fn first_values()
+    ensures { FirstValues }
 {}

@@ -46,7 +46,7 @@ pub(crate) fn write_name<D: Draft>(
     }
     let order = order_of(bytes);
     let fields_end = end_of_fields(bytes);
-    let body = fields_end + usize::from(padding_length(8, fields_end as u64));
+    let body = body_begin(bytes);
     let search = Search { bytes, order, at };
     if let Reason::FieldMissing(_) = reason {
         draft.push_str("the end of the header fields");
@@ -68,6 +68,15 @@ pub(crate) fn end_of_fields(bytes: &[u8]) -> usize
     ensures near { result < 2 ^ 33 }
 {
     FIELDS + order_of(bytes).u32_at(bytes, 12) as usize
+}
+
+/// Where the body begins, after the padding behind the header fields.
+pub(crate) fn body_begin(bytes: &[u8]) -> usize
+    requires { 16 ≤ length bytes.now }
+    ensures { result ≡ body_begin bytes.now }
+{
+    let fields_end = end_of_fields(bytes);
+    fields_end + usize::from(padding_length(8, fields_end as u64))
 }
 
 /// The byte order of a message that is at fault: little, if its first byte says none.
@@ -218,8 +227,8 @@ pub(crate) fn write_text_part<D: Draft>(draft: &mut D, text: Option<StatedText>)
     }
 }
 
-// The types of the body, by the first SIGNATURE field, which is a variant.
-fn body_types<'a>(search: &Search<'a>) -> Option<&'a [u8]>
+/// The types of the body, by the first SIGNATURE field, which is a variant.
+pub(crate) fn body_types<'a>(search: &Search<'a>) -> Option<&'a [u8]>
     requires { 16 ≤ search.now.at }
     ensures some { IfSome result (λ types. (ts : TypeTrees) × (sigs ts ≡ types.now) ×
         AreShaped ts × AreBodyTypes search.now.bytes.now search.now.at ts) }

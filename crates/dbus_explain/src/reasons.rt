@@ -14,8 +14,10 @@ macro_rules! rule {
     };
 }
 
-/// What has to be where a message is refused for this reason.
-pub(crate) fn rule_of(reason: Reason) -> &'static str
+/// What has to be where a message is refused for this reason, with its section of the D-Bus
+/// Specification, as one line without its line feed. A limit is told by its number in the
+/// specification and by the option of `dbus-wire` that lowers it.
+pub fn rule_of(reason: Reason) -> &'static str
     ensures text { result.now ≡ rule_text reason }
     ensures one_line { line_feeds result.now ≡ 0 }
 {

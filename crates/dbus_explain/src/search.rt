@@ -12,8 +12,8 @@ ghost use Rattle.dbus_types.specs.Alignments.{alignment_of};
 ghost use Rattle.dbus_types.specs.SignatureCodes.{first_code};
 ghost use Rattle.dbus_value_model.specs.Bytes.{gap_to};
 ghost use Rattle.dbus_explain.specs.Places.{EntersNone, IsAmong, IsAmongNone, IsIn, IsInFieldText};
-ghost use Rattle.dbus_explain.specs.Places.{IsInText, IsKeyOf, IsStepTo, IsTyped, Leads, Pass};
-ghost use Rattle.dbus_explain.specs.Places.{Passes, is_printable, order_of};
+ghost use Rattle.dbus_explain.specs.Places.{IsInFirst, IsInText, IsKeyOf, IsStepTo, IsTyped};
+ghost use Rattle.dbus_explain.specs.Places.{Leads, Pass, PassEach, Passes, is_printable, order_of};
 
 use crate::path::PathStep;
 use dbus_types::{TextKind, boundary, type_end};
@@ -49,6 +49,26 @@ pub struct StatedText {
     pub start: usize,
     /// The length in bytes that is stated before it, without the 0 that ends it.
     pub stated: u32,
+}
+
+impl<'a> ValuePlace<'a> {
+    /// The first of values of these types, one after another from the place on, and the types of the
+    /// others; if there is one.
+    pub(crate) fn split(&self) -> Option<(ValuePlace<'a>, &'a [u8])>
+        ensures place { IfSome result (λ r. r.0.place ≡ self.now.place) }
+        ensures types { IfSome result (λ r. (ts : TypeTrees) → sigs ts ≡ self.now.types.now →
+            AreShaped ts → (t : TypeTree) × (us : TypeTrees) × (ts ≡ MoreTypes t us) ×
+            (sig t ≡ r.0.types.now) × (sigs us ≡ r.1.now) × IsShaped true t × AreShaped us) }
+        ensures fewer { IfSome result (λ r. length r.1.now < length self.now.types.now) }
+        ensures none { result ≡ None → length self.now.types.now ≡ 0 }
+    {
+        if self.types.is_empty() {
+            return None;
+        }
+        let (types, others) = self.types.split_at(type_end(self.types, 0));
+        let place = self.place;
+        Some((ValuePlace { types, place }, others))
+    }
 }
 
 impl<'a> Search<'a> {
@@ -123,6 +143,33 @@ impl<'a> Search<'a> {
         (most, ValuePlace { types, place })
     }
 
+    /// How many values of these types, one after another, are passed from the place on, and where
+    /// the others are: the fault is in the first of them, if there is one.
+    pub(crate) fn after_each(&self, values: ValuePlace<'a>) -> (usize, ValuePlace<'a>)
+        requires { values.place ≤ self.now.at }
+        ensures passed { (ts : TypeTrees) → sigs ts ≡ values.entry.types.now → AreShaped ts →
+            (us : TypeTrees) × (sigs us ≡ result.1.types.now) × AreShaped us ×
+            PassEach self.now.bytes.now self.now.at result.0 ts values.entry.place us
+            result.1.place × IsInFirst self.now.bytes.now self.now.at us result.1.place }
+        ensures fewer { length result.1.types.now ≤ length values.entry.types.now }
+        ensures within { result.1.place ≤ self.now.at }
+    {
+        let mut left = values;
+        for number in 0..values.types.len() {
+            let Some((first, others)) = left.split() else {
+                return (number, left);
+            };
+            match self.passed(first) {
+                Some(place) => left = ValuePlace {
+                    types: others,
+                    place,
+                },
+                None => return (number, left),
+            }
+        }
+        (values.types.len(), left)
+    }
+
     /// Of values of these types, which begin at the place, the one in which the fault is, and its
     /// number from 0.
     pub(crate) fn among(&self, values: ValuePlace<'a>) -> Option<(usize, ValuePlace<'a>)>
@@ -135,24 +182,9 @@ impl<'a> Search<'a> {
             AreShaped ts → IsAmongNone self.now.bytes.now self.now.at ts values.entry.place }
         ensures within { IfSome result (λ r. r.1.place ≤ self.now.at) }
     {
-        let mut types = values.types;
-        let mut place = values.place;
-        for number in 0..values.types.len() {
-            if types.is_empty() {
-                return None;
-            }
-            let (first, others) = types.split_at(type_end(types, 0));
-            let spot = ValuePlace {
-                types: first,
-                place,
-            };
-            match self.passed(spot) {
-                Some(after) => place = after,
-                None => return Some((number, spot)),
-            }
-            types = others;
-        }
-        None
+        let (number, left) = self.after_each(values);
+        let (first, _) = left.split()?;
+        Some((number, first))
     }
 
     /// The text of this kind whose length is at the place, and the place after it, if it is valid

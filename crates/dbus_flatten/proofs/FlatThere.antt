@@ -11,7 +11,7 @@ use Rattle.dbus_value_model.specs.Bytes.{gap_to}
 use Rattle.dbus_value_model.specs.Reading.{number_of}
 use Rattle.dbus_value_model.specs.declared.order.Order.{Order}
 use Rattle.dbus_value_model.specs.Spelling.{spellings, contents_start}
-use Rattle.dbus_value_model.specs.Values.{ValueTree, VariantValue, type_of, types_of, value_trees}
+use Rattle.dbus_value_model.specs.Values.{ValueTree, VariantValue, type_of, types_of}
 use Rattle.dbus_value_model.proofs.Periods.{no_gap}
 use Rattle.dbus_walk.specs.declared.container.Container.TheVariants as kind
 use Rattle.dbus_walk.specs.Containers.{IsOf, parts, number_width}
@@ -21,7 +21,7 @@ use Rattle.dbus_walk.proofs.Parts.{NumberStands, TextStands}
 use Rattle.dbus_walk.proofs.ReadThere.{number_read}
 use Rattle.dbus_flatten.specs.declared.flat_item.FlatItem.{FlatItem}
 use Rattle.dbus_flatten.specs.declared.flattener.Flattener.{Flattener}
-use Rattle.dbus_flatten.specs.Flattening.{item, flat, flats, in_word, over, AreFlat, Appends, IsListed, IsStroke, puts}
+use Rattle.dbus_flatten.specs.Flattening.{item, flat, in_word, over, AreOver, Appends, IsListed, IsStroke, puts}
 use Rattle.dbus_flatten.specs.FlattenerLaws.{flat_stroke, word_is, word_full, word_same}
 
 abbrev pub made : (n o l c e : ℕ) → FlatItem
@@ -120,14 +120,17 @@ word_of n fits = of (nat_lt n (2 ^ 64 - 1)) refl
     of false e = let most = ltb-false n (2 ^ 64 - 1) e in word_full n most ∙ omega (arith, fits, most)
 
 -- the items that a flattener has gained since it had none
-pub row_of : (order : Order) (at : ℕ) (xs : List ValueTree) (s t : Flattener) → Appends s (flats order at (value_trees xs)) t → s.count ≡ 0 → t.count < 2 ^ 64 → AreFlat order at (value_trees xs) s.first s.out.now t.out.now t.count
-row_of order at xs s t h none fits =
-    let items = flats order at (value_trees xs) in
-    let all : s.count + length items ≡ length items = omega (arith, none) in
-    let counted : in_word t.count ≡ in_word (length items) = h.counted ∙ ap in_word all in
-    record {
-      counted = sym (word_of t.count fits) ∙ counted;
-      written = λ small.
-          let count : length items ≡ t.count = word_same (length items) t.count (sym counted) small in
-          h.written (omega (arith, all, count, small)) ∙ ap (λ (n : ℕ). puts s.first n s.out.now items) none ∙ puts_over s.first 0 s.first s.out.now items (omega arith);
-    }
+module _ (items : List FlatItem) (s t : Flattener) (h : Appends s items t) (none : s.count ≡ 0) (fits : t.count < 2 ^ 64) where
+  gained_words : in_word t.count ≡ in_word (length items)
+  gained_words = let all : s.count + length items ≡ length items = omega (arith, none) in h.counted ∙ ap in_word all
+
+  pub count_of : t.count ≡ in_word (length items)
+  count_of = sym (word_of t.count fits) ∙ gained_words
+
+  pub row_of : AreOver items s.first s.out.now t.out.now t.count
+  row_of = record {
+    counted = count_of;
+    written = λ small.
+        let count : length items ≡ t.count = word_same (length items) t.count (sym gained_words) small in
+        h.written (omega (arith, count, small, none)) ∙ ap (λ (n : ℕ). puts s.first n s.out.now items) none ∙ puts_over s.first 0 s.first s.out.now items (omega arith);
+  }

@@ -1,16 +1,18 @@
 -- Values as a row of items: each container comes before its parts.
 -- D-Bus Specification, "Type System" and "Marshaling (Wire Format)".
-use Rattle.std.specs.Prelude.{◌≡◌, ℕ, ◌+◌, ◌-◌, ◌<◌, ◌^◌, List, [], ◌∷◌, ◌++◌, length, take, drop, nat_lt, if◌then◌else◌, suc, true, false, get_or, set}
+use Rattle.std.specs.Prelude.{◌≡◌, ℕ, ◌+◌, ◌-◌, ◌<◌, ◌^◌, List, [], ◌∷◌, ◌++◌, length, take, drop, nat_lt, if◌then◌else◌, suc, true, false, get_or, set, map}
 use Rattle.dbus_texts.specs.Types.{sig, number_code, text_code}
 use Rattle.dbus_types.specs.Alignments.{width, length_width}
 use Rattle.dbus_types.specs.SignatureCodes.{first_code}
 use Rattle.dbus_value_model.specs.Bytes.{gap_to}
 use Rattle.dbus_value_model.specs.declared.order.Order.{Order}
 use Rattle.dbus_value_model.specs.Spelling.{spelling, spellings, contents_start, ended_text}
-use Rattle.dbus_value_model.specs.Values.{ValueTree, ValueTrees, NumberValue, TextValue, VariantValue, ArrayValue, StructValue, EntryValue, NoValues, MoreValues, type_of}
+use Rattle.dbus_value_model.specs.Values.{ValueTree, ValueTrees, NumberValue, TextValue, VariantValue, ArrayValue, StructValue, EntryValue, NoValues, MoreValues, type_of, value_trees}
+use Rattle.dbus_message_model.specs.Messages.{FieldTree, field_struct}
 use Rattle.dbus_walk.specs.Containers.{number_width}
 use Rattle.dbus_flatten.specs.declared.flat_item.FlatItem.{FlatItem}
 use Rattle.dbus_flatten.specs.declared.flattener.Flattener.{Flattener}
+use Rattle.dbus_flatten.specs.declared.parts.PartsCount.{PartsCount}
 
 -- the item of a value at an offset that has so many items within it: its number, its bytes, its
 -- first code, and its elements' first code
@@ -53,10 +55,23 @@ in_word n = if nat_lt n (2 ^ 64 - 1) then n else 2 ^ 64 - 1
 abbrev pub over : List FlatItem → (before : List FlatItem) → List FlatItem
 over items before = take (length before) items ++ drop (length items) before
 
--- so many items there are of these values, and those from a number on stand over those before
-pub record AreFlat (order : Order) (at : ℕ) (vs : ValueTrees) (first : ℕ) (before out : List FlatItem) (count : ℕ) : Type 0 where
-  pub counted : count ≡ in_word (length (flats order at vs))
-  pub written : count < 2 ^ 64 - 1 → out ≡ over (drop first (flats order at vs)) before
+-- the row has so many items, and those from a number on stand over those before
+pub record AreOver (row : List FlatItem) (first : ℕ) (before out : List FlatItem) (count : ℕ) : Type 0 where
+  pub counted : count ≡ in_word (length row)
+  pub written : count < 2 ^ 64 - 1 → out ≡ over (drop first row) before
+
+-- the items of these values do
+abbrev pub AreFlat : Order → (at : ℕ) → ValueTrees → (first : ℕ) → (before out : List FlatItem) → (count : ℕ) → Type 0
+AreFlat order at vs first before out count = AreOver (flats order at vs) first before out count
+
+-- the items of header fields, of which each is a struct, that begin behind the first 16 bytes
+abbrev pub flat_fields : Order → List FieldTree → List FlatItem
+flat_fields order fs = flats order 16 (value_trees (map field_struct fs))
+
+-- the items of these header fields, and then those of these values at an offset, are one row
+pub record ArePartsFlat (order : Order) (fs : List FieldTree) (at : ℕ) (vs : ValueTrees) (first : ℕ) (before out : List FlatItem) (count : PartsCount) : Type 0 where
+  pub fields : count.fields ≡ in_word (length (flat_fields order fs))
+  pub all : AreOver (flat_fields order fs ++ flats order at vs) first before out count.all
 
 -- What a flattener does: it gathers items, and counts those within a container.
 

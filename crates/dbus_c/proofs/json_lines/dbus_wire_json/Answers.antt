@@ -1,6 +1,7 @@
 use Rattle.std.proofs.Common.{ℕ, rules, subst, sym, arith}
 use Rattle.dbus_header.specs.MessageOutcomes.{IsWhole}
 use Rattle.dbus_header.proofs.OutcomeLaws.{one_whole}
+use Rattle.dbus_json.specs.declared.integers.Integers.TheVariants.{Exact}
 use Rattle.dbus_json.specs.JsonMessages.{IsJsonLine}
 use Rattle.dbus_message_model.specs.Messages.{MessageTree}
 use Rattle.dbus_validate.specs.Validating.{IsValidated}
@@ -31,7 +32,7 @@ returns-in-Ok-clause-written c = λ order m n whole.
     let own : IsWhole limits b v.order m v.length = subst (λ (l : Limits). IsWhole l b v.order m v.length) (sym c.given_limits.ensures) same in
     let line = c.write_line.ensures m own in (
       line.0,
-      subst (λ (o : Order). IsJsonLine o m (line_place c.args.place.now) line.0) one.0 line.1,
+      subst (λ (o : Order). IsJsonLine Exact o m (line_place c.args.place.now) line.0) one.0 line.1,
       ended c.args.out.now line.0 _ _ _ c.new-room.ensures.begins line.2 c.end_text.ensures.gains _ c.end_text.result (search rules) c.end_text.ensures.answers,
       line.3,
     )

@@ -1,7 +1,5 @@
-use Rattle.std.proofs.Common.{rules, ◌≡◌, ℕ, ◌+◌, ◌<◌, ◌≤◌, List, codes, ap, ◌∙◌, subst}
-use Rattle.dbus_value_model.specs.Bytes.{gap_to}
+use Rattle.std.proofs.Common.{ℕ, ◌<◌, ◌≤◌, List, codes, ap, subst}
 use Rattle.dbus_explain.specs.Names.{first, missing, field, padding, value, first_part, is_missing}
-use Rattle.dbus_explain.specs.Places.{body_begin}
 use Rattle.dbus_explain.proofs.ThreeLines.{other_reason}
 use Rattle.dbus_explain.proofs.places.write_name.Goals as goal
 
@@ -25,8 +23,7 @@ pub returns-then-at-body : goal.returns-then-at-body
 returns-then-at-body g c =
     let bytes = c.args.bytes.now in
     let fields = c.end_of_fields-fields_end.ensures.fields in
-    let gap : c.from.result ≡ gap_to 8 (c.end_of_fields-fields_end.result) = search rules in
-    let body : c.end_of_fields-fields_end.result + c.from.result ≡ body_begin bytes = ap (λ (n : ℕ). c.end_of_fields-fields_end.result + n) gap ∙ ap (λ (n : ℕ). n + gap_to 8 n) fields in
+    let body = c.body_begin-body.ensures in
     let behind = subst (λ (n : ℕ). n ≤ c.args.at) fields c.if-at-fields_end.false in
     let before = subst (λ (n : ℕ). c.args.at < n) body c.if-at-body.true in
     (codes "the padding after the header fields", padding c.if-at-lt-FIELDS.false (other_reason c.args.reason c.in_default.not-FieldMissing) behind before, c.push_str-then-at-body.ensures)
@@ -34,9 +31,7 @@ returns-then-at-body g c =
 pub returns-else-at-body : goal.returns-else-at-body
 returns-else-at-body g c =
     let bytes = c.args.bytes.now in
-    let fields = c.end_of_fields-fields_end.ensures.fields in
-    let gap : c.from.result ≡ gap_to 8 (c.end_of_fields-fields_end.result) = search rules in
-    let body : c.end_of_fields-fields_end.result + c.from.result ≡ body_begin bytes = ap (λ (n : ℕ). c.end_of_fields-fields_end.result + n) gap ∙ ap (λ (n : ℕ). n + gap_to 8 n) fields in
+    let body = c.body_begin-body.ensures in
     let behind = subst (λ (n : ℕ). n ≤ c.args.at) body c.if-at-body.false in (
       c.write_value.ensures.0,
       value c.write_value.ensures.0 c.write_value.result c.if-at-lt-FIELDS.false (other_reason c.args.reason c.in_default.not-FieldMissing) behind c.write_value.ensures.1,

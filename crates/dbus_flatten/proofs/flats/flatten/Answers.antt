@@ -1,7 +1,7 @@
 use Rattle.std.proofs.Common.{◌≡◌, ℕ, List, ◌<◌, ◌^◌, refl, subst, sym, rules, arith}
-use Rattle.dbus_value_model.specs.Values.{ValueTrees}
+use Rattle.dbus_value_model.specs.Values.{ValueTrees, value_trees}
 use Rattle.dbus_flatten.specs.declared.flat_item.FlatItem.{FlatItem}
-use Rattle.dbus_flatten.specs.Flattening.{AreFlat}
+use Rattle.dbus_flatten.specs.Flattening.{AreFlat, flats}
 use Rattle.dbus_flatten.proofs.FlatThere.{row_of}
 use Rattle.dbus_flatten.proofs.flats.flatten.Goals as goal
 
@@ -14,7 +14,7 @@ returns c = record {
       let same = w.2.gained.same in
       let word : c.total.result < 2 ^ 64 = c.total.type_inv in
       let fits : c.walk_values.new.visitor.count < 2 ^ 64 = omega (arith, word, c.total.ensures) in
-      let row = row_of order at w.0 _ _ w.2.gained refl fits in
+      let row = row_of (flats order at (value_trees w.0)) _ _ w.2.gained refl fits in
       let out = c.walk_values.new.visitor.out.now in
       let back : c.walk_values.new.visitor.out.now ≡ _ = search rules in
       let told = subst (λ (us : ValueTrees). AreFlat order at us c.args.first c.args.out.now out c.walk_values.new.visitor.count) (sym w.1) row in

@@ -1,4 +1,5 @@
-//! The header fields of a message that is refused, as far as they are whole, as one row of items.
+//! What of a message that is refused is whole, as one row of items: its header fields, and values
+//! of its body.
 #![tactic(auto)]
 
 ghost use Rattle.std.specs.Prelude.{◌≡◌, ◌↔◌, ◌≤◌, ◌+◌, length};
@@ -15,32 +16,34 @@ use crate::checking::{Checked, check_all};
 use crate::flattening::tell_count;
 use crate::given_limits::{WireLimits, given_limits};
 use dbus_check::Check;
-use dbus_explain::fields_before;
-use dbus_flatten::{FlatItem, flatten_fields};
+use dbus_explain::parts_before;
+use dbus_flatten::{FlatItem, PartsCount, flatten_parts};
 use dbus_value_model::Fault;
 
-/// Writes items of the header fields that are whole before the fault of bytes that begin with no
-/// message within the limits, as [`crate::dbus_wire_flatten_fields`] does those of a message, but
-/// for the item of their array: the first is that of the first field, a struct.
+/// Writes items of what is whole before the fault of bytes that begin with no message within the
+/// limits: of the header fields, as [`crate::dbus_wire_flatten_fields`] does but for the item of
+/// their array, and then of the values of the body, as [`crate::dbus_wire_flatten`] does. A field
+/// or a value is there if it ends at the fault or before it, and so do all before it; the parts of
+/// one that does not are not.
 ///
 /// [`crate::WHOLE`] if there is room for all from `first` on, else [`crate::NO_ROOM`]. If the bytes
 /// begin with a message, [`NO_VALUE`], and [`PARTIAL`] if they show no fault yet; then `items` and
 /// `count` stay as they are. `told` has what [`crate::dbus_wire_check`] reports. It allocates
-/// nothing. D-Bus Specification, "Header Fields".
+/// nothing. D-Bus Specification, "Message Format".
 #[unsafe(no_mangle)]
-pub extern "C" fn dbus_wire_flatten_whole_fields(
+pub extern "C" fn dbus_wire_flatten_whole(
     bytes: &[u8],
     limits: &WireLimits,
     first: usize,
     items: &mut [FlatItem],
-    count: &mut u64,
+    count: &mut PartsCount,
     told: &mut Checked,
 ) -> u32
     ensures checked { IsChecked (limits_of limits.now) bytes.now (checked_answer result) told.new }
     ensures flat { IsTold result → (fault : FaultOf) ×
         IsRefused (limits_of limits.now) bytes.now fault ×
         AreWholeFlat bytes.now fault first items.old items.new count.new }
-    ensures room { IsTold result → (result ≡ WHOLE) ↔ (count.new ≤ first + length items.old) }
+    ensures room { IsTold result → (result ≡ WHOLE) ↔ (count.new.all ≤ first + length items.old) }
     ensures unchanged { (IsTold result → ⊥) →
         (items.new ≡ items.old) × (count.new ≡ count.old) }
 {
@@ -49,19 +52,30 @@ pub extern "C" fn dbus_wire_flatten_whole_fields(
         Check::Partial => PARTIAL,
         Check::Refused(fault) => {
             let room = items.len();
-            let total = flatten_before(bytes, fault, first, items);
-            tell_count(total, first, room, count)
+            let whole = flatten_before(bytes, fault, first, items);
+            count.fields = whole.fields;
+            tell_count(whole.all as usize, first, room, &mut count.all)
         }
     }
 }
 
-// The items of the header fields that are whole before a fault, from a place on: how many the
-// whole row has.
-fn flatten_before(bytes: &[u8], fault: Fault, first: usize, items: &mut [FlatItem]) -> usize
+// The items of what is whole before a fault, from a place on: how many the whole row has.
+fn flatten_before(bytes: &[u8], fault: Fault, first: usize, items: &mut [FlatItem]) -> PartsCount
     ensures { AreWholeFlat bytes.now fault first items.old items.new result }
 {
-    match fields_before(bytes, fault) {
-        Some(run) => flatten_fields(&run.source, run.depth_left, run.end, first, items),
-        None => 0,
+    let mut table = [0; 255];
+    match parts_before(bytes, fault, &mut table) {
+        Some(parts) => {
+            let run = &parts.fields;
+            flatten_parts(
+                &run.source,
+                run.depth_left,
+                run.end,
+                &parts.body,
+                first,
+                items,
+            )
+        }
+        None => PartsCount { fields: 0, all: 0 },
     }
 }

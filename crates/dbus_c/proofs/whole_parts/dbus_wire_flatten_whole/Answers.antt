@@ -6,7 +6,7 @@ use Rattle.dbus_c.specs.Checking.{IsChecked, answer_of}
 use Rattle.dbus_c.specs.Explaining.{AreWholeFlat}
 use Rattle.dbus_c.specs.GivenLimits.{limits_of}
 use Rattle.dbus_c.proofs.FaultsTold.{told_checked}
-use Rattle.dbus_c.proofs.whole_fields.dbus_wire_flatten_whole_fields.Goals as goal
+use Rattle.dbus_c.proofs.whole_parts.dbus_wire_flatten_whole.Goals as goal
 
 pub returns-in-Done-clause-checked : goal.returns-in-Done-clause-checked
 returns-in-Done-clause-checked c =
@@ -30,7 +30,7 @@ returns-in-Refused-clause-flat c = λ told.
     let fault = c.in-Refused.fault in (
       fault,
       subst (λ (l : Limits). IsRefused l c.args.bytes.now fault) c.given_limits.ensures (c.check_all.ensures.refused fault c.in-Refused.is),
-      subst (λ (k : ℕ). AreWholeFlat c.args.bytes.now fault c.args.first c.args.items.now c.flatten_before-total.new.items k) (sym c.tell_count.ensures.counted) c.flatten_before-total.ensures,
+      subst (λ (k : ℕ). AreWholeFlat c.args.bytes.now fault c.args.first c.args.items.now c.flatten_before-whole.new.items (record { fields = c.flatten_before-whole.result.fields; all = k })) (sym c.tell_count.ensures.counted) c.flatten_before-whole.ensures,
     )
 
 pub returns-in-Refused-clause-unchanged : goal.returns-in-Refused-clause-unchanged
