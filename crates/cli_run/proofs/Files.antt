@@ -65,14 +65,14 @@ module _ (limits : Limits) where
   one_made (Swap wanted Raw) os order m place texts form valid packet p = absurd (let e : ◌≡◌ {A = FileForm} Raw AsRead = form in cc)
   one_made (Filter selection Raw) os order m place texts form valid packet p = absurd (let e : ◌≡◌ {A = FileForm} Raw AsRead = form in cc)
   one_made (Show times escapes) os order m place texts form valid packet p = absurd (let e : ◌≡◌ {A = FileForm} Raw AsRead = form in cc)
-  one_made (Json times) os order m place texts form valid packet p = absurd (let e : ◌≡◌ {A = FileForm} Raw AsRead = form in cc)
+  one_made (Json times safe) os order m place texts form valid packet p = absurd (let e : ◌≡◌ {A = FileForm} Raw AsRead = form in cc)
   one_made Check os order m place texts form valid packet p = absurd (let e : ◌≡◌ {A = FileForm} Raw AsRead = form in cc)
 
   same_owners : (command : Command) (os : NameState) (m : MessageTree) → owners_after command os m ≡ owners_after (raw_of command) os m
   same_owners (Swap wanted form) os m = refl
   same_owners (Filter selection form) os m = refl
   same_owners (Show times escapes) os m = refl
-  same_owners (Json times) os m = refl
+  same_owners (Json times safe) os m = refl
   same_owners Check os m = refl
 
   fit_both : (a b : List CapturedMessage) → AllFit a → AllFit b → AllFit (a ++ b)

@@ -11,6 +11,7 @@ use Rattle.dbus_message_model.specs.Messages.{MessageTree, message_bytes}
 use Rattle.dbus_stream.specs.Cut.{CutMessage}
 use Rattle.dbus_stream.specs.CutEnds.{sizes}
 use Rattle.dbus_show.specs.ShownMessages.{message_text}
+use Rattle.dbus_json.specs.JsonIntegers.{integers_of}
 use Rattle.dbus_json.proofs.SomeLines.{some_line_each}
 use Rattle.dbus_names.specs.NameStates.{NameState}
 use Rattle.dbus_rule_set.specs.Owners.{owners_in}
@@ -36,7 +37,7 @@ picked command os message = inl tt
 
 pub some_text : (command : Command) (order : Order) (message : MessageTree) (place : MessagePlace) → (text : List ℕ) × IsTextOf command order message place text
 some_text (Show times escapes) order message place = (seen_if escapes (shown_text order message (told_place times place)), refl)
-some_text (Json times) order message place = some_line_each order message (line_place (told_place times place))
+some_text (Json times safe) order message place = some_line_each (integers_of safe) order message (line_place (told_place times place))
 some_text Check order message place = ([], refl)
 some_text (Swap wanted form) order message place = (framed (is_framed form place) place.time (message_bytes wanted message), refl)
 some_text (Filter selection form) order message place = (framed (is_framed form place) place.time (message_bytes order message), refl)
@@ -116,7 +117,7 @@ framed_one AsRead place other bytes alike = λ i. framed (alike.0 i) (alike.1 i)
 -- it depends on no more of the place
 text_one : (command : Command) (order : Order) (message : MessageTree) (place other : MessagePlace) (a b : List ℕ) → IsExact command → place.number ≡ other.number → AreFramedAlike (form_of command) place other
     → IsTextOf command order message place a → IsTextOf command order message other b → a ≡ b
-text_one (Json times) order message place other a b exact number alike p q = absurd exact
+text_one (Json times safe) order message place other a b exact number alike p q = absurd exact
 text_one (Show true escapes) order message place other a b exact number alike p q = absurd exact
 text_one (Show false escapes) order message place other a b exact number alike p q = p ∙ (ap (λ n. seen_if escapes (message_text order message n)) number ∙ sym q)
 text_one (Swap wanted form) order message place other a b exact number alike p q = p ∙ (framed_one form place other (message_bytes wanted message) alike ∙ sym q)

@@ -265,7 +265,7 @@ itself a = record { checks = refl; form = refl; exact = λ e. e; picks = λ os m
 
 pub acts_as : (a b : Command) → AreSameCommand a b → ActsAs a b
 acts_as (Show a x) (Show b y) h = transport (λ i. ActsAs (Show a x) (Show (h.0 i) (h.1 i))) (itself (Show a x))
-acts_as (Json a) (Json b) h = subst (λ (times : Bool). ActsAs (Json a) (Json times)) h (itself (Json a))
+acts_as (Json a x) (Json b y) h = transport (λ i. ActsAs (Json a x) (Json (h.0 i) (h.1 i))) (itself (Json a x))
 acts_as Check Check h = itself Check
 acts_as (Swap x f) (Swap y g) h = transport (λ i. ActsAs (Swap x f) (Swap (h.0 i) (h.1 i))) (itself (Swap x f))
 acts_as (Filter x f) (Filter y g) h =

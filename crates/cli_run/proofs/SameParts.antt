@@ -1,6 +1,6 @@
 -- An input has one list of parts, and one rest after them that ends a run; but what was kept of a
 -- part that is passed over is as much as happened to be read.
-use Rattle.std.proofs.Common.{◌≡◌, ◌⊎◌, ℕ, ◌+◌, ◌-◌, ◌<◌, ◌≤◌, Bool, true, false, List, [], ◌∷◌, ◌++◌, Option, None, Some, length, drop, take, refl, sym, ap, ◌∙◌, subst, arith, append-nil, append_assoc, inl, inr, length-append}
+use Rattle.std.proofs.Common.{◌≡◌, ◌⊎◌, ℕ, ◌+◌, ◌-◌, ◌<◌, ◌≤◌, true, false, List, [], ◌∷◌, ◌++◌, Option, None, Some, length, drop, take, refl, sym, ap, ◌∙◌, subst, arith, append-nil, append_assoc, inl, inr, length-append}
 use Rattle.std.proofs.Math.Path.{transport}
 use Rattle.std.proofs.lemmas.Bool.{cases_lt, false≢true}
 use Rattle.std.proofs.lemmas.List.{take_at, take-append-le, take-take}
@@ -28,7 +28,7 @@ use Rattle.cli_run.specs.Going.{passed_count}
 use Rattle.cli_options.specs.declared.resync.Resync.{Resync}
 use Rattle.cli_options.specs.declared.resync.Resync.TheVariants.{Off, Within}
 use Rattle.cli_options.specs.declared.settings.Settings.{Settings}
-use Rattle.cli_run.specs.Inputs.{BeginNowhere, BeginWithParts, By, GoesPast, HasSize, InPacket, IsCutUnpassed, IsFaultOf, IsLast, IsLarger, IsPart, IsPassedBy, IsUnpassed, Part, PassedOver, PastWindow, ResumeIn, Resumed, Stated, WantsMoreBy, Whole, effort_of, is_there, is_to_end, sizes_of}
+use Rattle.cli_run.specs.Inputs.{BeginNowhere, BeginWithParts, By, GoesPast, HasSize, InPacket, IsCutUnpassed, IsFaultOf, IsLast, IsPart, IsPassedBy, IsUnpassed, Part, PassedOver, PastWindow, ResumeIn, Resumed, Stated, WantsMoreBy, Whole, effort_of, is_there, is_to_end, sizes_of}
 use Rattle.cli_run.proofs.PartLaws.{either_fault, none_begins, not_larger, nowhere_more}
 use Rattle.cli_run.specs.Refusals.{IsRefusedIn, number_of}
 use Rattle.dbus_stream.proofs.MessageEnds.{refused_reason}

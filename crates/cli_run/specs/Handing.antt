@@ -7,6 +7,7 @@ use Rattle.dbus_validate.specs.declared.validating.Validated.{Validated}
 use Rattle.dbus_stream.specs.Next.{DeviceCounts}
 use Rattle.dbus_stream.specs.RawReading.{Reads, Advances, ReadsNothing, done_of, kept, source_of, stopped_of}
 use Rattle.dbus_stream.specs.declared.raw_reader.RawReader.{RawReader}
+use Rattle.dbus_json.specs.declared.integers.Integers.{Integers}
 use Rattle.dbus_json.specs.JsonMessages.{IsJsonLine}
 use Rattle.dbus_names.specs.declared.names.Names.{Names}
 use Rattle.cli_options.specs.declared.command.Command.{Command}
@@ -26,9 +27,9 @@ use Rattle.cli_run.specs.declared.visitor.RunStop.{RunStop}
 use Rattle.cli_run.specs.declared.visitor.RunStop.TheVariants.{Cause as ByCause}
 
 -- a line of JSON of one message was written or gathered, which has this place in its input
-abbrev pub WritesJson : {W : Type 0} → Writing W → Order → MessageTree → MessagePlace → List ℕ → List ℕ → Result (Unit {0}) Cause → Type 0
-WritesJson w order message place g0 g1 result =
-    (out : List ℕ) × IsJsonLine order message (line_place place) out × GathersOrNot w.held w.failures out g0 g1 w.old w.new result
+abbrev pub WritesJson : {W : Type 0} → Writing W → Integers → Order → MessageTree → MessagePlace → List ℕ → List ℕ → Result (Unit {0}) Cause → Type 0
+WritesJson w integers order message place g0 g1 result =
+    (out : List ℕ) × IsJsonLine integers order message (line_place place) out × GathersOrNot w.held w.failures out g0 g1 w.old w.new result
 
 -- what comes before a message of this place in this form
 abbrev pub front_of : FileForm → MessagePlace → (begun : Bool) → Front

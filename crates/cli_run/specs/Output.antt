@@ -13,6 +13,7 @@ use Rattle.dbus_pcap.specs.Written.{packet_of, written_header}
 use Rattle.dbus_capture.specs.PcapFiles.{header_bytes, packet_header_bytes}
 use Rattle.dbus_show.specs.Escapes.{visible}
 use Rattle.dbus_show.specs.ShownMessages.{message_text}
+use Rattle.dbus_json.specs.JsonIntegers.{integers_of}
 use Rattle.dbus_json.specs.JsonMessages.{IsJsonLine}
 use Rattle.dbus_json.specs.Times.{seconds_text}
 use Rattle.dbus_json.specs.declared.place.LinePlace.{LinePlace}
@@ -41,7 +42,7 @@ use Rattle.cli_run.specs.declared.output.Output.TheVariants.{InOrder, JsonLine, 
 abbrev pub command_of : Output → Command
 command_of Nothing = Check
 command_of (Text times escapes) = Show times escapes
-command_of (JsonLine times) = Json times
+command_of (JsonLine times safe) = Json times safe
 command_of (InOrder order form) = Swap order form
 command_of (Matching selector form) = Filter selector.selection.now form
 
@@ -141,7 +142,7 @@ line_place place = record { number = place.number; offset = place.offset; time =
 -- that text, if the message has this place in its input
 abbrev pub IsTextOf : Command → Order → MessageTree → MessagePlace → List ℕ → Type 0
 IsTextOf (Show times escapes) order message place text = text ≡ seen_if escapes (shown_text order message (told_place times place))
-IsTextOf (Json times) order message place text = IsJsonLine order message (line_place (told_place times place)) text
+IsTextOf (Json times safe) order message place text = IsJsonLine (integers_of safe) order message (line_place (told_place times place)) text
 IsTextOf Check order message place text = text ≡ []
 IsTextOf (Swap wanted form) order message place text = text ≡ framed (is_framed form place) place.time (message_bytes wanted message)
 IsTextOf (Filter selection form) order message place text = text ≡ framed (is_framed form place) place.time (message_bytes order message)
@@ -167,7 +168,7 @@ whole_output form items texts = header_before form false items ++ concat texts
 -- `json`, which may be any digits that read back as its bits
 abbrev pub IsExact : Command → Type 0
 IsExact (Show true escapes) = ⊥
-IsExact (Json times) = ⊥
+IsExact (Json times safe) = ⊥
 IsExact command = Unit {0}
 
 -- the packets of two inputs are known and the same, if they matter to this form

@@ -30,8 +30,8 @@ pub(crate) enum Output<'a> {
     Nothing,
     /// Its text, with its time before it or without, and hidden characters escaped or as they are.
     Text { times: bool, escapes: bool },
-    /// Its line of JSON, with its time or without.
-    JsonLine { times: bool },
+    /// Its line of JSON, with its time or without, and with safe integers or not.
+    JsonLine { times: bool, safe: bool },
     /// Its bytes in this order, in this form.
     InOrder(Order, FileForm),
     /// Its bytes as they are, in this form, if it is selected.
@@ -50,7 +50,10 @@ pub(crate) fn output_of(command: &Command) -> Result<Output<'_>, AllocError>
             times: *times,
             escapes: *escapes,
         }),
-        Command::Json { times } => Ok(Output::JsonLine { times: *times }),
+        Command::Json { times, safe } => Ok(Output::JsonLine {
+            times: *times,
+            safe: *safe,
+        }),
         Command::Swap(order, form) => Ok(Output::InOrder(*order, *form)),
         Command::Filter(selection, form) => {
             Ok(Output::Matching(Selector::new(selection)?, *form))
@@ -119,16 +122,11 @@ fn write_one<A: Allocator + Copy, W: Sink>(
         (gathered_bytes gathered.old) (gathered_bytes gathered.new) result }
 {
     let bytes = lent.bytes;
-    let validated = &lent.validated;
-    let limits = lent.limits;
     let place = lent.place;
     match output {
         Output::Nothing => Ok(()),
         Output::Text { times, escapes } => show(lent, *times, *escapes, gathered, first),
-        Output::JsonLine { times } => {
-            let told = place.told(*times);
-            write_json_line(bytes, validated, limits, told, gathered, first)
-        }
+        Output::JsonLine { times, safe } => write_json_line(lent, *times, *safe, gathered, first),
         Output::InOrder(wanted, form) => {
             let front = Front::of(*form, place, begun);
             swap(*wanted, lent, front, spare, gathered, first)

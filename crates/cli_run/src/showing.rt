@@ -4,6 +4,7 @@ ghost use Rattle.dbus_value_model.specs.declared.order.Order.{Order};
 ghost use Rattle.dbus_message_model.specs.Messages.{MessageTree};
 ghost use Rattle.dbus_header.specs.MessageOutcomes.{IsWhole};
 ghost use Rattle.dbus_validate.specs.Validating.{IsValidatedWhole};
+ghost use Rattle.dbus_json.specs.JsonIntegers.{integers_of};
 ghost use Rattle.cli_report.specs.Devices.{writing};
 ghost use Rattle.cli_report.specs.Gathering.{GathersOrNot, gathered_bytes};
 ghost use Rattle.cli_run.specs.Handing.{WritesJson};
@@ -11,12 +12,10 @@ ghost use Rattle.cli_run.specs.Output.{line_place, seen_if, shown_text, time_tex
 
 use crate::place::{Lent, MessagePlace};
 use cli_report::{Cause, OutputBuffer, Page};
-use dbus_json::{LinePlace, write_json, write_seconds};
+use dbus_json::{Integers, LinePlace, write_json, write_seconds};
 use dbus_show::{Draft, Visible};
 use dbus_show_view::write_message;
 use dbus_stream::Sink;
-use dbus_validate::Validated;
-use dbus_value_model::Limits;
 
 // Appends the time that stands before the text of a message, if it has one.
 fn write_time<D: Draft>(draft: &mut D, time: Option<u64>)
@@ -99,19 +98,20 @@ pub(crate) fn line_place(place: MessagePlace) -> LinePlace
     }
 }
 
-/// Writes or gathers the line of JSON of the message that the bytes are.
+/// Writes or gathers the line of JSON of the message, with its time if that is wanted and it has
+/// one, and with safe integers or not.
 pub(crate) fn write_json_line<W: Sink>(
-    bytes: &[u8],
-    validated: &Validated,
-    limits: Limits,
-    place: MessagePlace,
+    lent: &Lent<'_>,
+    times: bool,
+    safe: bool,
     gathered: &mut OutputBuffer,
     first: &mut W,
 ) -> Result<(), Cause>
-    requires { IsValidatedWhole limits bytes.now validated.now }
+    requires { IsValidatedWhole lent.now.limits lent.now.bytes.now lent.now.validated }
     ensures { (order : Order) (m : MessageTree) →
-        IsWhole limits bytes.now order m (length bytes.now) →
-        WritesJson (writing W.held W.failures first.old first.new) order m place
+        IsWhole lent.now.limits lent.now.bytes.now order m (length lent.now.bytes.now) →
+        WritesJson (writing W.held W.failures first.old first.new) (integers_of safe) order m
+        (told_place times lent.now.place)
         (gathered_bytes gathered.old) (gathered_bytes gathered.new) result }
 {
     let mut page = Page {
@@ -119,7 +119,14 @@ pub(crate) fn write_json_line<W: Sink>(
         first,
         failed: false,
     };
-    write_json(&mut page, bytes, limits, validated, line_place(place));
+    write_json(
+        &mut page,
+        lent.bytes,
+        lent.limits,
+        &lent.validated,
+        line_place(lent.place.told(times)),
+        Integers::of(safe),
+    );
     if page.failed {
         Err(Cause::WriteFailed)
     } else {

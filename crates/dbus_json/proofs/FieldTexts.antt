@@ -7,8 +7,9 @@ use Rattle.dbus_texts.specs.Types.{sig}
 use Rattle.dbus_value_model.specs.Values.{ValueTree, type_of}
 use Rattle.dbus_message_model.specs.Messages.{FieldTree, is_known}
 use Rattle.dbus_value_text.specs.Forms.{AreFieldTexts}
-use Rattle.dbus_json.specs.JsonValues.{plain, member, object, listed, IsJson}
-use Rattle.dbus_json.specs.JsonMessages.{AreOthers, IsOther, place_members, end_text, other_fields, is_before_known}
+use Rattle.dbus_json.specs.declared.integers.Integers.{Integers}
+use Rattle.dbus_json.specs.JsonValues.{plain, member, object}
+use Rattle.dbus_json.specs.JsonMessages.{AreOthers, IsOther, place_members, end_text, is_before_known}
 
 -- ---- a field that is not known
 
@@ -64,13 +65,13 @@ place_last place =
 -- ---- fields that are not known
 
 -- where the known fields end, and which others a known one stands after
-pub others_are : (end : ℕ) (fs : List FieldTree) → ((n : ℕ) → list_any (λ (f : FieldTree). is_known f.code) (drop n fs) ≡ nat_lt n end) → (ps : List (ℕ × FieldTree)) (texts : List (List ℕ))
-    → AreFieldTexts (λ place code v text. IsOther (nat_lt (suc place) end) place code v text) ps texts → AreFieldTexts (λ place code v text. IsOther (is_before_known fs place) place code v text) ps texts
-others_are end fs h [] [] are = tt
-others_are end fs h [] (t ∷ texts) are = absurd are
-others_are end fs h (p ∷ ps) [] are = absurd are
-others_are end fs h (p ∷ ps) (t ∷ texts) are =
-    (subst (λ (b : Bool). IsOther b p.0 p.1.code p.1.value t) (sym (h (suc p.0))) are.0, others_are end fs h ps texts are.1)
+pub others_are : (integers : Integers) (end : ℕ) (fs : List FieldTree) → ((n : ℕ) → list_any (λ (f : FieldTree). is_known f.code) (drop n fs) ≡ nat_lt n end) → (ps : List (ℕ × FieldTree)) (texts : List (List ℕ))
+    → AreFieldTexts (λ place code v text. IsOther integers (nat_lt (suc place) end) place code v text) ps texts → AreFieldTexts (λ place code v text. IsOther integers (is_before_known fs place) place code v text) ps texts
+others_are integers end fs h [] [] are = tt
+others_are integers end fs h [] (t ∷ texts) are = absurd are
+others_are integers end fs h (p ∷ ps) [] are = absurd are
+others_are integers end fs h (p ∷ ps) (t ∷ texts) are =
+    (subst (λ (b : Bool). IsOther integers b p.0 p.1.code p.1.value t) (sym (h (suc p.0))) are.0, others_are integers end fs h ps texts are.1)
 
 -- if all are known
 all_passed : (n : ℕ) (fs : List FieldTree) → list_all (λ (f : FieldTree). is_known f.code) fs ≡ true → filter (λ (p : ℕ × FieldTree). not (is_known p.1.code)) (enumerate_from n fs) ≡ []
@@ -80,5 +81,5 @@ all_passed n (f ∷ fs) h =
     let rest = filter (λ (p : ℕ × FieldTree). not (is_known p.1.code)) (enumerate_from (n + 1) fs) in
     ap (λ (b : Bool). cond (not b) ((n, f) ∷ rest) rest) both.0 ∙ all_passed (n + 1) fs both.1
 
-pub no_others : (fs : List FieldTree) → list_all (λ (f : FieldTree). is_known f.code) fs ≡ true → AreOthers fs []
-no_others fs h = subst (λ (ps : List (ℕ × FieldTree)). AreFieldTexts (λ place code v text. IsOther (is_before_known fs place) place code v text) ps []) (sym (all_passed 0 fs h)) tt
+pub no_others : (integers : Integers) (fs : List FieldTree) → list_all (λ (f : FieldTree). is_known f.code) fs ≡ true → AreOthers integers fs []
+no_others integers fs h = subst (λ (ps : List (ℕ × FieldTree)). AreFieldTexts (λ place code v text. IsOther integers (is_before_known fs place) place code v text) ps []) (sym (all_passed 0 fs h)) tt

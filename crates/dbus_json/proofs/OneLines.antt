@@ -9,7 +9,7 @@ use Rattle.std.specs.Str.Parse.{AllDigits}
 use Rattle.std.proofs.lemmas.List.Concat.{flat_map-append}
 use Rattle.hex.specs.Hex.{encode_lower}
 use Rattle.ryu.specs.Plain.{IsPlainNumber}
-use Rattle.dbus_texts.specs.Types.{NumberCode, DOUBLE, sig}
+use Rattle.dbus_texts.specs.Types.{NumberCode, INT64, UINT64, DOUBLE, sig}
 use Rattle.dbus_texts.specs.PlainTypes.{is_byte}
 use Rattle.dbus_value_model.specs.declared.order.Order.TheVariants.{Big}
 use Rattle.dbus_value_model.specs.Bytes.{num}
@@ -18,13 +18,15 @@ use Rattle.dbus_message_model.specs.Messages.{FieldTree, order_byte, message_byt
 use Rattle.dbus_message_model.specs.MessageTypes.{type_name}
 use Rattle.dbus_show.specs.ShownMessages.{line_feeds, field_name}
 use Rattle.dbus_show.specs.declared.escapes.Escapes.TheVariants.{Json}
-use Rattle.dbus_show.specs.ShownValues.{bytes_in}
+use Rattle.dbus_show.specs.ShownValues.{number_text, bytes_in}
 use Rattle.dbus_show.proofs.LineFeeds.{IsOneLine, AreLines, line_literal, line_append, line_cons, line_either, line_decimal, line_hex, line_number, line_quoted, line_sig, between}
 use Rattle.dbus_show.proofs.FieldTexts.{name_line, line_or, type_name_line, order_line}
 use Rattle.dbus_value_model.specs.declared.order.Order.{Order}
 use Rattle.dbus_validate.specs.declared.validating.Validated.{Validated}
 use Rattle.dbus_value_text.specs.Forms.{AreFieldTexts, led}
-use Rattle.dbus_json.specs.JsonValues.{plain, string, listed, array, member, object, IsDouble, IsNumber, IsJson, AreJson}
+use Rattle.dbus_json.specs.declared.integers.Integers.{Integers}
+use Rattle.dbus_json.specs.JsonIntegers.{may_be_number, wide_size}
+use Rattle.dbus_json.specs.JsonValues.{plain, string, listed, array, member, object, IsDouble, IsNumber, IsJson, AreJson, wide_text}
 use Rattle.dbus_json.specs.Times.{digit_at, powers, fraction_digits, seconds_text, time_members}
 use Rattle.dbus_json.specs.declared.place.LinePlace.{LinePlace}
 use Rattle.dbus_json.specs.JsonMessages.{type_text, IsKnown, IsOther, known_fields, other_fields, is_before_known, place_members, first_members, IsOneLineEach, start_text, front_members, head_members, fields_text}
@@ -82,9 +84,14 @@ double_line : (bits : ℕ) (text : List ℕ) (answer : Bool) → float_is_finite
 double_line bits text true e is = number_line text (is.finite e).0
 double_line bits text false e is = subst IsOneLine (sym (is.other e)) (plain_line (encode_lower (num Big 8 bits)) (line_hex (num Big 8 bits)))
 
-coded_line : (k : NumberCode) (n : ℕ) (text : List ℕ) → IsNumber k n text → IsOneLine text
-coded_line DOUBLE n text is = double_line n text _ refl is
-coded_line k n text is = subst IsOneLine (sym is) (line_number k n)
+wide_line : (integers : Integers) (k : NumberCode) (n : ℕ) → IsOneLine (wide_text integers k n)
+wide_line integers k n = line_either (may_be_number integers (wide_size k n)) (number_text k n) (plain (number_text k n)) (line_number k n) (plain_line (number_text k n) (line_number k n))
+
+coded_line : (integers : Integers) (k : NumberCode) (n : ℕ) (text : List ℕ) → IsNumber integers k n text → IsOneLine text
+coded_line integers DOUBLE n text is = double_line n text _ refl is
+coded_line integers INT64 n text is = subst IsOneLine (sym is) (wide_line integers INT64 n)
+coded_line integers UINT64 n text is = subst IsOneLine (sym is) (wide_line integers UINT64 n)
+coded_line integers k n text is = subst IsOneLine (sym is) (line_number k n)
 
 -- ---- values
 
@@ -96,55 +103,55 @@ string_line : (t : List ℕ) → IsOneLine (string t)
 string_line t = line_quoted Json refl t
 
 mutual
-  json_line : (v : ValueTree) (text : List ℕ) → IsJson v text → IsOneLine text
-  json_line (NumberValue k n) text is = coded_line k n text is
-  json_line (TextValue k t) text is = subst IsOneLine (sym is) (string_line t)
-  json_line (ArrayValue t xs) text is =
+  json_line : (integers : Integers) (v : ValueTree) (text : List ℕ) → IsJson integers v text → IsOneLine text
+  json_line integers (NumberValue k n) text is = coded_line integers k n text is
+  json_line integers (TextValue k t) text is = subst IsOneLine (sym is) (string_line t)
+  json_line integers (ArrayValue t xs) text is =
       elim (eq_or (is_byte t)) [
         | inl byte ↦ subst IsOneLine (sym (is.0 byte)) (plain_line (encode_lower (bytes_in xs)) (line_hex (bytes_in xs)))
-        | inr other ↦ let items = is.1 other in subst IsOneLine (sym items.2) (array_line items.0 (jsons_line xs items.0 items.1))
+        | inr other ↦ let items = is.1 other in subst IsOneLine (sym items.2) (array_line items.0 (jsons_line integers xs items.0 items.1))
       ]
-  json_line (StructValue xs) text is = subst IsOneLine (sym is.2) (array_line is.0 (jsons_line xs is.0 is.1))
-  json_line (EntryValue x y) text is = subst IsOneLine (sym is.4) (array_line (is.0 ∷ is.1 ∷ []) (json_line x is.0 is.2, (json_line y is.1 is.3, tt)))
-  json_line (VariantValue x) text is =
+  json_line integers (StructValue xs) text is = subst IsOneLine (sym is.2) (array_line is.0 (jsons_line integers xs is.0 is.1))
+  json_line integers (EntryValue x y) text is = subst IsOneLine (sym is.4) (array_line (is.0 ∷ is.1 ∷ []) (json_line integers x is.0 is.2, (json_line integers y is.1 is.3, tt)))
+  json_line integers (VariantValue x) text is =
       let type = member_line (codes "type") (plain (sig (type_of x))) (line_literal (codes "type") refl) (plain_line (sig (type_of x)) (line_sig (type_of x))) in
-      let value = member_line (codes "value") is.0 (line_literal (codes "value") refl) (json_line x is.0 is.1) in
+      let value = member_line (codes "value") is.0 (line_literal (codes "value") refl) (json_line integers x is.0 is.1) in
       subst IsOneLine (sym is.2) (object_line (member (codes "type") (plain (sig (type_of x))) ∷ member (codes "value") is.0 ∷ []) (type, (value, tt)))
 
-  jsons_line : (xs : ValueTrees) (texts : List (List ℕ)) → AreJson xs texts → AreLines texts
-  jsons_line NoValues [] are = tt
-  jsons_line NoValues (t ∷ texts) are = absurd are
-  jsons_line (MoreValues x xs) [] are = absurd are
-  jsons_line (MoreValues x xs) (t ∷ texts) are = (json_line x t are.0, jsons_line xs texts are.1)
+  jsons_line : (integers : Integers) (xs : ValueTrees) (texts : List (List ℕ)) → AreJson integers xs texts → AreLines texts
+  jsons_line integers NoValues [] are = tt
+  jsons_line integers NoValues (t ∷ texts) are = absurd are
+  jsons_line integers (MoreValues x xs) [] are = absurd are
+  jsons_line integers (MoreValues x xs) (t ∷ texts) are = (json_line integers x t are.0, jsons_line integers xs texts are.1)
 
 -- ---- fields and messages
 
 count_line : (name : List ℕ) → line_feeds name ≡ 0 → (n : ℕ) → IsOneLine (member name (decimal n))
 count_line name h n = member_line name (decimal n) (line_literal name h) (line_decimal n)
 
-known_line : (ps : List (ℕ × FieldTree)) (texts : List (List ℕ)) → AreFieldTexts (λ _ code v text. IsKnown code v text) ps texts → AreLines texts
-known_line [] [] are = tt
-known_line [] (t ∷ texts) are = absurd are
-known_line (p ∷ ps) [] are = absurd are
-known_line (p ∷ ps) (t ∷ texts) are =
-    let line = member_line (field_name p.1.code) are.0.value (name_line p.1.code) (json_line p.1.value are.0.value are.0.json) in
-    (subst IsOneLine (sym are.0.is) line, known_line ps texts are.1)
+known_line : (integers : Integers) (ps : List (ℕ × FieldTree)) (texts : List (List ℕ)) → AreFieldTexts (λ _ code v text. IsKnown integers code v text) ps texts → AreLines texts
+known_line integers [] [] are = tt
+known_line integers [] (t ∷ texts) are = absurd are
+known_line integers (p ∷ ps) [] are = absurd are
+known_line integers (p ∷ ps) (t ∷ texts) are =
+    let line = member_line (field_name p.1.code) are.0.value (name_line p.1.code) (json_line integers p.1.value are.0.value are.0.json) in
+    (subst IsOneLine (sym are.0.is) line, known_line integers ps texts are.1)
 
 place_line : (before_known : Bool) (place : ℕ) → AreLines (place_members before_known place)
 place_line true place = (count_line (codes "place") refl place, tt)
 place_line false place = tt
 
-other_line : (before_known : Bool) (place code : ℕ) (v : ValueTree) (text : List ℕ) → IsOther before_known place code v text → IsOneLine text
-other_line before_known place code v text is =
+other_line : (integers : Integers) (before_known : Bool) (place code : ℕ) (v : ValueTree) (text : List ℕ) → IsOther integers before_known place code v text → IsOneLine text
+other_line integers before_known place code v text is =
     let typed = member_line (codes "type") (plain (sig (type_of v))) (line_literal (codes "type") refl) (plain_line (sig (type_of v)) (line_sig (type_of v))) in
-    let valued = member_line (codes "value") is.value (line_literal (codes "value") refl) (json_line v is.value is.json) in
+    let valued = member_line (codes "value") is.value (line_literal (codes "value") refl) (json_line integers v is.value is.json) in
     subst IsOneLine (sym is.is) (object_line (member (codes "code") (decimal code) ∷ member (codes "type") (plain (sig (type_of v))) ∷ member (codes "value") is.value ∷ place_members before_known place) (count_line (codes "code") refl code, (typed, (valued, place_line before_known place))))
 
-others_line : (is_before : ℕ → Bool) (ps : List (ℕ × FieldTree)) (texts : List (List ℕ)) → AreFieldTexts (λ place code v text. IsOther (is_before place) place code v text) ps texts → AreLines texts
-others_line is_before [] [] are = tt
-others_line is_before [] (t ∷ texts) are = absurd are
-others_line is_before (p ∷ ps) [] are = absurd are
-others_line is_before (p ∷ ps) (t ∷ texts) are = (other_line (is_before p.0) p.0 p.1.code p.1.value t are.0, others_line is_before ps texts are.1)
+others_line : (integers : Integers) (is_before : ℕ → Bool) (ps : List (ℕ × FieldTree)) (texts : List (List ℕ)) → AreFieldTexts (λ place code v text. IsOther integers (is_before place) place code v text) ps texts → AreLines texts
+others_line integers is_before [] [] are = tt
+others_line integers is_before [] (t ∷ texts) are = absurd are
+others_line integers is_before (p ∷ ps) [] are = absurd are
+others_line integers is_before (p ∷ ps) (t ∷ texts) are = (other_line integers (is_before p.0) p.0 p.1.code p.1.value t are.0, others_line integers is_before ps texts are.1)
 
 plain_name : (name : Option (List ℕ)) → IfSome name IsOneLine → IfSome (option_map plain name) IsOneLine
 plain_name (Some text) h = plain_line text h
@@ -169,7 +176,7 @@ abbrev pub last_members : Order → (size kind flags serial : ℕ) → List (Lis
 last_members order size kind flags serial = member (codes "length") (decimal size) ∷ head_members order kind flags serial
 
 pub one_line_each : IsOneLineEach
-one_line_each order m place text is =
+one_line_each integers order m place text is =
     let size = length (message_bytes order m) in
     let front = first_members place order size m.kind m.flags m.serial in
     let back = member (codes "fields") (array is.others) ∷ member (codes "body") (array is.values) ∷ [] in
@@ -185,9 +192,9 @@ one_line_each order m place text is =
     ) in
     let timed = lines_append (time_members place.time) (last_members order size m.kind m.flags m.serial) (time_line place.time) rest in
     let first : AreLines front = (count_line (codes "number") refl place.number, (count_line (codes "offset") refl place.offset, timed)) in
-    let known = known_line (known_fields m.fields) is.known is.knows in
-    let others = member_line (codes "fields") (array is.others) (line_literal (codes "fields") refl) (array_line is.others (others_line (is_before_known m.fields) (other_fields m.fields) is.others is.other)) in
-    let body = member_line (codes "body") (array is.values) (line_literal (codes "body") refl) (array_line is.values (jsons_line m.body is.values is.body)) in
+    let known = known_line integers (known_fields m.fields) is.known is.knows in
+    let others = member_line (codes "fields") (array is.others) (line_literal (codes "fields") refl) (array_line is.others (others_line integers (is_before_known m.fields) (other_fields m.fields) is.others is.other)) in
+    let body = member_line (codes "body") (array is.values) (line_literal (codes "body") refl) (array_line is.values (jsons_line integers m.body is.values is.body)) in
     let last : AreLines back = (others, (body, tt)) in
     let line = object_line (front ++ (is.known ++ back)) (lines_append front (is.known ++ back) first (lines_append is.known back known last)) in
     (object (front ++ (is.known ++ back)), is.is, line.none)

@@ -12,6 +12,8 @@ use Rattle.dbus_show.specs.ShownMessages.{field_name, line_feeds}
 use Rattle.dbus_value_text.specs.Forms.{AreFieldTexts, taken_fields, led}
 use Rattle.dbus_validate.specs.declared.validating.Validated.{Validated}
 use Rattle.dbus_json.specs.Times.{time_members}
+use Rattle.dbus_json.specs.declared.integers.Integers.{Integers}
+use Rattle.dbus_json.specs.declared.integers.Integers.TheVariants.{Exact}
 use Rattle.dbus_json.specs.declared.place.LinePlace.{LinePlace}
 use Rattle.dbus_json.specs.JsonValues.{plain, array, member, object, IsJson, AreJson, listed}
 
@@ -20,9 +22,9 @@ abbrev pub type_text : ℕ → List ℕ
 type_text kind = unwrap_or (option_map plain (type_name kind)) (decimal kind)
 
 -- a known header field with this code and value is a member by its name
-pub record IsKnown (code : ℕ) (v : ValueTree) (text : List ℕ) : Type 0 where
+pub record IsKnown (integers : Integers) (code : ℕ) (v : ValueTree) (text : List ℕ) : Type 0 where
   pub value : List ℕ
-  pub json : IsJson v value
+  pub json : IsJson integers v value
   pub is : text ≡ member (field_name code) value
 
 -- the place of a field that is not known, if a known one stands after it: so a line keeps how the
@@ -33,9 +35,9 @@ place_members false place = []
 
 -- a header field that is not known, with this code and value, is an object of its code, and of its
 -- value with the signature of that
-pub record IsOther (before_known : Bool) (place code : ℕ) (v : ValueTree) (text : List ℕ) : Type 0 where
+pub record IsOther (integers : Integers) (before_known : Bool) (place code : ℕ) (v : ValueTree) (text : List ℕ) : Type 0 where
   pub value : List ℕ
-  pub json : IsJson v value
+  pub json : IsJson integers v value
   pub is : text ≡ object
       (member (codes "code") (decimal code) ∷ member (codes "type") (plain (sig (type_of v))) ∷ member (codes "value") value ∷ place_members before_known place)
 
@@ -52,12 +54,12 @@ abbrev pub is_before_known : List FieldTree → (place : ℕ) → Bool
 is_before_known fs place = list_any (λ f. is_known f.code) (drop (suc place) fs)
 
 -- the known fields of a message, and the text of each
-abbrev pub AreKnown : List FieldTree → List (List ℕ) → Type 0
-AreKnown fs texts = AreFieldTexts (λ _ code v text. IsKnown code v text) (known_fields fs) texts
+abbrev pub AreKnown : Integers → List FieldTree → List (List ℕ) → Type 0
+AreKnown integers fs texts = AreFieldTexts (λ _ code v text. IsKnown integers code v text) (known_fields fs) texts
 
 -- its other fields, and the text of each
-abbrev pub AreOthers : List FieldTree → List (List ℕ) → Type 0
-AreOthers fs texts = AreFieldTexts (λ place code v text. IsOther (is_before_known fs place) place code v text) (other_fields fs) texts
+abbrev pub AreOthers : Integers → List FieldTree → List (List ℕ) → Type 0
+AreOthers integers fs texts = AreFieldTexts (λ place code v text. IsOther integers (is_before_known fs place) place code v text) (other_fields fs) texts
 
 -- the byte order and the message type
 abbrev pub front_members : Order → (kind : ℕ) → List (List ℕ)
@@ -76,14 +78,14 @@ head_members order kind flags serial =
     ∷ []
 
 -- the texts of header fields: of the known ones, and of the others
-abbrev pub AreFields : List FieldTree → (known others : List (List ℕ)) → Type 0
-AreFields fs known others = AreKnown fs known × AreOthers fs others
+abbrev pub AreFields : Integers → List FieldTree → (known others : List (List ℕ)) → Type 0
+AreFields integers fs known others = AreKnown integers fs known × AreOthers integers fs others
 
--- A header as an object: its fields are as in a line.
+-- A header as an object: its fields are as in a line in which each integer is a number.
 pub record IsJsonHeader (order : Order) (kind flags serial : ℕ) (fs : List FieldTree) (text : List ℕ) : Type 0 where
   pub known : List (List ℕ)
   pub others : List (List ℕ)
-  pub fields : AreFields fs known others
+  pub fields : AreFields Exact fs known others
   pub is : text ≡ object (head_members order kind flags serial ++ (known ++ (member (codes "fields") (array others) ∷ [])))
 
 -- what stands before the header fields, of a message of so many bytes
@@ -96,13 +98,13 @@ first_members place order size kind flags serial =
 
 -- The line of a message that has this place: the known fields are members of the object, and all
 -- other fields, and the values of the body, stand in two arrays.
-pub record IsJsonLine (order : Order) (m : MessageTree) (place : LinePlace) (text : List ℕ) : Type 0 where
+pub record IsJsonLine (integers : Integers) (order : Order) (m : MessageTree) (place : LinePlace) (text : List ℕ) : Type 0 where
   pub known : List (List ℕ)
-  pub knows : AreKnown m.fields known
+  pub knows : AreKnown integers m.fields known
   pub others : List (List ℕ)
-  pub other : AreOthers m.fields others
+  pub other : AreOthers integers m.fields others
   pub values : List (List ℕ)
-  pub body : AreJson m.body values
+  pub body : AreJson integers m.body values
   pub is : text ≡ object
       (first_members place order (length (message_bytes order m)) m.kind m.flags m.serial
       ++ (known ++ (member (codes "fields") (array others) ∷ member (codes "body") (array values) ∷ [])))
@@ -126,8 +128,8 @@ end_text before_known place = led (codes ",") (codes ",") (place_members before_
 
 -- Whatever a message holds, its JSON is one line.
 abbrev pub IsOneLineEach : Type 0
-IsOneLineEach = (order : Order) (m : MessageTree) (place : LinePlace) (text : List ℕ) → IsJsonLine order m place text → (line : List ℕ) × (text ≡ line ++ codes "\n") × (line_feeds line ≡ 0)
+IsOneLineEach = (integers : Integers) (order : Order) (m : MessageTree) (place : LinePlace) (text : List ℕ) → IsJsonLine integers order m place text → (line : List ℕ) × (text ≡ line ++ codes "\n") × (line_feeds line ≡ 0)
 
 -- Each message has a line of JSON, whatever its place.
 abbrev pub IsSomeLineEach : Type 0
-IsSomeLineEach = (order : Order) (m : MessageTree) (place : LinePlace) → (text : List ℕ) × IsJsonLine order m place text
+IsSomeLineEach = (integers : Integers) (order : Order) (m : MessageTree) (place : LinePlace) → (text : List ℕ) × IsJsonLine integers order m place text

@@ -1,3 +1,4 @@
+pub mod JsonIntegers
 pub mod JsonValues
 pub mod Times
 pub mod JsonMessages

@@ -4,6 +4,7 @@
 ghost use Rattle.std.specs.Prelude.{◌++◌, suc, nat_lt, codes, not};
 ghost use Rattle.dbus_message_model.specs.Messages.{is_known as is_known_code};
 ghost use Rattle.dbus_show.specs.ShownMessages.{field_name};
+ghost use Rattle.dbus_json.specs.JsonIntegers.{integers_of};
 ghost use Rattle.dbus_json.specs.JsonMessages.{IsKnown, IsOther, end_text};
 ghost use Rattle.dbus_json.specs.JsonValues.{plain};
 
@@ -33,12 +34,12 @@ fn write_name<D: Draft>(draft: &mut D, code: u8)
 
 /// The fields that are known, as members by their names.
 #[derive(Clone, Copy)]
-pub(crate) struct KnownFields;
+pub(crate) struct KnownFields<const SAFE: bool>;
 
-impl FieldForm for KnownFields {
+impl<const SAFE: bool> FieldForm for KnownFields<SAFE> {
     ghost is_taken = { is_known_code };
 
-    ghost is_text = { λ _ _ code v text. IsKnown code v text };
+    ghost is_text = { λ _ _ code v text. IsKnown (integers_of SAFE) code v text };
 
     #[inline]
     fn takes(code: u8) -> bool {
@@ -54,23 +55,23 @@ impl FieldForm for KnownFields {
         spot: &Spot<'_>,
     ) -> usize {
         write_name(draft, code);
-        write_value::<Json, D>(draft, source, spot)
+        write_value::<Json<SAFE>, D>(draft, source, spot)
     }
 }
 
 /// The fields that are not known, as objects.
 #[derive(Clone, Copy)]
-pub(crate) struct OtherFields {
+pub(crate) struct OtherFields<const SAFE: bool> {
     /// The place after the last known field among all fields, counted from 0, or 0 if none is
     /// known.
     pub(crate) known_end: usize,
 }
 
-impl FieldForm for OtherFields {
+impl<const SAFE: bool> FieldForm for OtherFields<SAFE> {
     ghost is_taken = { λ code. not (is_known_code code) };
 
     ghost is_text = { λ form place code v text.
-        IsOther (nat_lt (suc place) form.known_end) place code v text };
+        IsOther (integers_of SAFE) (nat_lt (suc place) form.known_end) place code v text };
 
     #[inline]
     fn takes(code: u8) -> bool {
@@ -90,7 +91,7 @@ impl FieldForm for OtherFields {
         draft.push_str(",\"type\":\"");
         write_types(draft, spot.types);
         draft.push_str("\",\"value\":");
-        let after = write_value::<Json, D>(draft, source, spot);
+        let after = write_value::<Json<SAFE>, D>(draft, source, spot);
         write_place(draft, place, self.known_end);
         after
     }

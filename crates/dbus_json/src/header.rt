@@ -6,6 +6,7 @@ ghost use Rattle.std.specs.List.{list_all, list_any};
 ghost use Rattle.dbus_message_model.specs.Messages.{FieldTree, is_known};
 ghost use Rattle.dbus_value_text.specs.Forms.{led};
 ghost use Rattle.dbus_value_text.specs.Runs.{AreInRun, IsRun};
+ghost use Rattle.dbus_json.specs.JsonIntegers.{integers_of};
 ghost use Rattle.dbus_json.specs.JsonMessages.{AreFields, AreOthers, IsJsonHeader, fields_text};
 ghost use Rattle.dbus_json.specs.JsonMessages.{front_members, head_members, type_text};
 ghost use Rattle.dbus_json.specs.JsonValues.{listed, object};
@@ -54,7 +55,7 @@ pub(crate) fn write_head<D: Draft>(draft: &mut D, order: Order, kind: u8, flags:
 
 /// Appends the fields that are not known, with commas between them, unless all are known. It is
 /// given which are.
-fn write_others<D: Draft>(draft: &mut D, run: &FieldRun<'_>, known: FieldsTaken)
+fn write_others<const SAFE: bool, D: Draft>(draft: &mut D, run: &FieldRun<'_>, known: FieldsTaken)
     requires stand { IsRun run.now }
     requires all { (fs : List FieldTree) (rest : List ℕ) → AreInRun run.now fs rest →
         known.all ≡ list_all (λ f. is_known f.code) fs }
@@ -62,13 +63,13 @@ fn write_others<D: Draft>(draft: &mut D, run: &FieldRun<'_>, known: FieldsTaken)
         (place : ℕ) →
         list_any (λ f. is_known f.code) (drop place fs) ≡ nat_lt place known.end }
     ensures written { (fs : List FieldTree) (rest : List ℕ) → AreInRun run.now fs rest →
-        (texts : List (List ℕ)) × AreOthers fs texts ×
+        (texts : List (List ℕ)) × AreOthers (integers_of SAFE) fs texts ×
         D.gains draft.old (led [] (codes ",") texts) draft.new }
 {
     if known.all {
         return;
     }
-    let others = OtherFields {
+    let others: OtherFields<SAFE> = OtherFields {
         known_end: known.end,
     };
     write_field_run(draft, run, &others, "", ",");
@@ -76,15 +77,15 @@ fn write_others<D: Draft>(draft: &mut D, run: &FieldRun<'_>, known: FieldsTaken)
 
 /// Appends the header fields of a run as members, each after a comma: each known one by its name,
 /// and all others in the array `fields`.
-pub(crate) fn write_header_fields<D: Draft>(draft: &mut D, run: &FieldRun<'_>)
+pub(crate) fn write_header_fields<const SAFE: bool, D: Draft>(draft: &mut D, run: &FieldRun<'_>)
     requires stand { IsRun run.now }
     ensures written { (fs : List FieldTree) (rest : List ℕ) → AreInRun run.now fs rest →
-        (known others : List (List ℕ)) × AreFields fs known others ×
+        (known others : List (List ℕ)) × AreFields (integers_of SAFE) fs known others ×
         D.gains draft.old (fields_text known others) draft.new }
 {
-    let known = write_field_run(draft, run, &KnownFields, ",", ",");
+    let known = write_field_run(draft, run, &KnownFields::<SAFE>, ",", ",");
     draft.push_str(",\"fields\":[");
-    write_others(draft, run, known);
+    write_others::<SAFE, D>(draft, run, known);
     draft.push_code(b']');
 }
 
@@ -124,6 +125,6 @@ pub fn write_header<D: Draft>(
 {
     draft.push_code(b'{');
     write_head(draft, order, kind, flags, serial);
-    write_header_fields(draft, run);
+    write_header_fields::<false, D>(draft, run);
     draft.push_code(b'}');
 }

@@ -1,22 +1,69 @@
 //! The form of values as JSON. RFC 8259; D-Bus Specification, "Type System".
 #![tactic(auto)]
 
-ghost use Rattle.std.specs.Prelude.{codes};
-ghost use Rattle.dbus_json.specs.JsonValues.{IsJson};
+ghost use Rattle.std.specs.Prelude.{◌≡◌, ℕ, ◌+◌, ◌≤◌, codes, drop, length, not, take};
+ghost use Rattle.dbus_texts.specs.Types.{NumberCode, number_code};
+ghost use Rattle.dbus_types.specs.Alignments.{width};
+ghost use Rattle.dbus_value_model.specs.Reading.{number_of};
+ghost use Rattle.dbus_json.specs.declared.integers.Integers.TheVariants.{Safe};
+ghost use Rattle.dbus_json.specs.JsonIntegers.{integers_of, may_be_number, wide_size};
+ghost use Rattle.dbus_json.specs.JsonValues.{IsJson, IsNumber};
+ghost use Rattle.dbus_value_text.specs.Gaining.{GainsSome};
 ghost use Rattle.dbus_json.specs.Form.{open_text, close_text};
 ghost use Rattle.dbus_json.specs.FormLaws.{whole_json};
 
 use crate::doubles::write_double;
+use crate::integers::Integers;
 use crate::texts::write_string;
 use dbus_show::{Draft, write_hex};
 use dbus_value_text::{ValueForm, write_number_at, write_types};
 use dbus_walk::{Container, MessageBytes};
 
-/// Values as JSON.
-pub(crate) struct Json;
+/// Whether the number at `at`, of the type that has this code, is an integer of 64 bits that is a
+/// string if integers are to be safe.
+#[inline]
+fn is_quoted(source: &MessageBytes<'_>, at: usize, code: u8) -> bool
+    requires inside { (k : NumberCode) → number_code k ≡ code → at + width k ≤ length source.now.bytes.now }
+    ensures { (k : NumberCode) → number_code k ≡ code →
+        result ≡ not (may_be_number Safe (wide_size k
+        (number_of source.now.order (take (width k) (drop at source.now.bytes.now))))) }
+{
+    let size = match code {
+        b'x' => source
+            .order
+            .u64_at(source.bytes, at)
+            .cast_signed()
+            .unsigned_abs(),
+        b't' => source.order.u64_at(source.bytes, at),
+        _ => return false,
+    };
+    !Integers::Safe.may_be_number(size)
+}
 
-impl ValueForm for Json {
-    ghost is_text = { IsJson };
+/// Appends the number at `at`, of the type that has this code, which is no DOUBLE: an integer of 64
+/// bits as a string if it may be no number.
+fn write_safe<D: Draft>(draft: &mut D, source: &MessageBytes<'_>, at: usize, code: u8)
+    requires inside { (k : NumberCode) → number_code k ≡ code → at + width k ≤ length source.now.bytes.now }
+    requires whole { code ≡ 100 → ⊥ }
+    ensures { (k : NumberCode) → number_code k ≡ code →
+        GainsSome D.gains draft.old
+        (IsNumber Safe k (number_of source.now.order (take (width k) (drop at source.now.bytes.now))))
+        draft.new }
+{
+    if is_quoted(source, at, code) {
+        draft.push_code(b'"');
+        write_number_at(draft, source.bytes, at, source.order, code);
+        draft.push_code(b'"');
+    } else {
+        write_number_at(draft, source.bytes, at, source.order, code);
+    }
+}
+
+/// Values as JSON, in which integers are safe or not.
+pub(crate) struct Json<const SAFE: bool>;
+
+impl<const SAFE: bool> ValueForm for Json<SAFE> {
+    ghost is_text = { IsJson (integers_of SAFE) };
 
     ghost open_text = { open_text };
 
@@ -28,6 +75,8 @@ impl ValueForm for Json {
     fn number<D: Draft>(draft: &mut D, source: &MessageBytes<'_>, at: usize, code: u8) {
         if code == b'd' {
             write_double(draft, source.order.u64_at(source.bytes, at));
+        } else if SAFE {
+            write_safe(draft, source, at, code);
         } else {
             write_number_at(draft, source.bytes, at, source.order, code);
         }
@@ -70,5 +119,5 @@ impl ValueForm for Json {
         ","
     }
 
-    ghost whole = { whole_json };
+    ghost whole = { whole_json (integers_of SAFE) };
 }

@@ -7,6 +7,7 @@
 mod doubles;
 mod fields;
 mod header;
+mod integers;
 mod json;
 pub mod laws;
 mod line;
@@ -16,6 +17,7 @@ mod times;
 
 pub use doubles::finite;
 pub use header::{write_header, write_header_front};
+pub use integers::Integers;
 pub use line::write_json;
 pub use place::LinePlace;
 pub use texts::write_string;

@@ -12,6 +12,7 @@ use Rattle.dbus_walk.proofs.Parts.{stands_positive}
 use Rattle.dbus_message_model.specs.Messages.{FieldTree, field_struct, want, is_known, is_particular, Want, Anything, OfType, Name, Serial, Suits, AreFields}
 use Rattle.dbus_show.specs.ShownMessages.{field_name}
 use Rattle.dbus_value_text.specs.Forms.{AreFieldTexts}
+use Rattle.dbus_json.specs.declared.integers.Integers.{Integers}
 use Rattle.dbus_json.specs.JsonValues.{plain, member, object, listed}
 use Rattle.dbus_json.specs.JsonMessages.{IsKnown, IsOther, place_members, end_text}
 use Rattle.dbus_json.proofs.FieldTexts.{other_text}
@@ -100,15 +101,15 @@ one_type Serial v u known a b = ap type_of a.1 ∙ sym (ap type_of b.1)
 abbrev is_known_at : Placed → Bool
 is_known_at p = is_known p.1.code
 
-abbrev pub AreKnownTexts : List Placed → List (List ℕ) → Type 0
-AreKnownTexts ps texts = AreFieldTexts (λ _ code v text. IsKnown code v text) ps texts
+abbrev pub AreKnownTexts : (integers : Integers) → List Placed → List (List ℕ) → Type 0
+AreKnownTexts integers ps texts = AreFieldTexts (λ _ code v text. IsKnown integers code v text) ps texts
 
 -- a member, cut behind its name
 member_cut : (name value r : List ℕ) → member name value ++ r ≡ plain name ++ 58 ∷ (value ++ r)
 member_cut name value r = append_assoc (plain name) (58 ∷ value) r
 
 -- the members of known fields, before one of another name
-module _ (end r q : List ℕ) (bare : AreAll Bare end) (other : code_in end ≡ 0) where
+module _ (integers : Integers) (end r q : List ℕ) (bare : AreAll Bare end) (other : code_in end ≡ 0) where
   abbrev tail : List ℕ → List ℕ
   tail r = 44 ∷ (plain end ++ r)
 
@@ -119,7 +120,7 @@ module _ (end r q : List ℕ) (bare : AreAll Bare end) (other : code_in end ≡ 
       let none : q.1.code ≡ 0 = sym name.0 ∙ sym (ap code_in parts.0) ∙ other in
       true≢false (sym known ∙ ap is_known none)
 
-  pub same_known : (ps qs : List Placed) → AllPass is_known_at ps → AllPass is_known_at qs → (ss ts : List (List ℕ)) → AreKnownTexts ps ss → AreKnownTexts qs ts → more ss ++ tail r ≡ more ts ++ tail q
+  pub same_known : (ps qs : List Placed) → AllPass is_known_at ps → AllPass is_known_at qs → (ss ts : List (List ℕ)) → AreKnownTexts integers ps ss → AreKnownTexts integers qs ts → more ss ++ tail r ≡ more ts ++ tail q
       → (map field_of ps ≡ map field_of qs) × (r ≡ q)
   same_known [] [] h l [] [] a b e = (refl, append_cancel_left (44 ∷ plain end) r q e)
   same_known [] (p ∷ ps) h l [] (t ∷ ts) a b e =
@@ -138,7 +139,7 @@ module _ (end r q : List ℕ) (bare : AreAll Bare end) (other : code_in end ≡ 
       let code : p.1.code ≡ o.1.code = sym first.0 ∙ ap code_in names.0 ∙ second.0 in
       let suits : Suits (want p.1.code) o.1.value = subst (λ (c : ℕ). Suits (want c) o.1.value) (sym code) l.0.0.suits in
       let types = one_type (want p.1.code) p.1.value o.1.value h.0.1 h.0.0.suits suits in
-      let values = same_json p.1.value o.1.value h.0.0.sound l.0.0.sound types a.0.value b.0.value a.0.json b.0.json (more ss ++ tail r) (more ts ++ tail q) (after_item ss 44 (plain end ++ r) comma_ends) (after_item ts 44 (plain end ++ q) comma_ends)
+      let values = same_json integers p.1.value o.1.value h.0.0.sound l.0.0.sound types a.0.value b.0.value a.0.json b.0.json (more ss ++ tail r) (more ts ++ tail q) (after_item ss 44 (plain end ++ r) comma_ends) (after_item ts 44 (plain end ++ q) comma_ends)
       (same_head 58 58 (a.0.value ++ (more ss ++ tail r)) (b.0.value ++ (more ts ++ tail q)) names.1).1 in
       let rest = same_known ps qs h.1 l.1 ss ts a.1 b.1 values.1 in
       let field : p.1 ≡ o.1 = ap (λ (c : ℕ). record { code = c; value = p.1.value }) code ∙ ap (λ (v : ValueTree). record { code = o.1.code; value = v }) values.0 in
@@ -190,35 +191,35 @@ same_end false true n m r q h k e = absurd (let first : 125 ≡ 44 = ap (λ (u :
 same_end false false n m r q h k e = (refl, (same_head 125 125 r q e).1)
 
 -- two texts that begin with an object of `fields`
-same_other : (b c : Bool) (p o : Placed) → Fit p → Fit o → (s t : List ℕ) → IsOther b p.0 p.1.code p.1.value s → IsOther c o.0 o.1.code o.1.value t → (r q : List ℕ) → s ++ r ≡ t ++ q
+same_other : (integers : Integers) (b c : Bool) (p o : Placed) → Fit p → Fit o → (s t : List ℕ) → IsOther integers b p.0 p.1.code p.1.value s → IsOther integers c o.0 o.1.code o.1.value t → (r q : List ℕ) → s ++ r ≡ t ++ q
     → (p.1 ≡ o.1) × (cond b (Some p.0) None ≡ cond c (Some o.0) None) × (r ≡ q)
-same_other b c p o h l s t a d r q e =
+same_other integers b c p o h l s t a d r q e =
     let left = ap (λ (u : List ℕ). u ++ r) a.is ∙ other_cut b p.0 p.1.code p.1.value a.value r in
     let right = ap (λ (u : List ℕ). u ++ q) d.is ∙ other_cut c o.0 o.1.code o.1.value d.value q in
     let coded = cut Bare (decimal p.1.code) (decimal o.1.code) 44 44 _ _ (decimal_bare p.1.code) (decimal_bare o.1.code) (λ x. x.comma refl) (λ x. x.comma refl) (append_cancel_left (codes "{\"code\":") _ _ (sym left ∙ e ∙ right)) in
     let code : p.1.code ≡ o.1.code = decimal_injective p.1.code o.1.code (omega (arith, h.code)) (omega (arith, l.code)) coded.0 in
     let typed = same_signature (type_of p.1.value) (type_of o.1.value) _ _ (append_cancel_left (codes ",\"type\":") _ _ coded.1) in
-    let valued = same_json p.1.value o.1.value h.sound l.sound typed.0 a.value d.value a.json d.json (end_of b p.0 r) (end_of c o.0 q) (end_stop b p.0 r) (end_stop c o.0 q) (append_cancel_left (codes ",\"value\":") _ _ typed.1) in
+    let valued = same_json integers p.1.value o.1.value h.sound l.sound typed.0 a.value d.value a.json d.json (end_of b p.0 r) (end_of c o.0 q) (end_stop b p.0 r) (end_stop c o.0 q) (append_cancel_left (codes ",\"value\":") _ _ typed.1) in
     let placed = same_end b c p.0 o.0 r q h.place l.place valued.1 in
     let field : p.1 ≡ o.1 = ap (λ (k : ℕ). record { code = k; value = p.1.value }) code ∙ ap (λ (v : ValueTree). record { code = o.1.code; value = v }) valued.0 in
     (field, placed.0, placed.1)
 
-abbrev pub AreOtherTexts : (ℕ → Bool) → List Placed → List (List ℕ) → Type 0
-AreOtherTexts is_before ps texts = AreFieldTexts (λ place code v text. IsOther (is_before place) place code v text) ps texts
+abbrev pub AreOtherTexts : (integers : Integers) → (ℕ → Bool) → List Placed → List (List ℕ) → Type 0
+AreOtherTexts integers is_before ps texts = AreFieldTexts (λ place code v text. IsOther integers (is_before place) place code v text) ps texts
 
 -- an object does not begin with a bracket
-no_object : (b : Bool) (p : Placed) (t : List ℕ) → IsOther b p.0 p.1.code p.1.value t → (r q : List ℕ) → t ++ r ≡ 93 ∷ q → ⊥
-no_object b p t a r q e = let first : 123 ≡ 93 = ap (λ (u : List ℕ). get_or u 0 0) (ap (λ (u : List ℕ). u ++ r) (sym a.is) ∙ e) in omega (arith, first)
+no_object : (integers : Integers) (b : Bool) (p : Placed) (t : List ℕ) → IsOther integers b p.0 p.1.code p.1.value t → (r q : List ℕ) → t ++ r ≡ 93 ∷ q → ⊥
+no_object integers b p t a r q e = let first : 123 ≡ 93 = ap (λ (u : List ℕ). get_or u 0 0) (ap (λ (u : List ℕ). u ++ r) (sym a.is) ∙ e) in omega (arith, first)
 
-module _ (f g : ℕ → Bool) (r q : List ℕ) where
+module _ (integers : Integers) (f g : ℕ → Bool) (r q : List ℕ) where
   -- after the first
-  same_others : (ps qs : List Placed) → AllFit ps → AllFit qs → (ss ts : List (List ℕ)) → AreOtherTexts f ps ss → AreOtherTexts g qs ts → more ss ++ 93 ∷ r ≡ more ts ++ 93 ∷ q → (map (told f) ps ≡ map (told g) qs) × (r ≡ q)
+  same_others : (ps qs : List Placed) → AllFit ps → AllFit qs → (ss ts : List (List ℕ)) → AreOtherTexts integers f ps ss → AreOtherTexts integers g qs ts → more ss ++ 93 ∷ r ≡ more ts ++ 93 ∷ q → (map (told f) ps ≡ map (told g) qs) × (r ≡ q)
   same_others [] [] h l [] [] a b e = (refl, (same_head 93 93 r q e).1)
   same_others [] (o ∷ qs) h l [] (t ∷ ts) a b e = absurd (let first : 93 ≡ 44 = ap (λ (u : List ℕ). get_or u 0 0) e in omega (arith, first))
   same_others (p ∷ ps) [] h l (s ∷ ss) [] a b e = absurd (let first : 44 ≡ 93 = ap (λ (u : List ℕ). get_or u 0 0) e in omega (arith, first))
   same_others (p ∷ ps) (o ∷ qs) h l (s ∷ ss) (t ∷ ts) a b e =
       let inside = sym (append_assoc s (more ss) (93 ∷ r)) ∙ (same_head 44 44 ((s ++ more ss) ++ 93 ∷ r) ((t ++ more ts) ++ 93 ∷ q) e).1 ∙ append_assoc t (more ts) (93 ∷ q) in
-      let one = same_other (f p.0) (g o.0) p o h.0 l.0 s t a.0 b.0 (more ss ++ 93 ∷ r) (more ts ++ 93 ∷ q) inside in
+      let one = same_other integers (f p.0) (g o.0) p o h.0 l.0 s t a.0 b.0 (more ss ++ 93 ∷ r) (more ts ++ 93 ∷ q) inside in
       let rest = same_others ps qs h.1 l.1 ss ts a.1 b.1 one.2 in
       (ap (λ (k : FieldTree). (k, cond (f p.0) (Some p.0) None) ∷ map (told f) ps) one.0 ∙ ap (λ (k : Option ℕ). (o.1, k) ∷ map (told f) ps) one.1 ∙ ap (λ (ks : List (FieldTree × Option ℕ)). told g o ∷ ks) rest.0, rest.1)
   same_others [] qs h l (s ∷ ss) ts a b e = absurd a
@@ -227,10 +228,10 @@ module _ (f g : ℕ → Bool) (r q : List ℕ) where
   same_others ps (o ∷ qs) h l ss [] a b e = absurd b
 
   -- the objects of two arrays
-  pub same_objects : (ps qs : List Placed) → AllFit ps → AllFit qs → (ss ts : List (List ℕ)) → AreOtherTexts f ps ss → AreOtherTexts g qs ts → listed ss ++ 93 ∷ r ≡ listed ts ++ 93 ∷ q → (map (told f) ps ≡ map (told g) qs) × (r ≡ q)
+  pub same_objects : (ps qs : List Placed) → AllFit ps → AllFit qs → (ss ts : List (List ℕ)) → AreOtherTexts integers f ps ss → AreOtherTexts integers g qs ts → listed ss ++ 93 ∷ r ≡ listed ts ++ 93 ∷ q → (map (told f) ps ≡ map (told g) qs) × (r ≡ q)
   same_objects [] [] h l [] [] a b e = (refl, (same_head 93 93 r q e).1)
-  same_objects [] (o ∷ qs) h l [] (t ∷ ts) a b e = absurd (no_object (g o.0) o t b.0 (more ts ++ 93 ∷ q) r (sym (e ∙ append_assoc t (more ts) (93 ∷ q))))
-  same_objects (p ∷ ps) [] h l (s ∷ ss) [] a b e = absurd (no_object (f p.0) p s a.0 (more ss ++ 93 ∷ r) q (sym (append_assoc s (more ss) (93 ∷ r)) ∙ e))
+  same_objects [] (o ∷ qs) h l [] (t ∷ ts) a b e = absurd (no_object integers (g o.0) o t b.0 (more ts ++ 93 ∷ q) r (sym (e ∙ append_assoc t (more ts) (93 ∷ q))))
+  same_objects (p ∷ ps) [] h l (s ∷ ss) [] a b e = absurd (no_object integers (f p.0) p s a.0 (more ss ++ 93 ∷ r) q (sym (append_assoc s (more ss) (93 ∷ r)) ∙ e))
   same_objects (p ∷ ps) (o ∷ qs) h l (s ∷ ss) (t ∷ ts) a b e =
       same_others (p ∷ ps) (o ∷ qs) h l (s ∷ ss) (t ∷ ts) a b (ap (λ (u : List ℕ). 44 ∷ u) e)
   same_objects [] qs h l (s ∷ ss) ts a b e = absurd a

@@ -15,6 +15,7 @@ use Rattle.dbus_value_model.specs.Values.{ValueTree, value_trees, type_of, IsWel
 use Rattle.dbus_message_model.specs.Messages.{FieldTree, is_known, field_struct, field_array}
 use Rattle.dbus_show.specs.ShownMessages.{field_name}
 use Rattle.dbus_value_text.specs.Forms.{AreFieldTexts}
+use Rattle.dbus_json.specs.declared.integers.Integers.{Integers}
 use Rattle.dbus_json.specs.JsonValues.{plain, IsJson}
 use Rattle.dbus_json.specs.JsonValues as written
 use Rattle.dbus_json.specs.JsonMessages as lines
@@ -62,18 +63,18 @@ passing P test (p ∷ ps) h =
       | inr e ↦ subst (λ (b : Bool). AllByRecursion Q (cond b (p ∷ filter test ps) (filter test ps))) (sym e) more
     ]
 
-held_value : (room : ℕ) (p : Placed) (text : List ℕ) → Held room p → IsJson p.1.value text → Kept (2 * room) p.1.value text
-held_value room p text h is =
-    let k = kept false room p.1.value text h.formed (shaped_of (type_of p.1.value) false 0 0 h.single.0) is in
+held_value : (integers : Integers) (room : ℕ) (p : Placed) (text : List ℕ) → Held room p → IsJson integers p.1.value text → Kept integers (2 * room) p.1.value text
+held_value integers room p text h is =
+    let k = kept integers false room p.1.value text h.formed (shaped_of (type_of p.1.value) false 0 0 h.single.0) is in
     record { j = k.j; spelled = k.spelled; nests = omega (arith, k.nests); reads = k.reads }
 
 -- ---- known fields
 
 -- the members of these fields, before others
-pub record KeptKnown (most : ℕ) (ps : List Placed) (texts : List (List ℕ)) (rest : Members) : Type 0 where
+pub record KeptKnown (integers : Integers) (most : ℕ) (ps : List Placed) (texts : List (List ℕ)) (rest : Members) : Type 0 where
   pub ms : Members
   pub names_are : keys ms ≡ names ps ++ keys rest
-  pub spelled : AllZip IsKnown ps (field_members ms)
+  pub spelled : AllZip (IsKnown integers) ps (field_members ms)
   pub nests : members_depth ms ≤ most
   pub reads : AllNamed texts ms
   pub has : (name : List ℕ) (j : Json) → Has name j rest → Has name j ms
@@ -81,31 +82,31 @@ pub record KeptKnown (most : ℕ) (ps : List Placed) (texts : List (List ℕ)) (
 abbrev pub IsHeldKnown : ℕ → Placed → Type 0
 IsHeldKnown room p = Held room p × (is_known p.1.code ≡ true)
 
-pub known_kept : (room most : ℕ) (ps : List Placed) (texts others : List (List ℕ)) (rest : Members) → AllByRecursion (IsHeldKnown room) ps → AreFieldTexts (λ _ code v text. lines.IsKnown code v text) ps texts
-    → AllNamed others rest → members_depth rest ≤ most → 2 * room ≤ most → field_members rest ≡ [] → KeptKnown most ps (texts ++ others) rest
-known_kept room most [] [] others rest held are reads deep more none =
-    record { ms = rest; names_are = refl; spelled = subst (λ (ms : List (List ℕ × Json)). AllZip IsKnown [] ms) (sym none) tt; nests = deep; reads = reads; has = λ name j h. h }
-known_kept room most (p ∷ ps) (t ∷ texts) others rest held are reads deep more none =
-    let k = held_value room p are.0.value held.0.0 are.0.json in
-    let later = known_kept room most ps texts others rest held.1 are.1 reads deep more none in
+pub known_kept : (integers : Integers) (room most : ℕ) (ps : List Placed) (texts others : List (List ℕ)) (rest : Members) → AllByRecursion (IsHeldKnown room) ps → AreFieldTexts (λ _ code v text. lines.IsKnown integers code v text) ps texts
+    → AllNamed others rest → members_depth rest ≤ most → 2 * room ≤ most → field_members rest ≡ [] → KeptKnown integers most ps (texts ++ others) rest
+known_kept integers room most [] [] others rest held are reads deep more none =
+    record { ms = rest; names_are = refl; spelled = subst (λ (ms : List (List ℕ × Json)). AllZip (IsKnown integers) [] ms) (sym none) tt; nests = deep; reads = reads; has = λ name j h. h }
+known_kept integers room most (p ∷ ps) (t ∷ texts) others rest held are reads deep more none =
+    let k = held_value integers room p are.0.value held.0.0 are.0.json in
+    let later = known_kept integers room most ps texts others rest held.1 are.1 reads deep more none in
     let name = named p.1.code held.0.1 in
-    let zip : AllZip IsKnown (p ∷ ps) ((field_name p.1.code, k.j) ∷ field_members later.ms) = ((refl, k.spelled), later.spelled) in
+    let zip : AllZip (IsKnown integers) (p ∷ ps) ((field_name p.1.code, k.j) ∷ field_members later.ms) = ((refl, k.spelled), later.spelled) in
     record {
       ms = member (field_name p.1.code) k.j later.ms;
       names_are = ap (λ (ks : List (List ℕ)). field_name p.1.code ∷ ks) later.names_are;
-      spelled = subst (λ (b : Bool). AllZip IsKnown (p ∷ ps) (cond (not b) ((field_name p.1.code, k.j) ∷ field_members later.ms) (field_members later.ms))) (sym name.other) zip;
+      spelled = subst (λ (b : Bool). AllZip (IsKnown integers) (p ∷ ps) (cond (not b) ((field_name p.1.code, k.j) ∷ field_members later.ms) (field_members later.ms))) (sym name.other) zip;
       nests = omega (arith, k.nests, later.nests, more);
       reads = (subst (λ (s : List ℕ). MemberReads s (field_name p.1.code) k.j) (sym are.0.is) (member_reads (field_name p.1.code) are.0.value k.j name.inside k.reads), later.reads);
       has = λ name j h. inr (later.has name j h);
     }
-known_kept room most [] (t ∷ texts) others rest held are reads deep more none = absurd are
-known_kept room most (p ∷ ps) [] others rest held are reads deep more none = absurd are
+known_kept integers room most [] (t ∷ texts) others rest held are reads deep more none = absurd are
+known_kept integers room most (p ∷ ps) [] others rest held are reads deep more none = absurd are
 
 -- ---- other fields
 
-record KeptOther (most : ℕ) (before_known : Bool) (p : Placed) (text : List ℕ) : Type 0 where
+record KeptOther (integers : Integers) (most : ℕ) (before_known : Bool) (p : Placed) (text : List ℕ) : Type 0 where
   j : Json
-  spelled : IsOther before_known p.0 p.1 j
+  spelled : IsOther integers before_known p.0 p.1 j
   nests : depth j ≤ most
   reads : Reads text j
 
@@ -128,9 +129,9 @@ other_reads code v text j texts rest few reads h = (
   ),
 )
 
-other_given : (room : ℕ) (before_known : Bool) (p : Placed) (text value : List ℕ) → Held room p → Kept (2 * room) p.1.value value → text ≡ written.object (other_texts p.1.code (sig (type_of p.1.value)) value (place_members before_known p.0))
-    → KeptOther (1 + 2 * room) before_known p text
-other_given room true p text value held k e =
+other_given : (integers : Integers) (room : ℕ) (before_known : Bool) (p : Placed) (text value : List ℕ) → Held room p → Kept integers (2 * room) p.1.value value → text ≡ written.object (other_texts p.1.code (sig (type_of p.1.value)) value (place_members before_known p.0))
+    → KeptOther integers (1 + 2 * room) before_known p text
+other_given integers room true p text value held k e =
     let place = member (codes "place") (json.number (decimal p.0)) no_members in
     let ms = other_members p.1.code (sig (type_of p.1.value)) k.j place in
     let placed = count_reads (codes "place") p.0 (inside_literal (codes "place") refl) held.place in
@@ -140,7 +141,7 @@ other_given room true p text value held k e =
       nests = omega (arith, k.nests);
       reads = subst (λ (s : List ℕ). Reads s (json.object ms)) (sym e) (object_reads (other_texts p.1.code (sig (type_of p.1.value)) value (place_members true p.0)) ms (other_reads p.1.code p.1.value value k.j (place_members true p.0) place held.code k.reads (placed, tt)));
     }
-other_given room false p text value held k e =
+other_given integers room false p text value held k e =
     let ms = other_members p.1.code (sig (type_of p.1.value)) k.j no_members in
     record {
       j = json.object ms;
@@ -149,20 +150,20 @@ other_given room false p text value held k e =
       reads = subst (λ (s : List ℕ). Reads s (json.object ms)) (sym e) (object_reads (other_texts p.1.code (sig (type_of p.1.value)) value []) ms (other_reads p.1.code p.1.value value k.j [] no_members held.code k.reads tt));
     }
 
-other_kept : (room : ℕ) (before_known : Bool) (p : Placed) (text : List ℕ) → Held room p → lines.IsOther before_known p.0 p.1.code p.1.value text → KeptOther (1 + 2 * room) before_known p text
-other_kept room before_known p text held is = other_given room before_known p text is.value held (held_value room p is.value held is.json) is.is
+other_kept : (integers : Integers) (room : ℕ) (before_known : Bool) (p : Placed) (text : List ℕ) → Held room p → lines.IsOther integers before_known p.0 p.1.code p.1.value text → KeptOther integers (1 + 2 * room) before_known p text
+other_kept integers room before_known p text held is = other_given integers room before_known p text is.value held (held_value integers room p is.value held is.json) is.is
 
-pub record KeptOthers (most : ℕ) (is_before : ℕ → Bool) (ps : List Placed) (texts : List (List ℕ)) : Type 0 where
+pub record KeptOthers (integers : Integers) (most : ℕ) (is_before : ℕ → Bool) (ps : List Placed) (texts : List (List ℕ)) : Type 0 where
   pub js : List Json
-  pub spelled : AllZip (λ p j. IsOther (is_before p.0) p.0 p.1 j) ps js
+  pub spelled : AllZip (λ p j. IsOther integers (is_before p.0) p.0 p.1 j) ps js
   pub nests : items_depth (items_of js) ≤ most
   pub reads : AllRead texts (items_of js)
 
-pub others_kept : (room : ℕ) (is_before : ℕ → Bool) (ps : List Placed) (texts : List (List ℕ)) → AllByRecursion (Held room) ps → AreFieldTexts (λ place code v text. lines.IsOther (is_before place) place code v text) ps texts → KeptOthers (1 + 2 * room) is_before ps texts
-others_kept room is_before [] [] held are = record { js = []; spelled = tt; nests = omega arith; reads = tt }
-others_kept room is_before (p ∷ ps) (t ∷ texts) held are =
-    let one = other_kept room (is_before p.0) p t held.0 are.0 in
-    let later = others_kept room is_before ps texts held.1 are.1 in
+pub others_kept : (integers : Integers) (room : ℕ) (is_before : ℕ → Bool) (ps : List Placed) (texts : List (List ℕ)) → AllByRecursion (Held room) ps → AreFieldTexts (λ place code v text. lines.IsOther integers (is_before place) place code v text) ps texts → KeptOthers integers (1 + 2 * room) is_before ps texts
+others_kept integers room is_before [] [] held are = record { js = []; spelled = tt; nests = omega arith; reads = tt }
+others_kept integers room is_before (p ∷ ps) (t ∷ texts) held are =
+    let one = other_kept integers room (is_before p.0) p t held.0 are.0 in
+    let later = others_kept integers room is_before ps texts held.1 are.1 in
     record { js = one.j ∷ later.js; spelled = (one.spelled, later.spelled); nests = omega (arith, one.nests, later.nests); reads = (one.reads, later.reads) }
-others_kept room is_before [] (t ∷ texts) held are = absurd are
-others_kept room is_before (p ∷ ps) [] held are = absurd are
+others_kept integers room is_before [] (t ∷ texts) held are = absurd are
+others_kept integers room is_before (p ∷ ps) [] held are = absurd are

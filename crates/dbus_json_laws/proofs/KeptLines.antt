@@ -22,6 +22,7 @@ use Rattle.dbus_value_model.specs.Values.{ValueTrees, ArrayValue, IsWellFormed, 
 use Rattle.dbus_message_model.specs.Messages.{MessageTree, IsMessage, IsValidMessage, order_byte, message_bytes, field_type, is_known}
 use Rattle.dbus_message_model.specs.MessageTypes.{type_name}
 use Rattle.dbus_walk.proofs.Signed.{body_shaped}
+use Rattle.dbus_json.specs.declared.integers.Integers.{Integers}
 use Rattle.dbus_json.specs.declared.place.LinePlace.{LinePlace}
 use Rattle.dbus_json.specs.Times.{digit_at, powers, fraction_digits, seconds_text, time_members}
 use Rattle.dbus_json.specs.JsonValues.{plain}
@@ -129,7 +130,7 @@ all_held : (room : ℕ) (ps : List Placed) → AllByRecursion (λ (p : Placed). 
 all_held room [] h = tt
 all_held room (p ∷ ps) h = (h.0.0, all_held room ps h.1)
 
-module _ (limits : Limits) (order : Order) (m : MessageTree) (place : LinePlace) (line : List ℕ) (valid : IsMessage limits order m) (numbered : place.number < 2 ^ 64) (starts : place.offset < 2 ^ 64) (is : IsJsonLine order m place (line ++ codes "\n")) where
+module _ (integers : Integers) (limits : Limits) (order : Order) (m : MessageTree) (place : LinePlace) (line : List ℕ) (valid : IsMessage limits order m) (numbered : place.number < 2 ^ 64) (starts : place.offset < 2 ^ 64) (is : IsJsonLine integers order m place (line ++ codes "\n")) where
   abbrev room : ℕ
   room = limits.depth - 3
 
@@ -142,11 +143,11 @@ module _ (limits : Limits) (order : Order) (m : MessageTree) (place : LinePlace)
   held_known : AllByRecursion (IsHeldKnown room) (known_fields m.fields)
   held_known = passing (Held room) (λ (p : Placed). is_known p.1.code) (enumerate_from 0 m.fields) held
 
-  others : KeptOthers (1 + 2 * room) (is_before_known m.fields) (other_fields m.fields) is.others
-  others = others_kept room (is_before_known m.fields) (other_fields m.fields) is.others (all_held room (other_fields m.fields) (passing (Held room) (λ (p : Placed). not (is_known p.1.code)) (enumerate_from 0 m.fields) held)) is.other
+  others : KeptOthers integers (1 + 2 * room) (is_before_known m.fields) (other_fields m.fields) is.others
+  others = others_kept integers room (is_before_known m.fields) (other_fields m.fields) is.others (all_held room (other_fields m.fields) (passing (Held room) (λ (p : Placed). not (is_known p.1.code)) (enumerate_from 0 m.fields) held)) is.other
 
-  body : AllKept (2 * limits.depth) m.body is.values
-  body = let b = all_kept false limits.depth m.body is.values valid.formed_body (fields m.body (body_shaped limits.depth m.fields (types_of m.body) valid.fields valid.formed_fields valid.signature)) is.body in record { js = b.js; spelled = b.spelled; nests = omega (arith, b.nests); reads = b.reads }
+  body : AllKept integers (2 * limits.depth) m.body is.values
+  body = let b = all_kept integers false limits.depth m.body is.values valid.formed_body (fields m.body (body_shaped limits.depth m.fields (types_of m.body) valid.fields valid.formed_fields valid.signature)) is.body in record { js = b.js; spelled = b.spelled; nests = omega (arith, b.nests); reads = b.reads }
 
   abbrev last : Members
   last = member (codes "fields") (json.array (items_of others.js)) (member (codes "body") (json.array body.js) no_members)
@@ -166,8 +167,8 @@ module _ (limits : Limits) (order : Order) (m : MessageTree) (place : LinePlace)
   last_depth : members_depth last ≤ most
   last_depth = let some = some_room limits.depth _ _ valid.formed_fields in omega (arith, others.nests, body.nests, some)
 
-  known : KeptKnown most (known_fields m.fields) (is.known ++ last_texts) last
-  known = known_kept room most (known_fields m.fields) is.known last_texts last held_known is.knows last_reads last_depth (omega arith) refl
+  known : KeptKnown integers most (known_fields m.fields) (is.known ++ last_texts) last
+  known = known_kept integers room most (known_fields m.fields) is.known last_texts last held_known is.knows last_reads last_depth (omega arith) refl
 
   kind : KeptKind m.kind (type_text m.kind)
   kind = kind_kept m.kind (type_name m.kind) refl valid.kind_fits (type_inside m.kind)
@@ -228,7 +229,7 @@ module _ (limits : Limits) (order : Order) (m : MessageTree) (place : LinePlace)
   got_last : (name : List ℕ) (j : Json) → Has name j last → get name (json.object ms) ≡ Some j
   got_last name j h = got name j (inr (inr (inr (inr (inr (known.has name j h))))))
 
-  spelled : (number : ℕ) → SpellsMessage number order m (json.object ms)
+  spelled : (number : ℕ) → SpellsMessage integers number order m (json.object ms)
   spelled number =
       let fs = json.array (items_of others.js) in
       let vs = json.array body.js in
@@ -242,10 +243,10 @@ module _ (limits : Limits) (order : Order) (m : MessageTree) (place : LinePlace)
         kind = kind.spelled;
         flags = subst (SpellsOr 0 m.flags) (sym (got (codes "flags") (json.number (decimal m.flags)) (inr (inr (inr (inl (refl, refl))))))) refl;
         serial = subst (SpellsOr number m.serial) (sym (got (codes "serial") (json.number (decimal m.serial)) (inr (inr (inr (inr (inl (refl, refl)))))))) refl;
-        known = subst (λ (l : List (List ℕ × Json)). AllZip IsKnown (known_fields m.fields) l) (sym (time_fields place.time later)) known.spelled;
-        others = subst (AreOthers m.fields) (sym (got_last (codes "fields") fs (inl (refl, refl)))) (others.js, refl, others.spelled);
-        body = subst (AreBody m.body) (sym (got_last (codes "body") vs (inr (inl (refl, refl)))))
-            (list_of body.js, ap json.array (sym (listed_again body.js)), subst (AllSpell m.body) (sym (listed_again body.js)) body.spelled);
+        known = subst (λ (l : List (List ℕ × Json)). AllZip (IsKnown integers) (known_fields m.fields) l) (sym (time_fields place.time later)) known.spelled;
+        others = subst (AreOthers integers m.fields) (sym (got_last (codes "fields") fs (inl (refl, refl)))) (others.js, refl, others.spelled);
+        body = subst (AreBody integers m.body) (sym (got_last (codes "body") vs (inr (inl (refl, refl)))))
+            (list_of body.js, ap json.array (sym (listed_again body.js)), subst (AllSpell integers m.body) (sym (listed_again body.js)) body.spelled);
       }
 
   nests : depth (json.object ms) ≤ 2 + 2 * limits.depth
@@ -260,7 +261,7 @@ module _ (limits : Limits) (order : Order) (m : MessageTree) (place : LinePlace)
   reads : Reads line (json.object ms)
   reads = subst (λ (s : List ℕ). Reads s (json.object ms)) (sym (append_cancel_right line (written.object texts) (codes "\n") is.is)) (object_reads texts ms all_reads)
 
-  pub kept_line : (number : ℕ) → IsValidMessage limits m → IsLineOf limits number line order m
+  pub kept_line : (number : ℕ) → IsValidMessage limits m → IsLineOf integers limits number line order m
   kept_line number all = record {
     text = reads.utf8;
     json = json.object ms;
@@ -269,9 +270,9 @@ module _ (limits : Limits) (order : Order) (m : MessageTree) (place : LinePlace)
   }
 
 pub line_kept : IsLineKept
-line_kept limits number order m place line valid numbered starts is = kept_line limits order m place line (valid order) numbered starts is number valid
+line_kept integers limits number order m place line valid numbered starts is = kept_line integers limits order m place line (valid order) numbered starts is number valid
 
 pub one_message_of : IsOneMessageOfALine
-one_message_of limits bounds number order other m w line h k =
+one_message_of integers limits bounds number order other m w line h k =
     let same = same_Some h.json k.json (sym h.read ∙ k.read) in
-    one_message limits bounds number order other m w k.json (subst (IsReadMessage limits number order m) same h.spelled) k.spelled
+    one_message integers limits bounds number order other m w k.json (subst (IsReadMessage integers limits number order m) same h.spelled) k.spelled

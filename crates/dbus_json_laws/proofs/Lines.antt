@@ -14,6 +14,7 @@ use Rattle.dbus_value_model.specs.Values.{types_of}
 use Rattle.dbus_message_model.specs.Messages.{MessageTree, IsMessage, order_byte, message_bytes, field_array, field_type, is_known, body_signature}
 use Rattle.dbus_texts.proofs.TypeTexts.{sigs_same}
 use Rattle.dbus_value_text.specs.Forms.{led}
+use Rattle.dbus_json.specs.declared.integers.Integers.{Integers}
 use Rattle.dbus_json.specs.declared.place.LinePlace.{LinePlace}
 use Rattle.dbus_json.proofs.OneLines.{last_members, later_members, line_is}
 use Rattle.dbus_json.specs.Times.{digit_at, powers, fraction_digits, seconds_text, time_members}
@@ -230,25 +231,25 @@ fields_fit limits order m valid =
     all_fit [] m.fields 0 (omega (arith, few, valid.within_fields.0, limits.array_in)) valid.fields (sound limits.depth (field_array m.fields) valid.formed_fields).1
 
 -- the fields and the body
-module _ (limits bounds : Limits) (order other : Order) (m w : MessageTree) (valid : IsMessage limits order m) (right : IsMessage bounds other w) where
-  same_rest : (known others values known' others' values' : List (List ℕ)) → AreKnown m.fields known → AreKnown w.fields known' → AreOthers m.fields others → AreOthers w.fields others' → AreJson m.body values → AreJson w.body values'
+module _ (integers : Integers) (limits bounds : Limits) (order other : Order) (m w : MessageTree) (valid : IsMessage limits order m) (right : IsMessage bounds other w) where
+  same_rest : (known others values known' others' values' : List (List ℕ)) → AreKnown integers m.fields known → AreKnown integers w.fields known' → AreOthers integers m.fields others → AreOthers integers w.fields others' → AreJson integers m.body values → AreJson integers w.body values'
       → end_of known others values ≡ end_of known' others' values' → (m.fields ≡ w.fields) × (m.body ≡ w.body)
   same_rest known others values known' others' values' a b c d f g e =
       let fit = fields_fit limits order m valid in
       let fits = fields_fit bounds other w right in
-      let knowns = same_known (codes "fields") (codes ":[" ++ (listed others ++ (codes "],\"body\":[" ++ (listed values ++ codes "]}\n")))) (codes ":[" ++ (listed others' ++ (codes "],\"body\":[" ++ (listed values' ++ codes "]}\n"))))
+      let knowns = same_known integers (codes "fields") (codes ":[" ++ (listed others ++ (codes "],\"body\":[" ++ (listed values ++ codes "]}\n")))) (codes ":[" ++ (listed others' ++ (codes "],\"body\":[" ++ (listed values' ++ codes "]}\n"))))
       (bare_literal (codes "fields") refl) refl (known_fields m.fields) (known_fields w.fields) (all_pass (λ (p : Placed). is_known p.1.code) (enumerate_from 0 m.fields) fit) (all_pass (λ (p : Placed). is_known p.1.code) (enumerate_from 0 w.fields) fits) known known' a b e in
-      let objects = same_objects (is_before_known m.fields) (is_before_known w.fields) (codes ",\"body\":[" ++ (listed values ++ codes "]}\n")) (codes ",\"body\":[" ++ (listed values' ++ codes "]}\n"))
+      let objects = same_objects integers (is_before_known m.fields) (is_before_known w.fields) (codes ",\"body\":[" ++ (listed values ++ codes "]}\n")) (codes ",\"body\":[" ++ (listed values' ++ codes "]}\n"))
       (other_fields m.fields) (other_fields w.fields) (passing (λ (p : Placed). not (is_known p.1.code)) _ (all_pass (λ (p : Placed). not (is_known p.1.code)) (enumerate_from 0 m.fields) fit)) (passing (λ (p : Placed). not (is_known p.1.code)) _ (all_pass (λ (p : Placed). not (is_known p.1.code)) (enumerate_from 0 w.fields) fits))
       others others' c d (append_cancel_left (codes ":[") _ _ knowns.1) in
       let fields : m.fields ≡ w.fields = mixing_kept m.fields w.fields knowns.0 objects.0 in
       let types = sigs_same (types_of m.body) (types_of w.body) (valid.signature ∙ ap body_signature fields ∙ sym right.signature) in
-      let body = same_listed m.body w.body (are_sound limits.depth m.body valid.formed_body) (are_sound bounds.depth w.body right.formed_body) (alike_types m.body w.body types) values values' f g (codes "}\n") (codes "}\n")
+      let body = same_listed integers m.body w.body (are_sound limits.depth m.body valid.formed_body) (are_sound bounds.depth w.body right.formed_body) (alike_types m.body w.body types) values values' f g (codes "}\n") (codes "}\n")
       (append_cancel_left (codes ",\"body\":[") _ _ objects.1) in
       (fields, body.0)
 
 pub one_message : IsOneMessageALine
-one_message limits bounds order other m w place at text valid right is it =
+one_message integers limits bounds order other m w place at text valid right is it =
     let whole : line_of order m place is.known is.others is.values ≡ line_of other w at it.known it.others it.values =
     sym (line_cut order m place is.known is.others is.values) ∙ sym is.is ∙ it.is ∙ line_cut other w at it.known it.others it.values in
     let number = numbers_apart place.number at.number _ _ (comma_stop _) (comma_stop _) (append_cancel_left (codes "{\"number\":") _ _ whole) in
@@ -259,7 +260,7 @@ one_message limits bounds order other m w place at text valid right is it =
     let kind = types_apart m.kind w.kind _ _ (append_cancel_left (codes "\",\"type\":") _ _ letter.1) in
     let flags = numbers_apart m.flags w.flags _ _ (comma_stop _) (comma_stop _) (append_cancel_left (codes "\"flags\":") _ _ kind.1) in
     let serial = numbers_apart m.serial w.serial _ _ (after_item is.known 44 _ comma_ends) (after_item it.known 44 _ comma_ends) (append_cancel_left (codes ",\"serial\":") _ _ flags.1) in
-    let rest = same_rest limits bounds order other m w valid right is.known is.others is.values it.known it.others it.values is.knows it.knows is.other it.other is.body it.body serial.1 in (
+    let rest = same_rest integers limits bounds order other m w valid right is.known is.others is.values it.known it.others it.values is.knows it.knows is.other it.other is.body it.body serial.1 in (
       order_same order other letter.0,
       same_message m w (one_kind m.kind w.kind valid.kind right.kind valid.kind_fits right.kind_fits kind.0)
           (decimal_injective m.flags w.flags (omega (arith, valid.flags)) (omega (arith, right.flags)) flags.0)

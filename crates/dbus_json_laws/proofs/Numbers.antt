@@ -20,6 +20,8 @@ use Rattle.dbus_value_model.specs.Reading.{number_of}
 use Rattle.dbus_value_model.specs.Values as values
 use Rattle.dbus_value_model.proofs.Numbers.{number_of-num}
 use Rattle.dbus_show.specs.ShownValues.{number_text}
+use Rattle.dbus_json.specs.declared.integers.Integers.{Integers}
+use Rattle.dbus_json.specs.JsonIntegers.{may_be_number, wide_size}
 use Rattle.dbus_json.specs.JsonValues.{plain, IsDouble, IsNumber}
 use Rattle.dbus_json_laws.proofs.Strings.{digit}
 use Rattle.dbus_json_reader.proofs.NumberTexts.{same_head, Fits64, half_fits, coded_same, num_bytes, bits_same}
@@ -250,19 +252,31 @@ decimal_same k other m n h l s t a b x y r q ends ended e =
     let parts = cut Bare s t x y r q (subst (AreAll Bare) (sym a) (number_bare k other m)) (subst (AreAll Bare) (sym b) (number_bare k other n)) ends.bare ended.bare e in
     (coded_same k other m n h l (sym a ∙ parts.0 ∙ b), parts.1)
 
+-- two integers, each as a number or as a string of it
+module _ (k : NumberCode) (other : k ≡ DOUBLE → ⊥) (m n : ℕ) (h : values.IsNumber k m) (l : values.IsNumber k n) (x y : ℕ) (r q : List ℕ) (ends : Ends x) (ended : Ends y) where
+  wide_same : (may might : Bool) → cond may (number_text k m) (plain (number_text k m)) ++ x ∷ r ≡ cond might (number_text k n) (plain (number_text k n)) ++ y ∷ q → Same m n x y r q
+  wide_same true true e = decimal_same k other m n h l _ _ refl refl x y r q ends ended e
+  wide_same true false e = absurd (not_quoted (number_text k m) x r _ (number_bare k other m) ends e)
+  wide_same false true e = absurd (not_quoted (number_text k n) y q _ (number_bare k other n) ended (sym e))
+  wide_same false false e =
+      let parts = plain_same (number_text k m) (number_text k n) (x ∷ r) (y ∷ q) (number_bare k other m) (number_bare k other n) e in
+      (coded_same k other m n h l parts.0, parts.1)
+
 -- two texts that begin with a number of one type
-pub number_same : (k : NumberCode) (m n : ℕ) → values.IsNumber k m → values.IsNumber k n → (s t : List ℕ) → IsNumber k m s → IsNumber k n t → (x y : ℕ) (r q : List ℕ) → Ends x → Ends y
+pub number_same : (integers : Integers) (k : NumberCode) (m n : ℕ) → values.IsNumber k m → values.IsNumber k n → (s t : List ℕ) → IsNumber integers k m s → IsNumber integers k n t → (x y : ℕ) (r q : List ℕ) → Ends x → Ends y
     → s ++ x ∷ r ≡ t ++ y ∷ q → (m ≡ n) × (x ∷ r ≡ y ∷ q)
-number_same DOUBLE m n h k s t a b x y r q ends ended e = double_same m n h k s t a b x y r q ends ended e
-number_same BYTE m n h k s t a b x y r q ends ended e = decimal_same BYTE (λ d. absurd (cc)) m n h k s t a b x y r q ends ended e
-number_same BOOLEAN m n h k s t a b x y r q ends ended e = decimal_same BOOLEAN (λ d. absurd (cc)) m n h k s t a b x y r q ends ended e
-number_same INT16 m n h k s t a b x y r q ends ended e = decimal_same INT16 (λ d. absurd (cc)) m n h k s t a b x y r q ends ended e
-number_same UINT16 m n h k s t a b x y r q ends ended e = decimal_same UINT16 (λ d. absurd (cc)) m n h k s t a b x y r q ends ended e
-number_same INT32 m n h k s t a b x y r q ends ended e = decimal_same INT32 (λ d. absurd (cc)) m n h k s t a b x y r q ends ended e
-number_same UINT32 m n h k s t a b x y r q ends ended e = decimal_same UINT32 (λ d. absurd (cc)) m n h k s t a b x y r q ends ended e
-number_same INT64 m n h k s t a b x y r q ends ended e = decimal_same INT64 (λ d. absurd (cc)) m n h k s t a b x y r q ends ended e
-number_same UINT64 m n h k s t a b x y r q ends ended e = decimal_same UINT64 (λ d. absurd (cc)) m n h k s t a b x y r q ends ended e
-number_same UNIX_FD m n h k s t a b x y r q ends ended e = decimal_same UNIX_FD (λ d. absurd (cc)) m n h k s t a b x y r q ends ended e
+number_same integers DOUBLE m n h k s t a b x y r q ends ended e = double_same m n h k s t a b x y r q ends ended e
+number_same integers BYTE m n h k s t a b x y r q ends ended e = decimal_same BYTE (λ d. absurd (cc)) m n h k s t a b x y r q ends ended e
+number_same integers BOOLEAN m n h k s t a b x y r q ends ended e = decimal_same BOOLEAN (λ d. absurd (cc)) m n h k s t a b x y r q ends ended e
+number_same integers INT16 m n h k s t a b x y r q ends ended e = decimal_same INT16 (λ d. absurd (cc)) m n h k s t a b x y r q ends ended e
+number_same integers UINT16 m n h k s t a b x y r q ends ended e = decimal_same UINT16 (λ d. absurd (cc)) m n h k s t a b x y r q ends ended e
+number_same integers INT32 m n h k s t a b x y r q ends ended e = decimal_same INT32 (λ d. absurd (cc)) m n h k s t a b x y r q ends ended e
+number_same integers UINT32 m n h k s t a b x y r q ends ended e = decimal_same UINT32 (λ d. absurd (cc)) m n h k s t a b x y r q ends ended e
+number_same integers INT64 m n h k s t a b x y r q ends ended e =
+    wide_same INT64 (λ d. absurd (cc)) m n h k x y r q ends ended (may_be_number integers (wide_size INT64 m)) (may_be_number integers (wide_size INT64 n)) (ap (λ (u : List ℕ). u ++ x ∷ r) (sym a) ∙ e ∙ ap (λ (u : List ℕ). u ++ y ∷ q) b)
+number_same integers UINT64 m n h k s t a b x y r q ends ended e =
+    wide_same UINT64 (λ d. absurd (cc)) m n h k x y r q ends ended (may_be_number integers (wide_size UINT64 m)) (may_be_number integers (wide_size UINT64 n)) (ap (λ (u : List ℕ). u ++ x ∷ r) (sym a) ∙ e ∙ ap (λ (u : List ℕ). u ++ y ∷ q) b)
+number_same integers UNIX_FD m n h k s t a b x y r q ends ended e = decimal_same UNIX_FD (λ d. absurd (cc)) m n h k s t a b x y r q ends ended e
 
 -- ---- the first byte of a number
 
@@ -324,14 +338,18 @@ coded_some UNIX_FD other n h = decimal_some n (omega (arith, h))
 decimal_first : (k : NumberCode) → (k ≡ DOUBLE → ⊥) → (n : ℕ) → values.IsNumber k n → (text : List ℕ) → text ≡ number_text k n → NoBracket text
 decimal_first k other n h text is = subst NoBracket (sym is) (no_bracket (number_text k n) (number_bare k other n) (coded_some k other n h))
 
-pub number_first : (k : NumberCode) (n : ℕ) → values.IsNumber k n → (text : List ℕ) → IsNumber k n text → NoBracket text
-number_first DOUBLE n h text is = double_first n text is
-number_first BYTE n h text is = decimal_first BYTE (λ d. absurd (cc)) n h text is
-number_first BOOLEAN n h text is = decimal_first BOOLEAN (λ d. absurd (cc)) n h text is
-number_first INT16 n h text is = decimal_first INT16 (λ d. absurd (cc)) n h text is
-number_first UINT16 n h text is = decimal_first UINT16 (λ d. absurd (cc)) n h text is
-number_first INT32 n h text is = decimal_first INT32 (λ d. absurd (cc)) n h text is
-number_first UINT32 n h text is = decimal_first UINT32 (λ d. absurd (cc)) n h text is
-number_first INT64 n h text is = decimal_first INT64 (λ d. absurd (cc)) n h text is
-number_first UINT64 n h text is = decimal_first UINT64 (λ d. absurd (cc)) n h text is
-number_first UNIX_FD n h text is = decimal_first UNIX_FD (λ d. absurd (cc)) n h text is
+wide_first : (k : NumberCode) → (k ≡ DOUBLE → ⊥) → (n : ℕ) → values.IsNumber k n → (may : Bool) (text : List ℕ) → text ≡ cond may (number_text k n) (plain (number_text k n)) → NoBracket text
+wide_first k other n h true text is = decimal_first k other n h text is
+wide_first k other n h false text is = subst NoBracket (sym is) (λ e. omega (arith, e))
+
+pub number_first : (integers : Integers) (k : NumberCode) (n : ℕ) → values.IsNumber k n → (text : List ℕ) → IsNumber integers k n text → NoBracket text
+number_first integers DOUBLE n h text is = double_first n text is
+number_first integers BYTE n h text is = decimal_first BYTE (λ d. absurd (cc)) n h text is
+number_first integers BOOLEAN n h text is = decimal_first BOOLEAN (λ d. absurd (cc)) n h text is
+number_first integers INT16 n h text is = decimal_first INT16 (λ d. absurd (cc)) n h text is
+number_first integers UINT16 n h text is = decimal_first UINT16 (λ d. absurd (cc)) n h text is
+number_first integers INT32 n h text is = decimal_first INT32 (λ d. absurd (cc)) n h text is
+number_first integers UINT32 n h text is = decimal_first UINT32 (λ d. absurd (cc)) n h text is
+number_first integers INT64 n h text is = wide_first INT64 (λ d. absurd (cc)) n h (may_be_number integers (wide_size INT64 n)) text is
+number_first integers UINT64 n h text is = wide_first UINT64 (λ d. absurd (cc)) n h (may_be_number integers (wide_size UINT64 n)) text is
+number_first integers UNIX_FD n h text is = decimal_first UNIX_FD (λ d. absurd (cc)) n h text is

@@ -9,6 +9,7 @@ use Rattle.dbus_types.proofs.PrefixSteps.{text_same}
 use Rattle.dbus_value_model.specs.Values as values
 use Rattle.dbus_value_model.specs.Values.{ValueTree, ValueTrees, NumberValue, TextValue, VariantValue, ArrayValue, StructValue, EntryValue, NoValues, MoreValues, type_of, AllOf}
 use Rattle.dbus_show.specs.ShownValues.{bytes_in}
+use Rattle.dbus_json.specs.declared.integers.Integers.{Integers}
 use Rattle.dbus_json.specs.JsonValues.{plain, listed, array, member, object, IsJson, AreJson, IsNumber}
 use Rattle.dbus_json_laws.proofs.Strings.{same_string}
 use Rattle.dbus_json_laws.proofs.Numbers.{Ends, NoBracket, plain_hex_same, number_same, number_first}
@@ -43,17 +44,17 @@ after_item (t ∷ ts) x r ends = record { first = 44; rest = (t ++ more ts) ++ x
 
 -- ---- the first byte of a value
 
-json_first : (v : ValueTree) (text : List ℕ) → Sound v → IsJson v text → NoBracket text
-json_first (NumberValue k n) text h is = number_first k n h text is
-json_first (TextValue k t) text h is = subst NoBracket (sym is) (λ e. omega (arith, e))
-json_first (ArrayValue t xs) text h is =
+json_first : (integers : Integers) (v : ValueTree) (text : List ℕ) → Sound v → IsJson integers v text → NoBracket text
+json_first integers (NumberValue k n) text h is = number_first integers k n h text is
+json_first integers (TextValue k t) text h is = subst NoBracket (sym is) (λ e. omega (arith, e))
+json_first integers (ArrayValue t xs) text h is =
     elim (cases_Bool (is_byte t)) [
       | inl byte ↦ subst NoBracket (sym (is.0 byte)) (λ e. omega (arith, e))
       | inr other ↦ subst NoBracket (sym (is.1 other).2) (λ e. omega (arith, e))
     ]
-json_first (StructValue xs) text h is = subst NoBracket (sym is.2) (λ e. omega (arith, e))
-json_first (EntryValue x y) text h is = subst NoBracket (sym is.4) (λ e. omega (arith, e))
-json_first (VariantValue x) text h is = subst NoBracket (sym is.2) (λ e. omega (arith, e))
+json_first integers (StructValue xs) text h is = subst NoBracket (sym is.2) (λ e. omega (arith, e))
+json_first integers (EntryValue x y) text h is = subst NoBracket (sym is.4) (λ e. omega (arith, e))
+json_first integers (VariantValue x) text h is = subst NoBracket (sym is.2) (λ e. omega (arith, e))
 
 pub not_bracket : (t r q : List ℕ) → NoBracket t → t ++ r ≡ 93 ∷ q → ⊥
 not_bracket [] r q h e = absurd h
@@ -105,24 +106,24 @@ items_apart s t ss ts r q e = sym (append_assoc s (more ss) (93 ∷ r)) ∙ e �
 -- ---- values
 
 mutual
-  pub same_json : (v w : ValueTree) → Sound v → Sound w → type_of v ≡ type_of w → (s t : List ℕ) → IsJson v s → IsJson w t → (r q : List ℕ) → Stop r → Stop q → s ++ r ≡ t ++ q → (v ≡ w) × (r ≡ q)
-  same_json (NumberValue k m) (NumberValue j n) h l e s t a b r q p o eq =
+  pub same_json : (integers : Integers) (v w : ValueTree) → Sound v → Sound w → type_of v ≡ type_of w → (s t : List ℕ) → IsJson integers v s → IsJson integers w t → (r q : List ℕ) → Stop r → Stop q → s ++ r ≡ t ++ q → (v ≡ w) × (r ≡ q)
+  same_json integers (NumberValue k m) (NumberValue j n) h l e s t a b r q p o eq =
       let same : j ≡ k = cc in
       let joined : s ++ p.first ∷ p.rest ≡ t ++ o.first ∷ o.rest = ap (λ (u : List ℕ). s ++ u) (sym p.is) ∙ eq ∙ ap (λ (u : List ℕ). t ++ u) o.is in
-      let parts = number_same k m n h (subst (λ (c : NumberCode). values.IsNumber c n) same l) s t a (subst (λ (c : NumberCode). IsNumber c n t) same b) p.first o.first p.rest o.rest p.ends o.ends joined in
+      let parts = number_same integers k m n h (subst (λ (c : NumberCode). values.IsNumber c n) same l) s t a (subst (λ (c : NumberCode). IsNumber integers c n t) same b) p.first o.first p.rest o.rest p.ends o.ends joined in
       (ap (NumberValue k) parts.0 ∙ ap (λ (c : NumberCode). NumberValue c n) (sym same), p.is ∙ parts.1 ∙ sym o.is)
-  same_json (TextValue k x) (TextValue j y) h l e s t a b r q p o eq =
+  same_json integers (TextValue k x) (TextValue j y) h l e s t a b r q p o eq =
       let same : k ≡ j = cc in
       let parts = same_string x y r q h l (ap (λ (u : List ℕ). u ++ r) (sym a) ∙ eq ∙ ap (λ (u : List ℕ). u ++ q) b) in
       (ap (TextValue k) parts.0 ∙ ap (λ (c : TextCode). TextValue c y) same, parts.1)
-  same_json (VariantValue x) (VariantValue y) h l e s t a b r q p o eq =
+  same_json integers (VariantValue x) (VariantValue y) h l e s t a b r q p o eq =
       let inside = typed_inside (type_of x) (type_of y) a.0 b.0 s t r q a.2 b.2 eq in
-      let parts = same_json x y h l inside.0 a.0 b.0 a.1 b.1 (125 ∷ r) (125 ∷ q) (brace_stop r) (brace_stop q) inside.1 in
+      let parts = same_json integers x y h l inside.0 a.0 b.0 a.1 b.1 (125 ∷ r) (125 ∷ q) (brace_stop r) (brace_stop q) inside.1 in
       (ap VariantValue parts.0, (same_head 125 125 r q parts.1).1)
-  same_json (ArrayValue t xs) (ArrayValue u ys) h l e s z a b r q p o eq =
+  same_json integers (ArrayValue t xs) (ArrayValue u ys) h l e s z a b r q p o eq =
       let same : u ≡ t = sym (ap element e) in
       let all : AllOf t ys = subst (λ (c : TypeTree). AllOf c ys) same l.0 in
-      let json : IsJson (ArrayValue t ys) z = subst (λ (c : TypeTree). IsJson (ArrayValue c ys) z) same b in
+      let json : IsJson integers (ArrayValue t ys) z = subst (λ (c : TypeTree). IsJson integers (ArrayValue c ys) z) same b in
       let parts : (xs ≡ ys) × (r ≡ q) = elim (cases_Bool (is_byte t)) [
         | inl byte ↦ (
             let first = bytes_of t xs byte h.0 in
@@ -133,46 +134,46 @@ mutual
         | inr other ↦ (
             let first = a.1 other in
             let second = json.1 other in
-            same_listed xs ys h.1 l.1 (alike_all t xs ys h.0 all) first.0 second.0 first.1 second.1 r q (arrays_inside first.0 second.0 s z r q first.2 second.2 eq)
+            same_listed integers xs ys h.1 l.1 (alike_all t xs ys h.0 all) first.0 second.0 first.1 second.1 r q (arrays_inside first.0 second.0 s z r q first.2 second.2 eq)
             )
       ] in
       (ap (ArrayValue t) parts.0 ∙ ap (λ (c : TypeTree). ArrayValue c ys) (sym same), parts.1)
-  same_json (StructValue xs) (StructValue ys) h l e s t a b r q p o eq =
-      let parts = same_listed xs ys h l (alike_types xs ys (ap parts_of e)) a.0 b.0 a.1 b.1 r q (arrays_inside a.0 b.0 s t r q a.2 b.2 eq) in
+  same_json integers (StructValue xs) (StructValue ys) h l e s t a b r q p o eq =
+      let parts = same_listed integers xs ys h l (alike_types xs ys (ap parts_of e)) a.0 b.0 a.1 b.1 r q (arrays_inside a.0 b.0 s t r q a.2 b.2 eq) in
       (ap StructValue parts.0, parts.1)
-  same_json (EntryValue k v) (EntryValue j w) h l e s t a b r q p o eq =
+  same_json integers (EntryValue k v) (EntryValue j w) h l e s t a b r q p o eq =
       let inside = items_apart a.0 b.0 (a.1 ∷ []) (b.1 ∷ []) r q (arrays_inside (a.0 ∷ a.1 ∷ []) (b.0 ∷ b.1 ∷ []) s t r q a.4 b.4 eq) in
-      let keys = same_json k j h.0 l.0 (ap key_of e) a.0 b.0 a.2 b.2 _ _ (after_item (a.1 ∷ []) 93 r bracket_ends) (after_item (b.1 ∷ []) 93 q bracket_ends) inside in
+      let keys = same_json integers k j h.0 l.0 (ap key_of e) a.0 b.0 a.2 b.2 _ _ (after_item (a.1 ∷ []) 93 r bracket_ends) (after_item (b.1 ∷ []) 93 q bracket_ends) inside in
       let rest : a.1 ++ 93 ∷ r ≡ b.1 ++ 93 ∷ q = ap (λ (u : List ℕ). drop 1 u) (sym (more_one a.1 (93 ∷ r)) ∙ keys.1 ∙ more_one b.1 (93 ∷ q)) in
-      let values = same_json v w h.1 l.1 (ap held_by e) a.1 b.1 a.3 b.3 (93 ∷ r) (93 ∷ q) (bracket_stop r) (bracket_stop q) rest in
+      let values = same_json integers v w h.1 l.1 (ap held_by e) a.1 b.1 a.3 b.3 (93 ∷ r) (93 ∷ q) (bracket_stop r) (bracket_stop q) rest in
       (ap (λ (c : ValueTree). EntryValue c v) keys.0 ∙ ap (EntryValue j) values.0, (same_head 93 93 r q values.1).1)
-  same_json v w h l e s t a b r q p o eq = absurd (cc)
+  same_json integers v w h l e s t a b r q p o eq = absurd (cc)
 
   -- the items of two arrays
-  pub same_listed : (xs ys : ValueTrees) → AreSound xs → AreSound ys → Alike xs ys → (ss ts : List (List ℕ)) → AreJson xs ss → AreJson ys ts → (r q : List ℕ) → listed ss ++ 93 ∷ r ≡ listed ts ++ 93 ∷ q → (xs ≡ ys) × (r ≡ q)
-  same_listed NoValues NoValues h l e [] [] a b r q eq = (refl, (same_head 93 93 r q eq).1)
-  same_listed NoValues (MoreValues y ys) h l e [] (t ∷ ts) a b r q eq = absurd (not_bracket t (more ts ++ 93 ∷ q) r (json_first y t l.0 b.0) (sym (eq ∙ append_assoc t (more ts) (93 ∷ q))))
-  same_listed (MoreValues x xs) NoValues h l e (s ∷ ss) [] a b r q eq = absurd (not_bracket s (more ss ++ 93 ∷ r) q (json_first x s h.0 a.0) (sym (append_assoc s (more ss) (93 ∷ r)) ∙ eq))
-  same_listed (MoreValues x xs) (MoreValues y ys) h l e (s ∷ ss) (t ∷ ts) a b r q eq =
-      let one = same_json x y h.0 l.0 e.0 s t a.0 b.0 (more ss ++ 93 ∷ r) (more ts ++ 93 ∷ q) (after_item ss 93 r bracket_ends) (after_item ts 93 q bracket_ends) (items_apart s t ss ts r q eq) in
-      let others = same_more xs ys h.1 l.1 e.1 ss ts a.1 b.1 r q one.1 in
+  pub same_listed : (integers : Integers) (xs ys : ValueTrees) → AreSound xs → AreSound ys → Alike xs ys → (ss ts : List (List ℕ)) → AreJson integers xs ss → AreJson integers ys ts → (r q : List ℕ) → listed ss ++ 93 ∷ r ≡ listed ts ++ 93 ∷ q → (xs ≡ ys) × (r ≡ q)
+  same_listed integers NoValues NoValues h l e [] [] a b r q eq = (refl, (same_head 93 93 r q eq).1)
+  same_listed integers NoValues (MoreValues y ys) h l e [] (t ∷ ts) a b r q eq = absurd (not_bracket t (more ts ++ 93 ∷ q) r (json_first integers y t l.0 b.0) (sym (eq ∙ append_assoc t (more ts) (93 ∷ q))))
+  same_listed integers (MoreValues x xs) NoValues h l e (s ∷ ss) [] a b r q eq = absurd (not_bracket s (more ss ++ 93 ∷ r) q (json_first integers x s h.0 a.0) (sym (append_assoc s (more ss) (93 ∷ r)) ∙ eq))
+  same_listed integers (MoreValues x xs) (MoreValues y ys) h l e (s ∷ ss) (t ∷ ts) a b r q eq =
+      let one = same_json integers x y h.0 l.0 e.0 s t a.0 b.0 (more ss ++ 93 ∷ r) (more ts ++ 93 ∷ q) (after_item ss 93 r bracket_ends) (after_item ts 93 q bracket_ends) (items_apart s t ss ts r q eq) in
+      let others = same_more integers xs ys h.1 l.1 e.1 ss ts a.1 b.1 r q one.1 in
       (ap (λ (c : ValueTree). MoreValues c xs) one.0 ∙ ap (MoreValues y) others.0, others.1)
-  same_listed NoValues ys h l e (s ∷ ss) ts a b r q eq = absurd a
-  same_listed xs NoValues h l e ss (t ∷ ts) a b r q eq = absurd b
-  same_listed (MoreValues x xs) ys h l e [] ts a b r q eq = absurd a
-  same_listed xs (MoreValues y ys) h l e ss [] a b r q eq = absurd b
+  same_listed integers NoValues ys h l e (s ∷ ss) ts a b r q eq = absurd a
+  same_listed integers xs NoValues h l e ss (t ∷ ts) a b r q eq = absurd b
+  same_listed integers (MoreValues x xs) ys h l e [] ts a b r q eq = absurd a
+  same_listed integers xs (MoreValues y ys) h l e ss [] a b r q eq = absurd b
 
   -- those after the first
-  same_more : (xs ys : ValueTrees) → AreSound xs → AreSound ys → Alike xs ys → (ss ts : List (List ℕ)) → AreJson xs ss → AreJson ys ts → (r q : List ℕ) → more ss ++ 93 ∷ r ≡ more ts ++ 93 ∷ q → (xs ≡ ys) × (r ≡ q)
-  same_more NoValues NoValues h l e [] [] a b r q eq = (refl, (same_head 93 93 r q eq).1)
-  same_more NoValues (MoreValues y ys) h l e [] (t ∷ ts) a b r q eq = absurd (let first : 93 ≡ 44 = (same_head 93 44 r ((t ++ more ts) ++ 93 ∷ q) eq).0 in omega (arith, first))
-  same_more (MoreValues x xs) NoValues h l e (s ∷ ss) [] a b r q eq = absurd (let first : 44 ≡ 93 = (same_head 44 93 ((s ++ more ss) ++ 93 ∷ r) q eq).0 in omega (arith, first))
-  same_more (MoreValues x xs) (MoreValues y ys) h l e (s ∷ ss) (t ∷ ts) a b r q eq =
+  same_more : (integers : Integers) (xs ys : ValueTrees) → AreSound xs → AreSound ys → Alike xs ys → (ss ts : List (List ℕ)) → AreJson integers xs ss → AreJson integers ys ts → (r q : List ℕ) → more ss ++ 93 ∷ r ≡ more ts ++ 93 ∷ q → (xs ≡ ys) × (r ≡ q)
+  same_more integers NoValues NoValues h l e [] [] a b r q eq = (refl, (same_head 93 93 r q eq).1)
+  same_more integers NoValues (MoreValues y ys) h l e [] (t ∷ ts) a b r q eq = absurd (let first : 93 ≡ 44 = (same_head 93 44 r ((t ++ more ts) ++ 93 ∷ q) eq).0 in omega (arith, first))
+  same_more integers (MoreValues x xs) NoValues h l e (s ∷ ss) [] a b r q eq = absurd (let first : 44 ≡ 93 = (same_head 44 93 ((s ++ more ss) ++ 93 ∷ r) q eq).0 in omega (arith, first))
+  same_more integers (MoreValues x xs) (MoreValues y ys) h l e (s ∷ ss) (t ∷ ts) a b r q eq =
       let inside : (s ++ more ss) ++ 93 ∷ r ≡ (t ++ more ts) ++ 93 ∷ q = (same_head 44 44 ((s ++ more ss) ++ 93 ∷ r) ((t ++ more ts) ++ 93 ∷ q) eq).1 in
-      let one = same_json x y h.0 l.0 e.0 s t a.0 b.0 (more ss ++ 93 ∷ r) (more ts ++ 93 ∷ q) (after_item ss 93 r bracket_ends) (after_item ts 93 q bracket_ends) (items_apart s t ss ts r q inside) in
-      let others = same_more xs ys h.1 l.1 e.1 ss ts a.1 b.1 r q one.1 in
+      let one = same_json integers x y h.0 l.0 e.0 s t a.0 b.0 (more ss ++ 93 ∷ r) (more ts ++ 93 ∷ q) (after_item ss 93 r bracket_ends) (after_item ts 93 q bracket_ends) (items_apart s t ss ts r q inside) in
+      let others = same_more integers xs ys h.1 l.1 e.1 ss ts a.1 b.1 r q one.1 in
       (ap (λ (c : ValueTree). MoreValues c xs) one.0 ∙ ap (MoreValues y) others.0, others.1)
-  same_more NoValues ys h l e (s ∷ ss) ts a b r q eq = absurd a
-  same_more xs NoValues h l e ss (t ∷ ts) a b r q eq = absurd b
-  same_more (MoreValues x xs) ys h l e [] ts a b r q eq = absurd a
-  same_more xs (MoreValues y ys) h l e ss [] a b r q eq = absurd b
+  same_more integers NoValues ys h l e (s ∷ ss) ts a b r q eq = absurd a
+  same_more integers xs NoValues h l e ss (t ∷ ts) a b r q eq = absurd b
+  same_more integers (MoreValues x xs) ys h l e [] ts a b r q eq = absurd a
+  same_more integers xs (MoreValues y ys) h l e ss [] a b r q eq = absurd b

@@ -12,6 +12,7 @@ use Rattle.dbus_value_model.specs.declared.limits.Limits.{Limits}
 use Rattle.dbus_value_model.specs.declared.order.Order.{Order}
 use Rattle.dbus_value_model.specs.Values.{ValueTree, type_of, IsWellFormed}
 use Rattle.dbus_message_model.specs.Messages.{MessageTree, IsValidMessage}
+use Rattle.dbus_json.specs.declared.integers.Integers.{Integers}
 use Rattle.dbus_json.specs.declared.place.LinePlace.{LinePlace}
 use Rattle.dbus_json.specs.JsonMessages.{IsJsonLine}
 use Rattle.dbus_json.specs.JsonValues.{string, IsJson}
@@ -23,18 +24,19 @@ use Rattle.dbus_json_lines.specs.JsonLines.{IsLineOf}
 abbrev pub IsTextKept : Type 0
 IsTextKept = (text rest : List ℕ) → IsUtf8 text → lex between (string text ++ rest) ≡ token (tokens.string text) ∷ lex between rest
 
--- What `json` writes of a value is JSON that spells the value, and nothing after it. It nests no
--- more than twice as deep as the value, since each entry of a dict is an array within one.
+-- What `json` writes of a value is JSON that spells the value, and nothing after it, with integers
+-- that are safe or not. It nests no more than twice as deep as the value, since each entry of a dict
+-- is an array within one.
 abbrev pub IsValueKept : Type 0
-IsValueKept = (depth : ℕ) (v : ValueTree) (text : List ℕ) → IsSingleType (type_of v) → IsWellFormed depth v → IsJson v text
-    → (j : Json) × Spells v j × (value (2 * depth) (lexer.tokens text) ≡ Some (j, []))
+IsValueKept = (integers : Integers) (depth : ℕ) (v : ValueTree) (text : List ℕ) → IsSingleType (type_of v) → IsWellFormed depth v → IsJson integers v text
+    → (j : Json) × Spells integers v j × (value (2 * depth) (lexer.tokens text) ≡ Some (j, []))
 
 -- The line that `json` writes of a valid message, without its line feed, is a line of this message,
 -- whatever serial a message with none would have: it is UTF-8, and one JSON value that spells the
 -- message. What says where the message stands are numbers of 64 bits.
 abbrev pub IsLineKept : Type 0
-IsLineKept = (limits : Limits) (number : ℕ) (order : Order) (m : MessageTree) (place : LinePlace) (line : List ℕ) → IsValidMessage limits m → place.number < 2 ^ 64 → place.offset < 2 ^ 64 → IsJsonLine order m place (line ++ codes "\n") → IsLineOf limits number line order m
+IsLineKept = (integers : Integers) (limits : Limits) (number : ℕ) (order : Order) (m : MessageTree) (place : LinePlace) (line : List ℕ) → IsValidMessage limits m → place.number < 2 ^ 64 → place.offset < 2 ^ 64 → IsJsonLine integers order m place (line ++ codes "\n") → IsLineOf integers limits number line order m
 
 -- No line is of two messages, whatever the limits.
 abbrev pub IsOneMessageOfALine : Type 0
-IsOneMessageOfALine = (limits bounds : Limits) (number : ℕ) (order other : Order) (m w : MessageTree) (line : List ℕ) → IsLineOf limits number line order m → IsLineOf bounds number line other w → (order ≡ other) × (m ≡ w)
+IsOneMessageOfALine = (integers : Integers) (limits bounds : Limits) (number : ℕ) (order other : Order) (m w : MessageTree) (line : List ℕ) → IsLineOf integers limits number line order m → IsLineOf integers bounds number line other w → (order ≡ other) × (m ≡ w)

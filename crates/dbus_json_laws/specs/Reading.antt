@@ -8,6 +8,7 @@ use Rattle.dbus_value_model.specs.Values.{ValueTree}
 use Rattle.dbus_value_model.specs.declared.limits.Limits.{Limits}
 use Rattle.dbus_value_model.specs.declared.order.Order.{Order}
 use Rattle.dbus_message_model.specs.Messages.{MessageTree}
+use Rattle.dbus_json.specs.declared.integers.Integers.{Integers}
 use Rattle.dbus_json.specs.JsonValues.{IsDouble, plain}
 use Rattle.dbus_json_reader.specs.JsonMessages.{IsReadMessage}
 use Rattle.dbus_json_reader.specs.JsonNumbers.{SpellsDouble}
@@ -15,12 +16,12 @@ use Rattle.dbus_json_reader.specs.JsonValues.{IsRead}
 
 -- No JSON spells two values of one type.
 abbrev pub IsOneValueEach : Type 0
-IsOneValueEach = (depth other : ℕ) (t : TypeTree) (x y : ValueTree) (j : Json) → IsRead depth t x j → IsRead other t y j → x ≡ y
+IsOneValueEach = (integers : Integers) (depth other : ℕ) (t : TypeTree) (x y : ValueTree) (j : Json) → IsRead integers depth t x j → IsRead integers other t y j → x ≡ y
 
 -- No JSON spells two messages, whatever the limits, nor one message in two orders, if the serial of
 -- a message with no serial is one.
 abbrev pub IsOneMessageEach : Type 0
-IsOneMessageEach = (limits bounds : Limits) (number : ℕ) (order other : Order) (m w : MessageTree) (j : Json) → IsReadMessage limits number order m j → IsReadMessage bounds number other w j → (order ≡ other) × (m ≡ w)
+IsOneMessageEach = (integers : Integers) (limits bounds : Limits) (number : ℕ) (order other : Order) (m w : MessageTree) (j : Json) → IsReadMessage integers limits number order m j → IsReadMessage integers bounds number other w j → (order ≡ other) × (m ≡ w)
 
 -- What `json` writes of a DOUBLE is a number that spells it, or, within quotation marks, digits that
 -- spell it as a string.

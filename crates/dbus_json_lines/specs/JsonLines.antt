@@ -9,6 +9,7 @@ use Rattle.json.specs.Word.{is_space}
 use Rattle.dbus_value_model.specs.declared.limits.Limits.{Limits}
 use Rattle.dbus_value_model.specs.declared.order.Order.{Order}
 use Rattle.dbus_message_model.specs.Messages.{MessageTree}
+use Rattle.dbus_json.specs.declared.integers.Integers.{Integers}
 use Rattle.dbus_json_reader.specs.JsonMessages.{IsReadMessage}
 
 -- a line of white space, which spells nothing and is no fault
@@ -27,8 +28,8 @@ json_of text = option_and_then (λ p. if_last p.0 p.1) (value line_depth (tokens
 
 -- The line, without its line feed, is UTF-8 and one JSON value, which spells this message, valid
 -- within the limits. A message with no serial has this number as one.
-pub record IsLineOf (limits : Limits) (number : ℕ) (line : List ℕ) (order : Order) (m : MessageTree) : Type 0 where
+pub record IsLineOf (integers : Integers) (limits : Limits) (number : ℕ) (line : List ℕ) (order : Order) (m : MessageTree) : Type 0 where
   pub text : IsUtf8 line
   pub json : Json
   pub read : json_of line ≡ Some json
-  pub spelled : IsReadMessage limits number order m json
+  pub spelled : IsReadMessage integers limits number order m json

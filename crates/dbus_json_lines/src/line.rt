@@ -15,6 +15,7 @@ ghost use Rattle.dbus_json_lines.specs.declared.fault.LineFault.{LineFault as Th
 use crate::broken::broken_at;
 use crate::fault::{LineFault, NoMessage};
 use crate::places::offset_of;
+use dbus_json::Integers;
 use dbus_json_reader::{JsonReason, Unread, read_message};
 use dbus_message_model::Message;
 use dbus_value_model::{Limits, Order};
@@ -102,8 +103,9 @@ fn in_line(line: &[u8], why: Unread) -> NoMessage
 
 /// The message that a line spells, which has no line feed, and the byte order that it names. The
 /// line is one JSON value, RFC 8259, with white space anywhere between its tokens; it is an object
-/// as `json` writes it, with its members in any order. A message with no serial has this number as
-/// one. Room for texts with escapes is in the scratch, and is used again.
+/// as `json` writes it, with its members in any order and its integers of 64 bits as [`Integers`]
+/// has them. A message with no serial has this number as one. Room for texts with escapes is in the
+/// scratch, and is used again.
 ///
 /// `Refused` exactly if it spells no message that is valid within the limits, with the reason and
 /// its place: `NotUtf8` at the byte where the line is no UTF-8, `NotJson` at the token that no JSON
@@ -114,6 +116,7 @@ fn in_line(line: &[u8], why: Unread) -> NoMessage
 /// Format".
 ///
 /// ```rust
+/// use dbus_json::Integers;
 /// use dbus_json_lines::message_of_line;
 /// use dbus_message::encode;
 /// use dbus_value::Limits;
@@ -122,7 +125,9 @@ fn in_line(line: &[u8], why: Unread) -> NoMessage
 ///
 /// let line = br#"{"type":"signal","path":"/a","interface":"a.b","member":"C"}"#;
 /// let mut scratch = Scratch::new(alloc);
-/// let (order, message) = message_of_line(alloc, line, Limits::specification(), 1, &mut scratch)?;
+/// let limits = Limits::specification();
+/// let (order, message) =
+///     message_of_line(alloc, line, limits, 1, Integers::Exact, &mut scratch)?;
 /// rt.stdout().write_all(&encode(alloc, &message, order)?)?;
 /// ```
 pub fn message_of_line<A: Allocator + Copy>(
@@ -130,11 +135,13 @@ pub fn message_of_line<A: Allocator + Copy>(
     line: &[u8],
     limits: Limits,
     number: u32,
+    integers: Integers,
     scratch: &mut Scratch<A>,
 ) -> Result<(Order, Message<A>), NoMessage>
-    ensures ok { IfOk result (λ r. IsLineOf limits number line.now r.0 (message_tree r.1)) }
+    ensures ok { IfOk result (λ r.
+        IsLineOf integers limits number line.now r.0 (message_tree r.1)) }
     ensures refused { (fault : TheFault) → result ≡ Err (NoMessage.Refused fault) →
-        (order : TheOrder) (m : MessageTree) → IsLineOf limits number line.now order m → ⊥ }
+        (order : TheOrder) (m : MessageTree) → IsLineOf integers limits number line.now order m → ⊥ }
     ensures place { (fault : TheFault) → result ≡ Err (NoMessage.Refused fault) →
         IsPlaceOf line.now fault }
 {
@@ -146,7 +153,7 @@ pub fn message_of_line<A: Allocator + Copy>(
         Ok(None) => return Err(not_json(alloc, text)),
         Err(AllocError) => return Err(NoMessage::Memory),
     };
-    match read_message(alloc, &json, limits, number) {
+    match read_message(alloc, &json, limits, number, integers) {
         Ok(read) => Ok(read),
         Err(why) => Err(in_line(line, why)),
     }

@@ -10,6 +10,7 @@ use Rattle.dbus_texts.specs.Types.{TypeTree, TypeTrees, NoTypes, MoreTypes}
 use Rattle.dbus_value_model.specs.Values.{ValueTree, ValueTrees, NoValues, MoreValues, type_of, types_of}
 use Rattle.dbus_value_model.specs.ValueViews.{value_tree, value_trees_of}
 use Rattle.dbus_value_model.specs.declared.value.Value.{Value}
+use Rattle.dbus_json.specs.declared.integers.Integers.{Integers}
 use Rattle.dbus_json_reader.specs.JsonValues.{IsRead, AreElements, AreRead}
 
 -- these values, and then those
@@ -54,36 +55,36 @@ ends Whole Rest js vs going none = subst (λ (us : ValueTrees). Whole us js) (tr
 
 -- ---- elements of one type, and values of several
 
-pub split_elements : (depth : ℕ) (t : TypeTree) → Splits (IsRead depth t) (AreElements depth t) (AreElements depth t)
-split_elements depth t = record { join = join; part = part }
+pub split_elements : (integers : Integers) (depth : ℕ) (t : TypeTree) → Splits (IsRead integers depth t) (AreElements integers depth t) (AreElements integers depth t)
+split_elements integers depth t = record { join = join; part = part }
   where
-    join : (x : ValueTree) (xs : ValueTrees) (j : Json) (js : Items) → IsRead depth t x j → AreElements depth t xs js → AreElements depth t (MoreValues x xs) (item j js)
+    join : (x : ValueTree) (xs : ValueTrees) (j : Json) (js : Items) → IsRead integers depth t x j → AreElements integers depth t xs js → AreElements integers depth t (MoreValues x xs) (item j js)
     join x xs j js one more = record { spelled = (one.spelled, more.spelled); typed = (one.typed, more.typed); formed = (one.formed, more.formed) }
 
-    part : (ws : ValueTrees) (j : Json) (js : Items) → AreElements depth t ws (item j js) → (x : ValueTree) × (xs : ValueTrees) × IsRead depth t x j × AreElements depth t xs js
+    part : (ws : ValueTrees) (j : Json) (js : Items) → AreElements integers depth t ws (item j js) → (x : ValueTree) × (xs : ValueTrees) × IsRead integers depth t x j × AreElements integers depth t xs js
     part NoValues j js h = absurd h.spelled
     part (MoreValues x xs) j js h = (x, xs, record { spelled = h.spelled.0; typed = h.typed.0; formed = h.formed.0 }, record { spelled = h.spelled.1; typed = h.typed.1; formed = h.formed.1 })
 
-pub no_elements : (depth : ℕ) (t : TypeTree) → AreElements depth t NoValues no_items
-no_elements depth t = record { spelled = tt; typed = tt; formed = tt }
+pub no_elements : (integers : Integers) (depth : ℕ) (t : TypeTree) → AreElements integers depth t NoValues no_items
+no_elements integers depth t = record { spelled = tt; typed = tt; formed = tt }
 
 same_types : (x y : TypeTree) (xs ys : TypeTrees) → x ≡ y → xs ≡ ys → MoreTypes x xs ≡ MoreTypes y ys
 same_types x y xs ys e f = cc
 
-pub split_values : (depth : ℕ) (t : TypeTree) (ts : TypeTrees) → Splits (IsRead depth t) (AreRead depth (MoreTypes t ts)) (AreRead depth ts)
-split_values depth t ts = record { join = join; part = part }
+pub split_values : (integers : Integers) (depth : ℕ) (t : TypeTree) (ts : TypeTrees) → Splits (IsRead integers depth t) (AreRead integers depth (MoreTypes t ts)) (AreRead integers depth ts)
+split_values integers depth t ts = record { join = join; part = part }
   where
-    join : (x : ValueTree) (xs : ValueTrees) (j : Json) (js : Items) → IsRead depth t x j → AreRead depth ts xs js → AreRead depth (MoreTypes t ts) (MoreValues x xs) (item j js)
+    join : (x : ValueTree) (xs : ValueTrees) (j : Json) (js : Items) → IsRead integers depth t x j → AreRead integers depth ts xs js → AreRead integers depth (MoreTypes t ts) (MoreValues x xs) (item j js)
     join x xs j js one more = record { spelled = (one.spelled, more.spelled); typed = same_types _ _ _ _ one.typed more.typed; formed = (one.formed, more.formed) }
 
-    part : (ws : ValueTrees) (j : Json) (js : Items) → AreRead depth (MoreTypes t ts) ws (item j js) → (x : ValueTree) × (xs : ValueTrees) × IsRead depth t x j × AreRead depth ts xs js
+    part : (ws : ValueTrees) (j : Json) (js : Items) → AreRead integers depth (MoreTypes t ts) ws (item j js) → (x : ValueTree) × (xs : ValueTrees) × IsRead integers depth t x j × AreRead integers depth ts xs js
     part NoValues j js h = absurd h.spelled
     part (MoreValues x xs) j js h =
         let types : MoreTypes (type_of x) (types_of xs) ≡ MoreTypes t ts = h.typed in
         (x, xs, record { spelled = h.spelled.0; typed = cc; formed = h.formed.0 }, record { spelled = h.spelled.1; typed = cc; formed = h.formed.1 })
 
-pub no_values : (depth : ℕ) → AreRead depth NoTypes NoValues no_items
-no_values depth = record { spelled = tt; typed = refl; formed = tt }
+pub no_values : (integers : Integers) (depth : ℕ) → AreRead integers depth NoTypes NoValues no_items
+no_values integers depth = record { spelled = tt; typed = refl; formed = tt }
 
 -- ---- at an index
 
@@ -96,53 +97,53 @@ items_at {A} l i x within is = ap items_view (drop_more l i x within) ∙ ap (λ
 types_at : {A : Type 0} (ts : List (SigType A)) (i : ℕ) (t : SigType A) → i < length ts → t ≡ get_or ts i t → type_trees_of (drop i ts) ≡ MoreTypes (type_tree t) (type_trees_of (drop (i + 1) ts))
 types_at {A} ts i t within is = ap type_trees_of (drop_more ts i t within) ∙ ap (λ (u : SigType A). MoreTypes (type_tree u) (type_trees_of (drop (i + 1) ts))) (sym is)
 
-module _ {A B : Type 0} (depth : ℕ) (t : TypeTree) (l : List (JsonValue B)) (i : ℕ) (vs : List (Value A)) (going : IsGoing (AreElements depth t) (AreElements depth t) (items_view l) (items_view (drop i l)) vs) where
+module _ (integers : Integers) {A B : Type 0} (depth : ℕ) (t : TypeTree) (l : List (JsonValue B)) (i : ℕ) (vs : List (Value A)) (going : IsGoing (AreElements integers depth t) (AreElements integers depth t) (items_view l) (items_view (drop i l)) vs) where
   module _ (x : JsonValue B) (within : i < length l) (is : x ≡ get_or l i x) where
-    here : IsGoing (AreElements depth t) (AreElements depth t) (items_view l) (item (value_view x) (items_view (drop (i + 1) l))) vs
-    here = subst (λ (js : Items). IsGoing (AreElements depth t) (AreElements depth t) (items_view l) js vs) (items_at l i x within is) going
+    here : IsGoing (AreElements integers depth t) (AreElements integers depth t) (items_view l) (item (value_view x) (items_view (drop (i + 1) l))) vs
+    here = subst (λ (js : Items). IsGoing (AreElements integers depth t) (AreElements integers depth t) (items_view l) js vs) (items_at l i x within is) going
 
-    pub next_element : (v : Value A) (all : List (Value A)) → all ≡ vs ++ v ∷ [] → IsRead depth t (value_tree v) (value_view x) →
-        IsGoing (AreElements depth t) (AreElements depth t) (items_view l) (items_view (drop (i + 1) l)) all
-    next_element v all pushed one = goes_on _ _ _ _ (split_elements depth t) _ _ _ _ here v all pushed one
+    pub next_element : (v : Value A) (all : List (Value A)) → all ≡ vs ++ v ∷ [] → IsRead integers depth t (value_tree v) (value_view x) →
+        IsGoing (AreElements integers depth t) (AreElements integers depth t) (items_view l) (items_view (drop (i + 1) l)) all
+    next_element v all pushed one = goes_on _ _ _ _ (split_elements integers depth t) _ _ _ _ here v all pushed one
 
-    pub no_element : ((v : ValueTree) → IsRead depth t v (value_view x) → ⊥) → (xs : ValueTrees) → AreElements depth t xs (items_view l) → ⊥
-    no_element none xs h = stops _ _ _ _ (split_elements depth t) _ _ _ _ here none xs h
+    pub no_element : ((v : ValueTree) → IsRead integers depth t v (value_view x) → ⊥) → (xs : ValueTrees) → AreElements integers depth t xs (items_view l) → ⊥
+    no_element none xs h = stops _ _ _ _ (split_elements integers depth t) _ _ _ _ here none xs h
 
-  pub all_elements : length l ≤ i → AreElements depth t (value_trees_of vs) (items_view l)
+  pub all_elements : length l ≤ i → AreElements integers depth t (value_trees_of vs) (items_view l)
   all_elements over =
-      let done = subst (λ (js : Items). IsGoing (AreElements depth t) (AreElements depth t) (items_view l) js vs) (at_drop_all items_view l i over) going in
-      ends _ _ _ _ done (no_elements depth t)
+      let done = subst (λ (js : Items). IsGoing (AreElements integers depth t) (AreElements integers depth t) (items_view l) js vs) (at_drop_all items_view l i over) going in
+      ends _ _ _ _ done (no_elements integers depth t)
 
-abbrev Left : {A : Type 0} → ℕ → List (SigType A) → ℕ → ValueTrees → Items → Type 0
-Left depth ts i = AreRead depth (type_trees_of (drop i ts))
+abbrev Left : (integers : Integers) {A : Type 0} → ℕ → List (SigType A) → ℕ → ValueTrees → Items → Type 0
+Left integers depth ts i = AreRead integers depth (type_trees_of (drop i ts))
 
-module _ {A B C : Type 0} (depth : ℕ) (ts : List (SigType C)) (l : List (JsonValue B)) (i : ℕ) (vs : List (Value A)) (going : IsGoing (AreRead depth (type_trees_of ts)) (Left depth ts i) (items_view l) (items_view (drop i l)) vs) (same : length l ≡ length ts) where
+module _ (integers : Integers) {A B C : Type 0} (depth : ℕ) (ts : List (SigType C)) (l : List (JsonValue B)) (i : ℕ) (vs : List (Value A)) (going : IsGoing (AreRead integers depth (type_trees_of ts)) (Left integers depth ts i) (items_view l) (items_view (drop i l)) vs) (same : length l ≡ length ts) where
   module _ (x : JsonValue B) (t : SigType C) (within : i < length l) (is : x ≡ get_or l i x) (typed : t ≡ get_or ts i t) where
-    at : IsGoing (AreRead depth (type_trees_of ts)) (AreRead depth (MoreTypes (type_tree t) (type_trees_of (drop (i + 1) ts)))) (items_view l) (item (value_view x) (items_view (drop (i + 1) l))) vs
+    at : IsGoing (AreRead integers depth (type_trees_of ts)) (AreRead integers depth (MoreTypes (type_tree t) (type_trees_of (drop (i + 1) ts)))) (items_view l) (item (value_view x) (items_view (drop (i + 1) l))) vs
     at =
-        let types = subst (λ (us : TypeTrees). IsGoing (AreRead depth (type_trees_of ts)) (AreRead depth us) (items_view l) (items_view (drop i l)) vs) (types_at ts i t (omega (arith, within, same)) typed) going in
-        subst (λ (js : Items). IsGoing (AreRead depth (type_trees_of ts)) (AreRead depth (MoreTypes (type_tree t) (type_trees_of (drop (i + 1) ts)))) (items_view l) js vs) (items_at l i x within is) types
+        let types = subst (λ (us : TypeTrees). IsGoing (AreRead integers depth (type_trees_of ts)) (AreRead integers depth us) (items_view l) (items_view (drop i l)) vs) (types_at ts i t (omega (arith, within, same)) typed) going in
+        subst (λ (js : Items). IsGoing (AreRead integers depth (type_trees_of ts)) (AreRead integers depth (MoreTypes (type_tree t) (type_trees_of (drop (i + 1) ts)))) (items_view l) js vs) (items_at l i x within is) types
 
-    pub next_value : (v : Value A) (all : List (Value A)) → all ≡ vs ++ v ∷ [] → IsRead depth (type_tree t) (value_tree v) (value_view x) →
-        IsGoing (AreRead depth (type_trees_of ts)) (Left depth ts (i + 1)) (items_view l) (items_view (drop (i + 1) l)) all
-    next_value v all pushed one = goes_on _ _ _ _ (split_values depth (type_tree t) (type_trees_of (drop (i + 1) ts))) _ _ _ _ at v all pushed one
+    pub next_value : (v : Value A) (all : List (Value A)) → all ≡ vs ++ v ∷ [] → IsRead integers depth (type_tree t) (value_tree v) (value_view x) →
+        IsGoing (AreRead integers depth (type_trees_of ts)) (Left integers depth ts (i + 1)) (items_view l) (items_view (drop (i + 1) l)) all
+    next_value v all pushed one = goes_on _ _ _ _ (split_values integers depth (type_tree t) (type_trees_of (drop (i + 1) ts))) _ _ _ _ at v all pushed one
 
-    pub no_value : ((v : ValueTree) → IsRead depth (type_tree t) v (value_view x) → ⊥) → (xs : ValueTrees) → AreRead depth (type_trees_of ts) xs (items_view l) → ⊥
-    no_value none xs h = stops _ _ _ _ (split_values depth (type_tree t) (type_trees_of (drop (i + 1) ts))) _ _ _ _ at none xs h
+    pub no_value : ((v : ValueTree) → IsRead integers depth (type_tree t) v (value_view x) → ⊥) → (xs : ValueTrees) → AreRead integers depth (type_trees_of ts) xs (items_view l) → ⊥
+    no_value none xs h = stops _ _ _ _ (split_values integers depth (type_tree t) (type_trees_of (drop (i + 1) ts))) _ _ _ _ at none xs h
 
-  pub all_values : length l ≤ i → AreRead depth (type_trees_of ts) (value_trees_of vs) (items_view l)
+  pub all_values : length l ≤ i → AreRead integers depth (type_trees_of ts) (value_trees_of vs) (items_view l)
   all_values over =
-      let types = subst (λ (us : TypeTrees). IsGoing (AreRead depth (type_trees_of ts)) (AreRead depth us) (items_view l) (items_view (drop i l)) vs) (at_drop_all type_trees_of ts i (omega (arith, over, same))) going in
-      let done = subst (λ (js : Items). IsGoing (AreRead depth (type_trees_of ts)) (AreRead depth NoTypes) (items_view l) js vs) (at_drop_all items_view l i over) types in
-      ends _ _ _ _ done (no_values depth)
+      let types = subst (λ (us : TypeTrees). IsGoing (AreRead integers depth (type_trees_of ts)) (AreRead integers depth us) (items_view l) (items_view (drop i l)) vs) (at_drop_all type_trees_of ts i (omega (arith, over, same))) going in
+      let done = subst (λ (js : Items). IsGoing (AreRead integers depth (type_trees_of ts)) (AreRead integers depth NoTypes) (items_view l) js vs) (at_drop_all items_view l i over) types in
+      ends _ _ _ _ done (no_values integers depth)
 
 -- as many values as types
-pub one_each : {B C : Type 0} (depth : ℕ) (ts : List (SigType C)) (xs : ValueTrees) (l : List (JsonValue B)) → AreRead depth (type_trees_of ts) xs (items_view l) → length l ≡ length ts
-one_each depth [] xs [] h = refl
-one_each depth [] NoValues (x ∷ l) h = absurd h.spelled
-one_each depth [] (MoreValues v xs) (x ∷ l) h = absurd (let no : MoreTypes (type_of v) (types_of xs) ≡ NoTypes = h.typed in cc)
-one_each depth (t ∷ ts) NoValues l h = absurd (let no : NoTypes ≡ MoreTypes (type_tree t) (type_trees_of ts) = h.typed in cc)
-one_each depth (t ∷ ts) (MoreValues v xs) [] h = absurd h.spelled
-one_each depth (t ∷ ts) (MoreValues v xs) (x ∷ l) h =
-    let p = (split_values depth (type_tree t) (type_trees_of ts)).part (MoreValues v xs) (value_view x) (items_view l) h in
-    ap suc (one_each depth ts p.1 l p.3)
+pub one_each : (integers : Integers) {B C : Type 0} (depth : ℕ) (ts : List (SigType C)) (xs : ValueTrees) (l : List (JsonValue B)) → AreRead integers depth (type_trees_of ts) xs (items_view l) → length l ≡ length ts
+one_each integers depth [] xs [] h = refl
+one_each integers depth [] NoValues (x ∷ l) h = absurd h.spelled
+one_each integers depth [] (MoreValues v xs) (x ∷ l) h = absurd (let no : MoreTypes (type_of v) (types_of xs) ≡ NoTypes = h.typed in cc)
+one_each integers depth (t ∷ ts) NoValues l h = absurd (let no : NoTypes ≡ MoreTypes (type_tree t) (type_trees_of ts) = h.typed in cc)
+one_each integers depth (t ∷ ts) (MoreValues v xs) [] h = absurd h.spelled
+one_each integers depth (t ∷ ts) (MoreValues v xs) (x ∷ l) h =
+    let p = (split_values integers depth (type_tree t) (type_trees_of ts)).part (MoreValues v xs) (value_view x) (items_view l) h in
+    ap suc (one_each integers depth ts p.1 l p.3)

@@ -8,6 +8,7 @@ use Rattle.dbus_message_model.specs.Messages.{FieldTree, want, is_known}
 use Rattle.dbus_value_model.specs.Values.{ValueTree}
 use Rattle.dbus_build.specs.BuildFaults.{type_wanted}
 use Rattle.dbus_show.specs.ShownMessages.{field_name}
+use Rattle.dbus_json.specs.declared.integers.Integers.{Integers}
 use Rattle.dbus_json_reader.specs.JsonParts.{IsKnownField}
 use Rattle.dbus_json_reader.specs.JsonValues.{IsRead}
 use Rattle.dbus_json_reader.proofs.OneValue.{one_value}
@@ -91,8 +92,8 @@ pub same_field : (f g : FieldTree) → f.code ≡ g.code → f.value ≡ g.value
 same_field f g code value = ap (λ (c : ℕ). record { code = c; value = f.value }) code ∙ ap (λ (v : ValueTree). record { code = g.code; value = v }) value
 
 -- no member spells two known fields
-pub one_known : (depth other : ℕ) (f g : FieldTree) (m : List ℕ × Json) → IsKnownField depth f m → IsKnownField other g m → f ≡ g
-one_known depth other f g m a b =
+pub one_known : (integers : Integers) (depth other : ℕ) (f g : FieldTree) (m : List ℕ × Json) → IsKnownField integers depth f m → IsKnownField integers other g m → f ≡ g
+one_known integers depth other f g m a b =
     let code = one_code f.code g.code a.known b.known (sym a.named ∙ b.named) in
     let type = same_Some a.type b.type (sym a.wanted ∙ ap (λ (c : ℕ). type_wanted (want c)) code ∙ b.wanted) in
-    same_field f g code (one_value depth other b.type f.value g.value m.1 (subst (λ (t : TypeTree). IsRead depth t f.value m.1) type a.read) b.read)
+    same_field f g code (one_value integers depth other b.type f.value g.value m.1 (subst (λ (t : TypeTree). IsRead integers depth t f.value m.1) type a.read) b.read)

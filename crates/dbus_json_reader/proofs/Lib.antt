@@ -6,6 +6,7 @@ mod Decimals
 mod OneByte
 mod Bits
 mod Narrow
+mod Wide
 pub mod Going
 pub mod Shapes
 pub mod MemberNames

@@ -10,6 +10,7 @@ use Rattle.json.specs.Json.{Json}
 use Rattle.dbus_texts.specs.Types.{TypeTree}
 use Rattle.dbus_message_model.specs.Messages.{FieldTree, is_known}
 use Rattle.dbus_value_model.specs.Values.{type_of}
+use Rattle.dbus_json.specs.declared.integers.Integers.{Integers}
 use Rattle.dbus_json_reader.specs.JsonMessages.{SpellsPlace}
 use Rattle.dbus_json_reader.specs.JsonParts.{IsOtherField, AreAllKnown}
 use Rattle.dbus_json_reader.specs.JsonValues.{IsRead}
@@ -19,11 +20,11 @@ use Rattle.dbus_json_reader.proofs.Shapes.{strings_same, one_type}
 
 -- These fields, of which the first has this place among all, are the known ones and those of these
 -- objects.
-abbrev pub Mixed : (depth n : ℕ) (ks : List FieldTree) (js : List Json) (fs : List FieldTree) → Type 0
-Mixed depth n ks js [] = (ks ≡ []) × (js ≡ [])
-Mixed depth n ks js (f ∷ fs) =
-    ((more : List FieldTree) × (is_known f.code ≡ true) × (ks ≡ f ∷ more) × Mixed depth (n + 1) more js fs)
-    ⊎ ((j : Json) × (more : List Json) × (js ≡ j ∷ more) × IsOtherField depth (n + length ks) n f j × Mixed depth (n + 1) ks more fs)
+abbrev pub Mixed : (integers : Integers) (depth n : ℕ) (ks : List FieldTree) (js : List Json) (fs : List FieldTree) → Type 0
+Mixed integers depth n ks js [] = (ks ≡ []) × (js ≡ [])
+Mixed integers depth n ks js (f ∷ fs) =
+    ((more : List FieldTree) × (is_known f.code ≡ true) × (ks ≡ f ∷ more) × Mixed integers depth (n + 1) more js fs)
+    ⊎ ((j : Json) × (more : List Json) × (js ≡ j ∷ more) × IsOtherField integers depth (n + length ks) n f j × Mixed integers depth (n + 1) ks more fs)
 
 -- ---- one object is of one field
 
@@ -34,18 +35,18 @@ one_place : (e p q : ℕ) (told : Option Json) → e < 2 ^ 64 → p ≤ e → q 
 one_place e p q None most h k a b = not_below p e h a ∙ sym (not_below q e k b)
 one_place e p q (Some j) most h k a b = decimal_injective p q (omega (arith, most, h)) (omega (arith, most, k)) (numbers_same _ _ j a b)
 
-pub one_other : (depth e p q : ℕ) (f g : FieldTree) (j : Json) → e < 2 ^ 64 → IsOtherField depth e p f j → IsOtherField depth e q g j → (p ≡ q) × (f ≡ g)
-one_other depth e p q f g j most a b =
+pub one_other : (integers : Integers) (depth e p q : ℕ) (f g : FieldTree) (j : Json) → e < 2 ^ 64 → IsOtherField integers depth e p f j → IsOtherField integers depth e q g j → (p ≡ q) × (f ≡ g)
+one_other integers depth e p q f g j most a b =
     let place = one_place e p q (get (codes "place") j) most a.within b.within a.spelled.placed b.spelled.placed in
     let coded = a.formed.code in
     let other = b.formed.code in
     let code : f.code ≡ g.code = decimal_injective f.code g.code (omega (arith, coded)) (omega (arith, other)) (numbers_same _ _ _ refl (same_Some _ _ (sym a.spelled.code ∙ b.spelled.code))) in
     let type : type_of f.value ≡ type_of g.value = one_type _ _ (strings_same _ _ (same_Some _ _ (sym a.spelled.type ∙ b.spelled.type))) in
     let value : a.spelled.value ≡ b.spelled.value = same_Some _ _ (sym a.spelled.held ∙ b.spelled.held) in
-    let first : IsRead depth (type_of f.value) f.value a.spelled.value = record { spelled = a.spelled.spelled; typed = refl; formed = a.formed.formed } in
-    let second : IsRead depth (type_of g.value) g.value b.spelled.value = record { spelled = b.spelled.spelled; typed = refl; formed = b.formed.formed } in
-    let typed = subst (λ (t : TypeTree). IsRead depth t f.value a.spelled.value) type first in
-    (place, same_field f g code (one_value depth depth (type_of g.value) f.value g.value b.spelled.value (subst (λ (i : Json). IsRead depth (type_of g.value) f.value i) value typed) second))
+    let first : IsRead integers depth (type_of f.value) f.value a.spelled.value = record { spelled = a.spelled.spelled; typed = refl; formed = a.formed.formed } in
+    let second : IsRead integers depth (type_of g.value) g.value b.spelled.value = record { spelled = b.spelled.spelled; typed = refl; formed = b.formed.formed } in
+    let typed = subst (λ (t : TypeTree). IsRead integers depth t f.value a.spelled.value) type first in
+    (place, same_field f g code (one_value integers depth depth (type_of g.value) f.value g.value b.spelled.value (subst (λ (i : Json). IsRead integers depth (type_of g.value) f.value i) value typed) second))
 
 -- ---- from a place on
 
@@ -59,47 +60,47 @@ known_after [] behind h = (tt, h)
 known_after (a ∷ ahead) behind h = let more = known_after ahead behind h.1 in ((h.0, more.0), more.1)
 
 -- no object is left
-pub all_known : (depth n : ℕ) (ks : List FieldTree) → AreAllKnown ks → Mixed depth n ks [] ks
-all_known depth n [] h = (refl, refl)
-all_known depth n (k ∷ ks) h = inl (ks, h.0, refl, all_known depth (n + 1) ks h.1)
+pub all_known : (integers : Integers) (depth n : ℕ) (ks : List FieldTree) → AreAllKnown ks → Mixed integers depth n ks [] ks
+all_known integers depth n [] h = (refl, refl)
+all_known integers depth n (k ∷ ks) h = inl (ks, h.0, refl, all_known integers depth (n + 1) ks h.1)
 
 none_left : (j : Json) (js : List Json) → [] ≡ j ∷ js → ⊥
 none_left j js e = cc
 
-pub only_known : (depth n : ℕ) (ks fs : List FieldTree) → Mixed depth n ks [] fs → fs ≡ ks
-only_known depth n ks [] h = sym h.0
-only_known depth n ks (f ∷ fs) (inl h) = ap (λ (gs : List FieldTree). f ∷ gs) (only_known depth (n + 1) h.0 fs h.3) ∙ sym h.2
-only_known depth n ks (f ∷ fs) (inr h) = absurd (none_left _ _ h.2)
+pub only_known : (integers : Integers) (depth n : ℕ) (ks fs : List FieldTree) → Mixed integers depth n ks [] fs → fs ≡ ks
+only_known integers depth n ks [] h = sym h.0
+only_known integers depth n ks (f ∷ fs) (inl h) = ap (λ (gs : List FieldTree). f ∷ gs) (only_known integers depth (n + 1) h.0 fs h.3) ∙ sym h.2
+only_known integers depth n ks (f ∷ fs) (inr h) = absurd (none_left _ _ h.2)
 
 -- the next object is of a field behind some known ones
-through : (depth n e : ℕ) (ahead behind : List FieldTree) (f : FieldTree) (j : Json) (js : List Json) (fs : List FieldTree) → AreAllKnown ahead → n + length (ahead ++ behind) ≡ e → IsOtherField depth e (n + length ahead) f j
-    → Mixed depth (n + length ahead + 1) behind js fs → Mixed depth n (ahead ++ behind) (j ∷ js) (ahead ++ f ∷ fs)
-through depth n e [] behind f j js fs known end one h =
+through : (integers : Integers) (depth n e : ℕ) (ahead behind : List FieldTree) (f : FieldTree) (j : Json) (js : List Json) (fs : List FieldTree) → AreAllKnown ahead → n + length (ahead ++ behind) ≡ e → IsOtherField integers depth e (n + length ahead) f j
+    → Mixed integers depth (n + length ahead + 1) behind js fs → Mixed integers depth n (ahead ++ behind) (j ∷ js) (ahead ++ f ∷ fs)
+through integers depth n e [] behind f j js fs known end one h =
     let at : n + 0 ≡ n = omega arith in
-    inr (j, js, refl, subst (λ (k : ℕ). IsOtherField depth k n f j) (sym end) (subst (λ (k : ℕ). IsOtherField depth e k f j) at one), subst (λ (k : ℕ). Mixed depth (k + 1) behind js fs) at h)
-through depth n e (a ∷ ahead) behind f j js fs known end one h =
+    inr (j, js, refl, subst (λ (k : ℕ). IsOtherField integers depth k n f j) (sym end) (subst (λ (k : ℕ). IsOtherField integers depth e k f j) at one), subst (λ (k : ℕ). Mixed integers depth (k + 1) behind js fs) at h)
+through integers depth n e (a ∷ ahead) behind f j js fs known end one h =
     let at : n + suc (length ahead) ≡ n + 1 + length ahead = omega arith in
     let long : n + suc (length (ahead ++ behind)) ≡ e = end in
-    inl (ahead ++ behind, known.0, refl, through depth (n + 1) e ahead behind f j js fs known.1 (omega (arith, long)) (subst (λ (k : ℕ). IsOtherField depth e k f j) at one) (subst (λ (k : ℕ). Mixed depth (k + 1) behind js fs) at h))
+    inl (ahead ++ behind, known.0, refl, through integers depth (n + 1) e ahead behind f j js fs known.1 (omega (arith, long)) (subst (λ (k : ℕ). IsOtherField integers depth e k f j) at one) (subst (λ (k : ℕ). Mixed integers depth (k + 1) behind js fs) at h))
 
 -- where the field of the next object is
-pub record IsNext (depth n : ℕ) (ks : List FieldTree) (j : Json) (js : List Json) (fs : List FieldTree) : Type 0 where
+pub record IsNext (integers : Integers) (depth n : ℕ) (ks : List FieldTree) (j : Json) (js : List Json) (fs : List FieldTree) : Type 0 where
   pub ahead : List FieldTree
   pub behind : List FieldTree
   pub f : FieldTree
   pub more : List FieldTree
   pub known : ks ≡ ahead ++ behind
   pub all : fs ≡ ahead ++ f ∷ more
-  pub one : IsOtherField depth (n + length ks) (n + length ahead) f j
-  pub rest : Mixed depth (n + length ahead + 1) behind js more
+  pub one : IsOtherField integers depth (n + length ks) (n + length ahead) f j
+  pub rest : Mixed integers depth (n + length ahead + 1) behind js more
 
 same_next : (i j : Json) (is js : List Json) → i ∷ is ≡ j ∷ js → (i ≡ j) × (is ≡ js)
 same_next i j is js e = (cc, cc)
 
-pub next_object : (depth n : ℕ) (ks : List FieldTree) (j : Json) (js : List Json) (fs : List FieldTree) → Mixed depth n ks (j ∷ js) fs → IsNext depth n ks j js fs
-next_object depth n ks j js [] h = absurd (none_left _ _ (sym h.1))
-next_object depth n ks j js (f ∷ fs) (inl h) =
-    let r = next_object depth (n + 1) h.0 j js fs h.3 in
+pub next_object : (integers : Integers) (depth n : ℕ) (ks : List FieldTree) (j : Json) (js : List Json) (fs : List FieldTree) → Mixed integers depth n ks (j ∷ js) fs → IsNext integers depth n ks j js fs
+next_object integers depth n ks j js [] h = absurd (none_left _ _ (sym h.1))
+next_object integers depth n ks j js (f ∷ fs) (inl h) =
+    let r = next_object integers depth (n + 1) h.0 j js fs h.3 in
     let long : length ks ≡ suc (length h.0) = ap length h.2 in
     let at : n + 1 + length r.ahead ≡ n + suc (length r.ahead) = omega arith in
     let end : n + 1 + length h.0 ≡ n + length ks = omega (arith, long) in
@@ -110,10 +111,10 @@ next_object depth n ks j js (f ∷ fs) (inl h) =
       more = r.more;
       known = h.2 ∙ ap (λ (gs : List FieldTree). f ∷ gs) r.known;
       all = ap (λ (gs : List FieldTree). f ∷ gs) r.all;
-      one = subst (λ (k : ℕ). IsOtherField depth (n + length ks) k r.f j) at (subst (λ (k : ℕ). IsOtherField depth k (n + 1 + length r.ahead) r.f j) end r.one);
-      rest = subst (λ (k : ℕ). Mixed depth (k + 1) r.behind js r.more) at r.rest;
+      one = subst (λ (k : ℕ). IsOtherField integers depth (n + length ks) k r.f j) at (subst (λ (k : ℕ). IsOtherField integers depth k (n + 1 + length r.ahead) r.f j) end r.one);
+      rest = subst (λ (k : ℕ). Mixed integers depth (k + 1) r.behind js r.more) at r.rest;
     }
-next_object depth n ks j js (f ∷ fs) (inr h) =
+next_object integers depth n ks j js (f ∷ fs) (inr h) =
     let same = same_next j h.0 js h.1 h.2 in
     let at : n ≡ n + 0 = omega arith in
     record {
@@ -123,22 +124,22 @@ next_object depth n ks j js (f ∷ fs) (inr h) =
       more = fs;
       known = refl;
       all = refl;
-      one = subst (λ (k : ℕ). IsOtherField depth (n + length ks) k f j) at (subst (λ (i : Json). IsOtherField depth (n + length ks) n f i) (sym same.0) h.3);
-      rest = subst (λ (k : ℕ). Mixed depth (k + 1) ks js fs) at (subst (λ (is : List Json). Mixed depth (n + 1) ks is fs) (sym same.1) h.4);
+      one = subst (λ (k : ℕ). IsOtherField integers depth (n + length ks) k f j) at (subst (λ (i : Json). IsOtherField integers depth (n + length ks) n f i) (sym same.0) h.3);
+      rest = subst (λ (k : ℕ). Mixed integers depth (k + 1) ks js fs) at (subst (λ (is : List Json). Mixed integers depth (n + 1) ks is fs) (sym same.1) h.4);
     }
 
 -- ---- ahead far ahead the objects have been read
 
 -- Of all fields of these known ones and these objects, the first `next` are those of `fs`; what is
 -- left are known ones, and the fields of the rest of the objects.
-pub record IsMerging (depth : ℕ) (known : List FieldTree) (js : List Json) (next : ℕ) (fs : List FieldTree) (rest : List Json) : Type 0 where
+pub record IsMerging (integers : Integers) (depth : ℕ) (known : List FieldTree) (js : List Json) (next : ℕ) (fs : List FieldTree) (rest : List Json) : Type 0 where
   pub left : AreAllKnown (drop next fs)
   pub within : next ≤ length fs
-  pub fits : (gs : List FieldTree) → Mixed depth next (drop next fs) rest gs → Mixed depth 0 known js (take next fs ++ gs)
-  pub only : (gs : List FieldTree) → Mixed depth 0 known js gs → (hs : List FieldTree) × (gs ≡ take next fs ++ hs) × Mixed depth next (drop next fs) rest hs
+  pub fits : (gs : List FieldTree) → Mixed integers depth next (drop next fs) rest gs → Mixed integers depth 0 known js (take next fs ++ gs)
+  pub only : (gs : List FieldTree) → Mixed integers depth 0 known js gs → (hs : List FieldTree) × (gs ≡ take next fs ++ hs) × Mixed integers depth next (drop next fs) rest hs
 
-pub begins : (depth : ℕ) (known : List FieldTree) (js : List Json) → AreAllKnown known → IsMerging depth known js 0 known js
-begins depth known js h = record { left = h; within = omega arith; fits = λ gs m. m; only = λ gs m. (gs, refl, m) }
+pub begins : (integers : Integers) (depth : ℕ) (known : List FieldTree) (js : List Json) → AreAllKnown known → IsMerging integers depth known js 0 known js
+begins integers depth known js h = record { left = h; within = omega arith; fits = λ gs m. m; only = λ gs m. (gs, refl, m) }
 
 -- a row cut at a place from which on some are known
 record IsCut (n p : ℕ) (fs : List FieldTree) : Type 0 where
@@ -195,32 +196,32 @@ same_length (a ∷ ahead) (c ∷ cs) behind ds h e =
     let more = same_length ahead cs behind ds (omega (arith, h)) later in
     (ap (λ (k : FieldTree). k ∷ ahead) first ∙ ap (λ (gs : List FieldTree). c ∷ gs) more.0, more.1)
 
-module _ (depth : ℕ) (known : List FieldTree) (js : List Json) (next : ℕ) (fs : List FieldTree) (j : Json) (rest : List Json) (going : IsMerging depth known js next fs (j ∷ rest)) where
+module _ (integers : Integers) (depth : ℕ) (known : List FieldTree) (js : List Json) (next : ℕ) (fs : List FieldTree) (j : Json) (rest : List Json) (going : IsMerging integers depth known js next fs (j ∷ rest)) where
   ends_at : next + length (drop next fs) ≡ length fs
   ends_at = let within = going.within in omega (arith, within, length-drop next fs)
 
-  next_of : (gs : List FieldTree) → Mixed depth 0 known js gs → (hs : List FieldTree) × (gs ≡ take next fs ++ hs) × IsNext depth next (drop next fs) j rest hs
-  next_of gs h = let r = going.only gs h in (r.0, r.1, next_object depth next (drop next fs) j rest r.0 r.2)
+  next_of : (gs : List FieldTree) → Mixed integers depth 0 known js gs → (hs : List FieldTree) × (gs ≡ take next fs ++ hs) × IsNext integers depth next (drop next fs) j rest hs
+  next_of gs h = let r = going.only gs h in (r.0, r.1, next_object integers depth next (drop next fs) j rest r.0 r.2)
 
   -- the object is of no field
-  pub no_field : ((place : ℕ) (f : FieldTree) → IsOtherField depth (length fs) place f j → ⊥) → (gs : List FieldTree) → Mixed depth 0 known js gs → ⊥
+  pub no_field : ((place : ℕ) (f : FieldTree) → IsOtherField integers depth (length fs) place f j → ⊥) → (gs : List FieldTree) → Mixed integers depth 0 known js gs → ⊥
   no_field none gs h =
       let r = (next_of gs h).2 in
-      none (next + length r.ahead) r.f (subst (λ (e : ℕ). IsOtherField depth e (next + length r.ahead) r.f j) ends_at r.one)
+      none (next + length r.ahead) r.f (subst (λ (e : ℕ). IsOtherField integers depth e (next + length r.ahead) r.f j) ends_at r.one)
 
-  module _ (p : ℕ) (f : FieldTree) (few : length fs < 2 ^ 64) (one : IsOtherField depth (length fs) p f j) where
+  module _ (p : ℕ) (f : FieldTree) (few : length fs < 2 ^ 64) (one : IsOtherField integers depth (length fs) p f j) where
     -- it is of this field
-    placed : (gs : List FieldTree) → Mixed depth 0 known js gs → (hs : List FieldTree) × (gs ≡ take next fs ++ hs) × (r : IsNext depth next (drop next fs) j rest hs) × (next + length r.ahead ≡ p) × (r.f ≡ f)
+    placed : (gs : List FieldTree) → Mixed integers depth 0 known js gs → (hs : List FieldTree) × (gs ≡ take next fs ++ hs) × (r : IsNext integers depth next (drop next fs) j rest hs) × (next + length r.ahead ≡ p) × (r.f ≡ f)
     placed gs h =
         let r = next_of gs h in
-        let same = one_other depth (length fs) (next + length r.2.ahead) p r.2.f f j few (subst (λ (e : ℕ). IsOtherField depth e (next + length r.2.ahead) r.2.f j) ends_at r.2.one) one in
+        let same = one_other integers depth (length fs) (next + length r.2.ahead) p r.2.f f j few (subst (λ (e : ℕ). IsOtherField integers depth e (next + length r.2.ahead) r.2.f j) ends_at r.2.one) one in
         (r.0, r.1, r.2, same.0, same.1)
 
     -- and that has a place before others that are read
-    pub too_low : p < next → (gs : List FieldTree) → Mixed depth 0 known js gs → ⊥
+    pub too_low : p < next → (gs : List FieldTree) → Mixed integers depth 0 known js gs → ⊥
     too_low low gs h = let r = placed gs h in let at = r.3 in omega (arith, low, at)
 
-    pub goes_on : next ≤ p → IsMerging depth known js (p + 1) (insert fs p f) rest
+    pub goes_on : next ≤ p → IsMerging integers depth known js (p + 1) (insert fs p f) rest
     goes_on le =
         let within = one.within in
         let c = cut_at next p fs le within in
@@ -234,11 +235,11 @@ module _ (depth : ℕ) (known : List FieldTree) (js : List Json) (next : ℕ) (f
           left = subst AreAllKnown (sym dropped) known_parts.1;
           within = omega (arith, within, size);
           fits = λ gs h.
-              let here : Mixed depth (next + length c.ahead + 1) c.behind rest gs = subst (λ (n : ℕ). Mixed depth (n + 1) c.behind rest gs) (sym long) (subst (λ (ks : List FieldTree). Mixed depth (p + 1) ks rest gs) dropped h) in
-              let at : IsOtherField depth (length fs) (next + length c.ahead) f j = subst (λ (n : ℕ). IsOtherField depth (length fs) n f j) (sym long) one in
-              let all = going.fits (c.ahead ++ f ∷ gs) (subst (λ (ks : List FieldTree). Mixed depth next ks (j ∷ rest) (c.ahead ++ f ∷ gs)) (sym c.all) (through depth next (length fs) c.ahead c.behind f j rest gs known_parts.0 full at here)) in
+              let here : Mixed integers depth (next + length c.ahead + 1) c.behind rest gs = subst (λ (n : ℕ). Mixed integers depth (n + 1) c.behind rest gs) (sym long) (subst (λ (ks : List FieldTree). Mixed integers depth (p + 1) ks rest gs) dropped h) in
+              let at : IsOtherField integers depth (length fs) (next + length c.ahead) f j = subst (λ (n : ℕ). IsOtherField integers depth (length fs) n f j) (sym long) one in
+              let all = going.fits (c.ahead ++ f ∷ gs) (subst (λ (ks : List FieldTree). Mixed integers depth next ks (j ∷ rest) (c.ahead ++ f ∷ gs)) (sym c.all) (through integers depth next (length fs) c.ahead c.behind f j rest gs known_parts.0 full at here)) in
               let is : take next fs ++ (c.ahead ++ f ∷ gs) ≡ take (p + 1) (insert fs p f) ++ gs = sym (append_assoc (take next fs) c.ahead (f ∷ gs)) ∙ ap (λ (ks : List FieldTree). ks ++ f ∷ gs) (sym c.front) ∙ sym (append_assoc (take p fs) (f ∷ []) gs) ∙ ap (λ (ks : List FieldTree). ks ++ gs) (sym taken) in
-              subst (Mixed depth 0 known js) is all;
+              subst (Mixed integers depth 0 known js) is all;
           only = λ gs h.
               let r = placed gs h in
               let at = r.3 in
@@ -246,16 +247,16 @@ module _ (depth : ℕ) (known : List FieldTree) (js : List Json) (next : ℕ) (f
               let is : gs ≡ take (p + 1) (insert fs p f) ++ r.2.more =
               r.1 ∙ ap (λ (ks : List FieldTree). take next fs ++ ks) (r.2.all ∙ ap (λ (ks : List FieldTree). ks ++ r.2.f ∷ r.2.more) parts.0 ∙ ap (λ (k : FieldTree). c.ahead ++ k ∷ r.2.more) r.4)
               ∙ sym (append_assoc (take next fs) c.ahead (f ∷ r.2.more)) ∙ ap (λ (ks : List FieldTree). ks ++ f ∷ r.2.more) (sym c.front) ∙ sym (append_assoc (take p fs) (f ∷ []) r.2.more) ∙ ap (λ (ks : List FieldTree). ks ++ r.2.more) (sym taken) in
-              let here = subst (λ (n : ℕ). Mixed depth (n + 1) r.2.behind rest r.2.more) at r.2.rest in
-              (r.2.more, is, subst (λ (ks : List FieldTree). Mixed depth (p + 1) ks rest r.2.more) (parts.1 ∙ sym dropped) here);
+              let here = subst (λ (n : ℕ). Mixed integers depth (n + 1) r.2.behind rest r.2.more) at r.2.rest in
+              (r.2.more, is, subst (λ (ks : List FieldTree). Mixed integers depth (p + 1) ks rest r.2.more) (parts.1 ∙ sym dropped) here);
         }
 
 -- all objects have been read
-module _ (depth : ℕ) (known : List FieldTree) (js : List Json) (next : ℕ) (fs : List FieldTree) (going : IsMerging depth known js next fs []) where
-  pub merged : Mixed depth 0 known js fs
-  merged = subst (Mixed depth 0 known js) (take-append-drop next fs) (going.fits (drop next fs) (all_known depth next (drop next fs) going.left))
+module _ (integers : Integers) (depth : ℕ) (known : List FieldTree) (js : List Json) (next : ℕ) (fs : List FieldTree) (going : IsMerging integers depth known js next fs []) where
+  pub merged : Mixed integers depth 0 known js fs
+  merged = subst (Mixed integers depth 0 known js) (take-append-drop next fs) (going.fits (drop next fs) (all_known integers depth next (drop next fs) going.left))
 
-  pub alone : (gs : List FieldTree) → Mixed depth 0 known js gs → gs ≡ fs
+  pub alone : (gs : List FieldTree) → Mixed integers depth 0 known js gs → gs ≡ fs
   alone gs h =
       let r = going.only gs h in
-      r.1 ∙ ap (λ (ks : List FieldTree). take next fs ++ ks) (only_known depth next (drop next fs) r.0 r.2) ∙ take-append-drop next fs
+      r.1 ∙ ap (λ (ks : List FieldTree). take next fs ++ ks) (only_known integers depth next (drop next fs) r.0 r.2) ∙ take-append-drop next fs

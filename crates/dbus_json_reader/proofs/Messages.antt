@@ -29,6 +29,7 @@ use Rattle.dbus_message_model.proofs.Widening.{kept_valid}
 use Rattle.dbus_build.specs.BuildFaults.{type_wanted, HoldFieldNumbers, HoldTheirNumbers, IsBuilt, IsTaken, IsFirstFault}
 use Rattle.dbus_build.specs.declared.build_fault.BuildFault.{BuildFault}
 use Rattle.dbus_build.proofs.Built.{valid}
+use Rattle.dbus_json.specs.declared.integers.Integers.{Integers}
 use Rattle.dbus_json.specs.JsonMessages.{known_fields}
 use Rattle.dbus_json_reader.specs.JsonMembers.{SpellsKind}
 use Rattle.dbus_json_reader.specs.JsonMessages.{SpellsOr, IsKnown, SpellsMessage, IsReadMessage, field_members}
@@ -76,8 +77,8 @@ known_type (OfType t) v known h = record { type = t; wanted = refl; typed = h }
 known_type (Name k) v known h = record { type = TextType STRING; wanted = refl; typed = ap type_of h.1 }
 known_type Serial v known h = record { type = NumberType UINT32; wanted = refl; typed = ap type_of h.1 }
 
-known_field : (depth : ℕ) (p : Placed) (m : List ℕ × Json) → Fit depth p.1 → is_known p.1.code ≡ true → IsKnown p m → IsKnownField depth p.1 m
-known_field depth p m fit known h =
+known_field : (integers : Integers) (depth : ℕ) (p : Placed) (m : List ℕ × Json) → Fit depth p.1 → is_known p.1.code ≡ true → IsKnown integers p m → IsKnownField integers depth p.1 m
+known_field integers depth p m fit known h =
     let t = known_type (want p.1.code) p.1.value known fit.suits in
     record { known = known; named = h.0; type = t.type; wanted = t.wanted; read = record { spelled = h.1; typed = t.typed; formed = fit.formed.formed } }
 
@@ -90,32 +91,32 @@ knowns n fs = filter is_known_at (enumerate_from n fs)
 abbrev others : ℕ → List FieldTree → List Placed
 others n fs = filter (λ (p : Placed). not (is_known p.1.code)) (enumerate_from n fs)
 
-known_cons : (depth : ℕ) (p : Placed) (ps : List Placed) (ms : List (List ℕ × Json)) → Fit depth p.1 → is_known p.1.code ≡ true → AllZip IsKnown (p ∷ ps) ms → ((ns : List (List ℕ × Json)) → AllZip IsKnown ps ns → AllZip (IsKnownField depth) (map field_of ps) ns)
-    → AllZip (IsKnownField depth) (p.1 ∷ map field_of ps) ms
-known_cons depth p ps [] fit known h more = absurd h
-known_cons depth p ps (m ∷ ms) fit known h more = (known_field depth p m fit known h.0, more ms h.1)
+known_cons : (integers : Integers) (depth : ℕ) (p : Placed) (ps : List Placed) (ms : List (List ℕ × Json)) → Fit depth p.1 → is_known p.1.code ≡ true → AllZip (IsKnown integers) (p ∷ ps) ms → ((ns : List (List ℕ × Json)) → AllZip (IsKnown integers) ps ns → AllZip (IsKnownField integers depth) (map field_of ps) ns)
+    → AllZip (IsKnownField integers depth) (p.1 ∷ map field_of ps) ms
+known_cons integers depth p ps [] fit known h more = absurd h
+known_cons integers depth p ps (m ∷ ms) fit known h more = (known_field integers depth p m fit known h.0, more ms h.1)
 
-known_zip : (depth n : ℕ) (fs : List FieldTree) (ms : List (List ℕ × Json)) → AllFit depth fs → AllZip IsKnown (knowns n fs) ms → AllZip (IsKnownField depth) (map field_of (knowns n fs)) ms
-known_zip depth n [] [] fit h = tt
-known_zip depth n [] (m ∷ ms) fit h = absurd h
-known_zip depth n (f ∷ fs) ms fit h =
+known_zip : (integers : Integers) (depth n : ℕ) (fs : List FieldTree) (ms : List (List ℕ × Json)) → AllFit depth fs → AllZip (IsKnown integers) (knowns n fs) ms → AllZip (IsKnownField integers depth) (map field_of (knowns n fs)) ms
+known_zip integers depth n [] [] fit h = tt
+known_zip integers depth n [] (m ∷ ms) fit h = absurd h
+known_zip integers depth n (f ∷ fs) ms fit h =
     let ps = knowns (n + 1) fs in
     elim (cases_Bool (is_known f.code)) [
       | inl e ↦ (
-          let zip : AllZip IsKnown ((n, f) ∷ ps) ms = subst (λ (b : Bool). AllZip IsKnown (cond b ((n, f) ∷ ps) ps) ms) e h in
-          subst (λ (b : Bool). AllZip (IsKnownField depth) (map field_of (cond b ((n, f) ∷ ps) ps)) ms) (sym e) (known_cons depth (n, f) ps ms fit.0 e zip (λ ns k. known_zip depth (n + 1) fs ns fit.1 k))
+          let zip : AllZip (IsKnown integers) ((n, f) ∷ ps) ms = subst (λ (b : Bool). AllZip (IsKnown integers) (cond b ((n, f) ∷ ps) ps) ms) e h in
+          subst (λ (b : Bool). AllZip (IsKnownField integers depth) (map field_of (cond b ((n, f) ∷ ps) ps)) ms) (sym e) (known_cons integers depth (n, f) ps ms fit.0 e zip (λ ns k. known_zip integers depth (n + 1) fs ns fit.1 k))
           )
       | inr e ↦ (
-          let zip : AllZip IsKnown ps ms = subst (λ (b : Bool). AllZip IsKnown (cond b ((n, f) ∷ ps) ps) ms) e h in
-          subst (λ (b : Bool). AllZip (IsKnownField depth) (map field_of (cond b ((n, f) ∷ ps) ps)) ms) (sym e) (known_zip depth (n + 1) fs ms fit.1 zip)
+          let zip : AllZip (IsKnown integers) ps ms = subst (λ (b : Bool). AllZip (IsKnown integers) (cond b ((n, f) ∷ ps) ps) ms) e h in
+          subst (λ (b : Bool). AllZip (IsKnownField integers depth) (map field_of (cond b ((n, f) ∷ ps) ps)) ms) (sym e) (known_zip integers depth (n + 1) fs ms fit.1 zip)
           )
     ]
 
-zip_back : (depth : ℕ) (ps : List Placed) (ms : List (List ℕ × Json)) → AllZip (IsKnownField depth) (map field_of ps) ms → AllZip IsKnown ps ms
-zip_back depth [] [] h = tt
-zip_back depth [] (m ∷ ms) h = absurd h
-zip_back depth (p ∷ ps) [] h = absurd h
-zip_back depth (p ∷ ps) (m ∷ ms) h = ((h.0.named, h.0.read.spelled), zip_back depth ps ms h.1)
+zip_back : (integers : Integers) (depth : ℕ) (ps : List Placed) (ms : List (List ℕ × Json)) → AllZip (IsKnownField integers depth) (map field_of ps) ms → AllZip (IsKnown integers) ps ms
+zip_back integers depth [] [] h = tt
+zip_back integers depth [] (m ∷ ms) h = absurd h
+zip_back integers depth (p ∷ ps) [] h = absurd h
+zip_back integers depth (p ∷ ps) (m ∷ ms) h = ((h.0.named, h.0.read.spelled), zip_back integers depth ps ms h.1)
 
 formed_others : (depth n : ℕ) (fs : List FieldTree) → AllFit depth fs → AreFormedFields depth (others n fs)
 formed_others depth n [] fit = tt
@@ -128,7 +129,7 @@ formed_others depth n (f ∷ fs) fit =
 
 -- ---- what a message's JSON is read as
 
-module _ (limits : Limits) (number : ℕ) (order : Order) (m : MessageTree) (j : Json) (h : IsReadMessage limits number order m j) where
+module _ (integers : Integers) (limits : Limits) (number : ℕ) (order : Order) (m : MessageTree) (j : Json) (h : IsReadMessage integers limits number order m j) where
   pub head_of : IsHead number order m.kind m.flags m.serial j
   head_of = let s = h.spelled in record { ordered = s.ordered; type = s.type; told = s.told; kind_is = s.kind; flags_are = s.flags; serial_is = s.serial }
 
@@ -142,17 +143,17 @@ module _ (limits : Limits) (number : ℕ) (order : Order) (m : MessageTree) (j :
     pub distinct_of : AreDistinct (keys ms)
     distinct_of = subst (λ (ns : Members). AreDistinct (keys ns)) same_members h.spelled.distinct
 
-    pub known_of : AllZip (IsKnownField (limits.depth - 3)) (map field_of (known_fields m.fields)) (field_members ms)
-    known_of = known_zip (limits.depth - 3) 0 m.fields (field_members ms) fit_of (subst (λ (ns : Members). AllZip IsKnown (known_fields m.fields) (field_members ns)) same_members h.spelled.known)
+    pub known_of : AllZip (IsKnownField integers (limits.depth - 3)) (map field_of (known_fields m.fields)) (field_members ms)
+    known_of = known_zip integers (limits.depth - 3) 0 m.fields (field_members ms) fit_of (subst (λ (ns : Members). AllZip (IsKnown integers) (known_fields m.fields) (field_members ns)) same_members h.spelled.known)
 
-    pub fields_of : (ks : List FieldTree) → AllZip (IsKnownField (limits.depth - 3)) ks (field_members ms) → AreReadFields (limits.depth - 3) ks (get (codes "fields") j) m.fields
+    pub fields_of : (ks : List FieldTree) → AllZip (IsKnownField integers (limits.depth - 3)) ks (field_members ms) → AreReadFields integers (limits.depth - 3) ks (get (codes "fields") j) m.fields
     fields_of ks read = record {
-      knowns = one_row (limits.depth - 3) (limits.depth - 3) (map field_of (known_fields m.fields)) ks (field_members ms) known_of read;
+      knowns = one_row integers (limits.depth - 3) (limits.depth - 3) (map field_of (known_fields m.fields)) ks (field_members ms) known_of read;
       others = h.spelled.others;
       formed = formed_others (limits.depth - 3) 0 m.fields fit_of;
     }
 
-  pub body_of : (fs : List FieldTree) → m.fields ≡ fs → IsReadBody limits.depth (body_signature fs) (get (codes "body") j) m.body
+  pub body_of : (fs : List FieldTree) → m.fields ≡ fs → IsReadBody integers limits.depth (body_signature fs) (get (codes "body") j) m.body
   body_of fs same = record { spelled = h.spelled.body; typed = (h.valid Little).signature ∙ ap body_signature same; formed = (h.valid Little).formed_body }
 
 -- ---- the signature
@@ -196,10 +197,10 @@ mutual
   formed_hold depth NoValues h = tt
   formed_hold depth (MoreValues x xs) h = (formed_holds depth x h.0, formed_hold depth xs h.1)
 
-known_hold : (depth : ℕ) (fs : List FieldTree) (ms : List (List ℕ × Json)) → AllZip (IsKnownField depth) fs ms → HoldFieldNumbers fs
-known_hold depth [] ms h = tt
-known_hold depth (f ∷ fs) [] h = absurd h
-known_hold depth (f ∷ fs) (m ∷ ms) h = let code = (known_codes f.code h.0.known).1 in ((omega (arith, code), formed_holds depth f.value h.0.read.formed), known_hold depth fs ms h.1)
+known_hold : (integers : Integers) (depth : ℕ) (fs : List FieldTree) (ms : List (List ℕ × Json)) → AllZip (IsKnownField integers depth) fs ms → HoldFieldNumbers fs
+known_hold integers depth [] ms h = tt
+known_hold integers depth (f ∷ fs) [] h = absurd h
+known_hold integers depth (f ∷ fs) (m ∷ ms) h = let code = (known_codes f.code h.0.known).1 in ((omega (arith, code), formed_holds depth f.value h.0.read.formed), known_hold integers depth fs ms h.1)
 
 all_hold : (depth n : ℕ) (fs : List FieldTree) → HoldFieldNumbers (map field_of (knowns n fs)) → AreFormedFields depth (others n fs) → HoldFieldNumbers fs
 all_hold depth n [] h k = tt
@@ -252,16 +253,16 @@ one_number default a b (Some j) h k x y = decimal_injective a b h k (numbers_sam
 
 -- ---- bodies
 
-pub one_body : (depth : ℕ) (w : List ℕ) (told : Option Json) (xs ys : ValueTrees) → IsReadBody depth w told xs → IsReadBody depth w told ys → xs ≡ ys
-one_body depth w None xs ys a b = a.spelled ∙ sym b.spelled
-one_body depth w (Some j) xs ys a b =
+pub one_body : (integers : Integers) (depth : ℕ) (w : List ℕ) (told : Option Json) (xs ys : ValueTrees) → IsReadBody integers depth w told xs → IsReadBody integers depth w told ys → xs ≡ ys
+one_body integers depth w None xs ys a b = a.spelled ∙ sym b.spelled
+one_body integers depth w (Some j) xs ys a b =
     let items = ap items_of (items_same a.spelled.0 b.spelled.0 (arrays_same _ _ (sym a.spelled.1 ∙ b.spelled.1))) in
-    same_values xs ys (items_of b.spelled.0) (are_sound depth xs a.formed) (are_sound depth ys b.formed) (alike_types xs ys (sigs_same _ _ (a.typed ∙ sym b.typed))) (subst (AllSpell xs) items a.spelled.2) b.spelled.2
+    same_values integers xs ys (items_of b.spelled.0) (are_sound depth xs a.formed) (are_sound depth ys b.formed) (alike_types xs ys (sigs_same _ _ (a.typed ∙ sym b.typed))) (subst (AllSpell integers xs) items a.spelled.2) b.spelled.2
 
 -- ---- the parts, and the message
 
 -- what is read of a message
-pub record AreParts (limits : Limits) (number : ℕ) (order : Order) (m : MessageTree) (j : Json) : Type 0 where
+pub record AreParts (integers : Integers) (limits : Limits) (number : ℕ) (order : Order) (m : MessageTree) (j : Json) : Type 0 where
   pub ms : Members
   pub is : j ≡ json.object ms
   pub distinct : AreDistinct (keys ms)
@@ -270,10 +271,10 @@ pub record AreParts (limits : Limits) (number : ℕ) (order : Order) (m : Messag
   pub flags_fit : m.flags < 256
   pub serial_fits : m.serial < 256 ^ 4
   pub ks : List FieldTree
-  pub known : AllZip (IsKnownField (limits.depth - 3)) ks (field_members ms)
-  pub fields : AreReadFields (limits.depth - 3) ks (get (codes "fields") j) m.fields
-  pub only : (fs : List FieldTree) → AreReadFields (limits.depth - 3) ks (get (codes "fields") j) fs → fs ≡ m.fields
-  pub body : IsReadBody limits.depth (body_signature m.fields) (get (codes "body") j) m.body
+  pub known : AllZip (IsKnownField integers (limits.depth - 3)) ks (field_members ms)
+  pub fields : AreReadFields integers (limits.depth - 3) ks (get (codes "fields") j) m.fields
+  pub only : (fs : List FieldTree) → AreReadFields integers (limits.depth - 3) ks (get (codes "fields") j) fs → fs ≡ m.fields
+  pub body : IsReadBody integers limits.depth (body_signature m.fields) (get (codes "body") j) m.body
 
 pub same_message : (m w : MessageTree) → m.kind ≡ w.kind → m.flags ≡ w.flags → m.serial ≡ w.serial → m.fields ≡ w.fields → m.body ≡ w.body → m ≡ w
 same_message m w a b c d e =
@@ -283,8 +284,8 @@ same_message m w a b c d e =
     ∙ ap (λ (fs : List FieldTree). record { kind = w.kind; flags = w.flags; serial = w.serial; fields = fs; body = m.body }) d
     ∙ ap (λ (xs : ValueTrees). record { kind = w.kind; flags = w.flags; serial = w.serial; fields = w.fields; body = xs }) e
 
-module _ (limits : Limits) (number : ℕ) (order : Order) (m : MessageTree) (j : Json) (p : AreParts limits number order m j) where
-  spelled_by : SpellsMessage number order m j
+module _ (integers : Integers) (limits : Limits) (number : ℕ) (order : Order) (m : MessageTree) (j : Json) (p : AreParts integers limits number order m j) where
+  spelled_by : SpellsMessage integers number order m j
   spelled_by = record {
     ms = p.ms;
     is = p.is;
@@ -295,7 +296,7 @@ module _ (limits : Limits) (number : ℕ) (order : Order) (m : MessageTree) (j :
     kind = p.head.kind_is;
     flags = p.head.flags_are;
     serial = p.head.serial_is;
-    known = zip_back (limits.depth - 3) (known_fields m.fields) (field_members p.ms) (subst (λ (fs : List FieldTree). AllZip (IsKnownField (limits.depth - 3)) fs (field_members p.ms)) (sym p.fields.knowns) p.known);
+    known = zip_back integers (limits.depth - 3) (known_fields m.fields) (field_members p.ms) (subst (λ (fs : List FieldTree). AllZip (IsKnownField integers (limits.depth - 3)) fs (field_members p.ms)) (sym p.fields.knowns) p.known);
     others = p.fields.others;
     body = p.body.spelled;
   }
@@ -305,12 +306,12 @@ module _ (limits : Limits) (number : ℕ) (order : Order) (m : MessageTree) (j :
     kind = p.kind_fits;
     flags = p.flags_fit;
     serial = p.serial_fits;
-    fields = all_hold (limits.depth - 3) 0 m.fields (subst HoldFieldNumbers (sym p.fields.knowns) (known_hold (limits.depth - 3) p.ks (field_members p.ms) p.known)) p.fields.formed;
+    fields = all_hold (limits.depth - 3) 0 m.fields (subst HoldFieldNumbers (sym p.fields.knowns) (known_hold integers (limits.depth - 3) p.ks (field_members p.ms) p.known)) p.fields.formed;
     body = formed_hold limits.depth m.body p.body.formed;
   }
 
   -- no other message is spelled
-  pub one_message : (other : Order) (w : MessageTree) → IsReadMessage limits number other w j → w ≡ m
+  pub one_message : (other : Order) (w : MessageTree) → IsReadMessage integers limits number other w j → w ≡ m
   one_message other w h =
       let v = h.valid Little in
       let flags = v.flags in
@@ -318,21 +319,21 @@ module _ (limits : Limits) (number : ℕ) (order : Order) (m : MessageTree) (j :
       let mine = p.flags_fit in
       let own = p.serial_fits in
       let type = same_Some _ _ (sym h.spelled.told ∙ p.head.told) in
-      let fields = p.only w.fields (fields_of limits number other w j h p.ms p.is p.ks p.known) in
+      let fields = p.only w.fields (fields_of integers limits number other w j h p.ms p.is p.ks p.known) in
       same_message w m
       (one_kind w.kind m.kind p.head.type v.kind_fits p.kind_fits (subst (SpellsKind w.kind) type h.spelled.kind) p.head.kind_is)
       (one_number 0 w.flags m.flags _ (omega (arith, flags)) (omega (arith, mine)) h.spelled.flags p.head.flags_are)
       (one_number number w.serial m.serial _ (omega (arith, serial)) (omega (arith, own)) h.spelled.serial p.head.serial_is)
-      fields (one_body limits.depth (body_signature m.fields) _ w.body m.body (body_of limits number other w j h m.fields fields) p.body)
+      fields (one_body integers limits.depth (body_signature m.fields) _ w.body m.body (body_of integers limits number other w j h m.fields fields) p.body)
 
-module _ {A : Type 0} (limits : Limits) (number : ℕ) (order : Order) (q : Parts A) (j : Json) (p : AreParts limits number order (parts_tree q) j) where
-  pub made : (m : Message A) → IsBuilt limits q (Ok m) → IsReadMessage limits number order (message_tree m) j
+module _ (integers : Integers) {A : Type 0} (limits : Limits) (number : ℕ) (order : Order) (q : Parts A) (j : Json) (p : AreParts integers limits number order (parts_tree q) j) where
+  pub made : (m : Message A) → IsBuilt limits q (Ok m) → IsReadMessage integers limits number order (message_tree m) j
   made m built =
       let none = built.1 in
-      let whole = valid limits q none.0.0.0 (numbers_held limits number order (parts_tree q) j p) none.0.0.1 none.0.1 in
+      let whole = valid limits q none.0.0.0 (numbers_held integers limits number order (parts_tree q) j p) none.0.0.1 none.0.1 in
       let kept = kept_valid limits (parts_tree q) whole (none.0.0.0.0.0.0.0.1, none.0.0.1, none.0.1, none.1) in
-      subst (λ (t : MessageTree). IsReadMessage limits number order t j) (sym built.0) (record { spelled = spelled_by limits number order (parts_tree q) j p; valid = kept })
+      subst (λ (t : MessageTree). IsReadMessage integers limits number order t j) (sym built.0) (record { spelled = spelled_by integers limits number order (parts_tree q) j p; valid = kept })
 
-  pub never_refused : (x : Parts A × BuildFault) → IsBuilt limits q (Err x) → IsTaken limits q (Err x) → PartsKeepBytes q → (other : Order) (w : MessageTree) → IsReadMessage limits number other w j → ⊥
+  pub never_refused : (x : Parts A × BuildFault) → IsBuilt limits q (Err x) → IsTaken limits q (Err x) → PartsKeepBytes q → (other : Order) (w : MessageTree) → IsReadMessage integers limits number other w j → ⊥
   never_refused x built taken packed other w h =
-      subst (IsFirstFault limits q) (taken (subst (IsValidMessage limits) (one_message limits number order (parts_tree q) j p other w h) h.valid) packed) built.1
+      subst (IsFirstFault limits q) (taken (subst (IsValidMessage limits) (one_message integers limits number order (parts_tree q) j p other w h) h.valid) packed) built.1

@@ -13,6 +13,7 @@ use Rattle.dbus_message_model.specs.Messages.{FieldTree, is_known}
 use Rattle.dbus_message_model.specs.PackedParts.{field_values}
 use Rattle.dbus_message_model.specs.PartsViews.{field_tree, field_trees}
 use Rattle.dbus_message_model.specs.declared.header_field.HeaderField.{HeaderField}
+use Rattle.dbus_json.specs.declared.integers.Integers.{Integers}
 use Rattle.dbus_json.specs.JsonMessages.{other_fields, is_before_known}
 use Rattle.dbus_json_reader.specs.JsonMessages.{IsOther}
 use Rattle.dbus_json_reader.specs.JsonParts.{IsOtherField, AreFormedFields, AreReadFields}
@@ -41,8 +42,8 @@ others n fs = filter is_other_at (enumerate_from n fs)
 abbrev some_known : List FieldTree → Bool
 some_known fs = list_any (λ (f : FieldTree). is_known f.code) fs
 
-abbrev AreSpelled : (ℕ → Bool) → List Placed → List Json → Type 0
-AreSpelled before ps js = AllZip (λ p j. IsOther (before p.0) p.0 p.1 j) ps js
+abbrev AreSpelled : (integers : Integers) → (ℕ → Bool) → List Placed → List Json → Type 0
+AreSpelled integers before ps js = AllZip (λ p j. IsOther integers (before p.0) p.0 p.1 j) ps js
 
 -- a known field is among them if it is one of the known ones
 some_is : (n m : ℕ) (fs : List FieldTree) → some_known fs ≡ ltb n (n + length (knowns m fs))
@@ -54,20 +55,20 @@ some_is n m (f ∷ fs) =
     ]
 
 -- the first of two rows
-pub record IsFirst (before : ℕ → Bool) (p : Placed) (ps : List Placed) (js : List Json) : Type 0 where
+pub record IsFirst (integers : Integers) (before : ℕ → Bool) (p : Placed) (ps : List Placed) (js : List Json) : Type 0 where
   pub j : Json
   pub more : List Json
   pub is : js ≡ j ∷ more
-  pub one : IsOther (before p.0) p.0 p.1 j
-  pub rest : AreSpelled before ps more
+  pub one : IsOther integers (before p.0) p.0 p.1 j
+  pub rest : AreSpelled integers before ps more
 
-first_of_them : (before : ℕ → Bool) (p : Placed) (ps : List Placed) (js : List Json) → AreSpelled before (p ∷ ps) js → IsFirst before p ps js
-first_of_them before p ps [] h = absurd h
-first_of_them before p ps (j ∷ js) h = record { j = j; more = js; is = refl; one = h.0; rest = h.1 }
+first_of_them : (integers : Integers) (before : ℕ → Bool) (p : Placed) (ps : List Placed) (js : List Json) → AreSpelled integers before (p ∷ ps) js → IsFirst integers before p ps js
+first_of_them integers before p ps [] h = absurd h
+first_of_them integers before p ps (j ∷ js) h = record { j = j; more = js; is = refl; one = h.0; rest = h.1 }
 
-no_objects : (before : ℕ → Bool) (js : List Json) → AreSpelled before [] js → js ≡ []
-no_objects before [] h = refl
-no_objects before (j ∷ js) h = absurd h
+no_objects : (integers : Integers) (before : ℕ → Bool) (js : List Json) → AreSpelled integers before [] js → js ≡ []
+no_objects integers before [] h = refl
+no_objects integers before (j ∷ js) h = absurd h
 
 -- whether a known one is behind each place
 abbrev Behind : (ℕ → Bool) → ℕ → List FieldTree → Type 0
@@ -80,58 +81,58 @@ behind_first : (before : ℕ → Bool) (n : ℕ) (f : FieldTree) (fs : List Fiel
 behind_first before n f fs h = ap before (omega arith) ∙ h 0 ∙ some_is n (n + 1) fs
 
 -- a row by places is a row one by one
-to_mixed : (depth : ℕ) (before : ℕ → Bool) (n : ℕ) (fs : List FieldTree) (ks : List FieldTree) (js : List Json) → Behind before n fs → knowns n fs ≡ ks → AreSpelled before (others n fs) js → AreFormedFields depth (others n fs) → Mixed depth n ks js fs
-to_mixed depth before n [] ks js behind known spelled formed = (sym known, no_objects before js spelled)
-to_mixed depth before n (f ∷ fs) ks js behind known spelled formed =
+to_mixed : (integers : Integers) (depth : ℕ) (before : ℕ → Bool) (n : ℕ) (fs : List FieldTree) (ks : List FieldTree) (js : List Json) → Behind before n fs → knowns n fs ≡ ks → AreSpelled integers before (others n fs) js → AreFormedFields depth (others n fs) → Mixed integers depth n ks js fs
+to_mixed integers depth before n [] ks js behind known spelled formed = (sym known, no_objects integers before js spelled)
+to_mixed integers depth before n (f ∷ fs) ks js behind known spelled formed =
     let ps = filter is_known_at (enumerate_from (n + 1) fs) in
     let os = others (n + 1) fs in
     elim (cases_Bool (is_known f.code)) [
       | inl e ↦ (
           let is : ks ≡ f ∷ map field_of ps = sym known ∙ ap (λ (b : Bool). map field_of (cond b ((n, f) ∷ ps) ps)) e in
-          let spells = subst (λ (b : Bool). AreSpelled before (cond b ((n, f) ∷ os) os) js) (ap not e) spelled in
+          let spells = subst (λ (b : Bool). AreSpelled integers before (cond b ((n, f) ∷ os) os) js) (ap not e) spelled in
           let forms = subst (λ (b : Bool). AreFormedFields depth (cond b ((n, f) ∷ os) os)) (ap not e) formed in
-          inl (map field_of ps, e, is, to_mixed depth before (n + 1) fs (map field_of ps) js (behind_more before n f fs behind) refl spells forms)
+          inl (map field_of ps, e, is, to_mixed integers depth before (n + 1) fs (map field_of ps) js (behind_more before n f fs behind) refl spells forms)
           )
       | inr e ↦ (
           let is : map field_of ps ≡ ks = sym (ap (λ (b : Bool). map field_of (cond b ((n, f) ∷ ps) ps)) e) ∙ known in
-          let spells : AreSpelled before ((n, f) ∷ os) js = subst (λ (b : Bool). AreSpelled before (cond b ((n, f) ∷ os) os) js) (ap not e) spelled in
+          let spells : AreSpelled integers before ((n, f) ∷ os) js = subst (λ (b : Bool). AreSpelled integers before (cond b ((n, f) ∷ os) os) js) (ap not e) spelled in
           let forms : AreFormedFields depth ((n, f) ∷ os) = subst (λ (b : Bool). AreFormedFields depth (cond b ((n, f) ∷ os) os)) (ap not e) formed in
-          let r = first_of_them before (n, f) os js spells in
+          let r = first_of_them integers before (n, f) os js spells in
           let told : before n ≡ ltb n (n + length ks) = behind_first before n f fs behind ∙ ap (λ (gs : List FieldTree). ltb n (n + length gs)) is in
-          let one : IsOtherField depth (n + length ks) n f r.j = record { unknown = e; within = omega arith; formed = forms.0; spelled = subst (λ (b : Bool). IsOther b n f r.j) told r.one } in
-          inr (r.j, r.more, r.is, one, to_mixed depth before (n + 1) fs ks r.more (behind_more before n f fs behind) is r.rest forms.1)
+          let one : IsOtherField integers depth (n + length ks) n f r.j = record { unknown = e; within = omega arith; formed = forms.0; spelled = subst (λ (b : Bool). IsOther integers b n f r.j) told r.one } in
+          inr (r.j, r.more, r.is, one, to_mixed integers depth before (n + 1) fs ks r.more (behind_more before n f fs behind) is r.rest forms.1)
           )
     ]
 
 -- and back
-pub record IsRow (depth : ℕ) (before : ℕ → Bool) (n : ℕ) (fs ks : List FieldTree) (js : List Json) : Type 0 where
+pub record IsRow (integers : Integers) (depth : ℕ) (before : ℕ → Bool) (n : ℕ) (fs ks : List FieldTree) (js : List Json) : Type 0 where
   pub known : knowns n fs ≡ ks
-  pub spelled : AreSpelled before (others n fs) js
+  pub spelled : AreSpelled integers before (others n fs) js
   pub formed : AreFormedFields depth (others n fs)
 
-from_mixed : (depth : ℕ) (before : ℕ → Bool) (n : ℕ) (fs : List FieldTree) (ks : List FieldTree) (js : List Json) → Behind before n fs → Mixed depth n ks js fs → IsRow depth before n fs ks js
-from_mixed depth before n [] ks js behind h = record { known = sym h.0; spelled = subst (λ (is : List Json). AreSpelled before [] is) (sym h.1) tt; formed = tt }
-from_mixed depth before n (f ∷ fs) ks js behind (inl h) =
+from_mixed : (integers : Integers) (depth : ℕ) (before : ℕ → Bool) (n : ℕ) (fs : List FieldTree) (ks : List FieldTree) (js : List Json) → Behind before n fs → Mixed integers depth n ks js fs → IsRow integers depth before n fs ks js
+from_mixed integers depth before n [] ks js behind h = record { known = sym h.0; spelled = subst (λ (is : List Json). AreSpelled integers before [] is) (sym h.1) tt; formed = tt }
+from_mixed integers depth before n (f ∷ fs) ks js behind (inl h) =
     let ps = filter is_known_at (enumerate_from (n + 1) fs) in
     let os = others (n + 1) fs in
     let e = h.1 in
-    let r = from_mixed depth before (n + 1) fs h.0 js (behind_more before n f fs behind) h.3 in
+    let r = from_mixed integers depth before (n + 1) fs h.0 js (behind_more before n f fs behind) h.3 in
     record {
       known = ap (λ (b : Bool). map field_of (cond b ((n, f) ∷ ps) ps)) e ∙ ap (λ (gs : List FieldTree). f ∷ gs) r.known ∙ sym h.2;
-      spelled = subst (λ (b : Bool). AreSpelled before (cond b ((n, f) ∷ os) os) js) (sym (ap not e)) r.spelled;
+      spelled = subst (λ (b : Bool). AreSpelled integers before (cond b ((n, f) ∷ os) os) js) (sym (ap not e)) r.spelled;
       formed = subst (λ (b : Bool). AreFormedFields depth (cond b ((n, f) ∷ os) os)) (sym (ap not e)) r.formed;
     }
-from_mixed depth before n (f ∷ fs) ks js behind (inr h) =
+from_mixed integers depth before n (f ∷ fs) ks js behind (inr h) =
     let ps = filter is_known_at (enumerate_from (n + 1) fs) in
     let os = others (n + 1) fs in
     let e = h.3.unknown in
-    let r = from_mixed depth before (n + 1) fs ks h.1 (behind_more before n f fs behind) h.4 in
+    let r = from_mixed integers depth before (n + 1) fs ks h.1 (behind_more before n f fs behind) h.4 in
     let told : before n ≡ ltb n (n + length ks) = behind_first before n f fs behind ∙ ap (λ (gs : List FieldTree). ltb n (n + length gs)) r.known in
-    let one : IsOther (before n) n f h.0 = subst (λ (b : Bool). IsOther b n f h.0) (sym told) h.3.spelled in
-    let both : AreSpelled before ((n, f) ∷ os) (h.0 ∷ h.1) = (one, r.spelled) in
+    let one : IsOther integers (before n) n f h.0 = subst (λ (b : Bool). IsOther integers b n f h.0) (sym told) h.3.spelled in
+    let both : AreSpelled integers before ((n, f) ∷ os) (h.0 ∷ h.1) = (one, r.spelled) in
     record {
       known = ap (λ (b : Bool). map field_of (cond b ((n, f) ∷ ps) ps)) e ∙ r.known;
-      spelled = subst (λ (is : List Json). AreSpelled before (cond (not (is_known f.code)) ((n, f) ∷ os) os) is) (sym h.2) (subst (λ (b : Bool). AreSpelled before (cond b ((n, f) ∷ os) os) (h.0 ∷ h.1)) (sym (ap not e)) both);
+      spelled = subst (λ (is : List Json). AreSpelled integers before (cond (not (is_known f.code)) ((n, f) ∷ os) os) is) (sym h.2) (subst (λ (b : Bool). AreSpelled integers before (cond b ((n, f) ∷ os) os) (h.0 ∷ h.1)) (sym (ap not e)) both);
       formed = subst (λ (b : Bool). AreFormedFields depth (cond b ((n, f) ∷ os) os)) (sym (ap not e)) (h.3.formed, r.formed);
     }
 
@@ -152,39 +153,39 @@ items_same [] (j ∷ js) e = absurd (none_more _ _ e)
 items_same (i ∷ is) [] e = absurd (none_more _ _ (sym e))
 items_same (i ∷ is) (j ∷ js) e = let more = one_more _ _ _ _ e in ap (λ (k : Json). k ∷ is) more.0 ∙ ap (λ (ks : List Json). j ∷ ks) (items_same is js more.1)
 
-module _ (depth : ℕ) (ks : List FieldTree) (told : Option Json) (j : Json) (js : List Json) (here : told ≡ Some j) (is : j ≡ json.array (items_of js)) where
-  pub row_read : (fs : List FieldTree) → Mixed depth 0 ks js fs → AreReadFields depth ks told fs
+module _ (integers : Integers) (depth : ℕ) (ks : List FieldTree) (told : Option Json) (j : Json) (js : List Json) (here : told ≡ Some j) (is : j ≡ json.array (items_of js)) where
+  pub row_read : (fs : List FieldTree) → Mixed integers depth 0 ks js fs → AreReadFields integers depth ks told fs
   row_read fs h =
-      let r = from_mixed depth (is_before_known fs) 0 fs ks js (all_behind fs) h in
-      subst (λ (o : Option Json). AreReadFields depth ks o fs) (sym here) (record { knowns = r.known; others = (js, is, r.spelled); formed = r.formed })
+      let r = from_mixed integers depth (is_before_known fs) 0 fs ks js (all_behind fs) h in
+      subst (λ (o : Option Json). AreReadFields integers depth ks o fs) (sym here) (record { knowns = r.known; others = (js, is, r.spelled); formed = r.formed })
 
-  pub read_row : (fs : List FieldTree) → AreReadFields depth ks told fs → Mixed depth 0 ks js fs
+  pub read_row : (fs : List FieldTree) → AreReadFields integers depth ks told fs → Mixed integers depth 0 ks js fs
   read_row fs h =
-      let r = subst (λ (o : Option Json). AreReadFields depth ks o fs) here h in
+      let r = subst (λ (o : Option Json). AreReadFields integers depth ks o fs) here h in
       let same = items_same r.others.0 js (arrays_same _ _ (sym r.others.1 ∙ is)) in
-      to_mixed depth (is_before_known fs) 0 fs ks js (all_behind fs) r.knowns (subst (AreSpelled (is_before_known fs) (other_fields fs)) same r.others.2) r.formed
+      to_mixed integers depth (is_before_known fs) 0 fs ks js (all_behind fs) r.knowns (subst (AreSpelled integers (is_before_known fs) (other_fields fs)) same r.others.2) r.formed
 
 -- no objects are told
-module _ (depth : ℕ) (ks : List FieldTree) (told : Option Json) (here : told ≡ None) where
-  pub read_known : (fs : List FieldTree) → AreReadFields depth ks told fs → Mixed depth 0 ks [] fs
+module _ (integers : Integers) (depth : ℕ) (ks : List FieldTree) (told : Option Json) (here : told ≡ None) where
+  pub read_known : (fs : List FieldTree) → AreReadFields integers depth ks told fs → Mixed integers depth 0 ks [] fs
   read_known fs h =
-      let r = subst (λ (o : Option Json). AreReadFields depth ks o fs) here h in
-      to_mixed depth (is_before_known fs) 0 fs ks [] (all_behind fs) r.knowns (subst (λ (ps : List Placed). AreSpelled (is_before_known fs) ps []) (sym r.others) tt) r.formed
+      let r = subst (λ (o : Option Json). AreReadFields integers depth ks o fs) here h in
+      to_mixed integers depth (is_before_known fs) 0 fs ks [] (all_behind fs) r.knowns (subst (λ (ps : List Placed). AreSpelled integers (is_before_known fs) ps []) (sym r.others) tt) r.formed
 
   -- then there are no others
-  none_of : (before : ℕ → Bool) (ps : List Placed) → AreSpelled before ps [] → ps ≡ []
+  none_of : (before : ℕ → Bool) (ps : List Placed) → AreSpelled integers before ps [] → ps ≡ []
   none_of before [] h = refl
   none_of before (p ∷ ps) h = absurd h
 
-  pub known_read : (fs : List FieldTree) → Mixed depth 0 ks [] fs → AreReadFields depth ks told fs
+  pub known_read : (fs : List FieldTree) → Mixed integers depth 0 ks [] fs → AreReadFields integers depth ks told fs
   known_read fs h =
-      let r = from_mixed depth (is_before_known fs) 0 fs ks [] (all_behind fs) h in
-      subst (λ (o : Option Json). AreReadFields depth ks o fs) (sym here) (record { knowns = r.known; others = none_of _ _ r.spelled; formed = r.formed })
+      let r = from_mixed integers depth (is_before_known fs) 0 fs ks [] (all_behind fs) h in
+      subst (λ (o : Option Json). AreReadFields integers depth ks o fs) (sym here) (record { knowns = r.known; others = none_of _ _ r.spelled; formed = r.formed })
 
 -- what is told is no array
-pub no_row : (depth : ℕ) (ks : List FieldTree) (told : Option Json) (j : Json) → told ≡ Some j → ((js : Items) → json.array js ≡ j → ⊥) → (fs : List FieldTree) → AreReadFields depth ks told fs → ⊥
-no_row depth ks told j here none fs h =
-    let r = subst (λ (o : Option Json). AreReadFields depth ks o fs) here h in
+pub no_row : (integers : Integers) (depth : ℕ) (ks : List FieldTree) (told : Option Json) (j : Json) → told ≡ Some j → ((js : Items) → json.array js ≡ j → ⊥) → (fs : List FieldTree) → AreReadFields integers depth ks told fs → ⊥
+no_row integers depth ks told j here none fs h =
+    let r = subst (λ (o : Option Json). AreReadFields integers depth ks o fs) here h in
     none (items_of r.others.0) (sym r.others.1)
 
 -- ---- lists of values and of fields

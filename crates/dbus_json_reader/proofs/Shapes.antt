@@ -10,6 +10,7 @@ use Rattle.json.specs.Json.{Json, Items, no_items, item, Members, no_members, me
 use Rattle.json.specs.Tree.{json_tokens, items_tokens, members_tokens}
 use Rattle.json.specs.Value.{value_view, items_view, members_view}
 use Rattle.json.proofs.Trees.{view-Array, view-Object, item_smaller}
+use Rattle.dbus_json.specs.declared.integers.Integers.{Integers}
 use Rattle.dbus_json_reader.specs.JsonFaults.{IsUnspelled}
 use Rattle.dbus_json_reader.specs.declared.unread.Broken.{Broken}
 use Rattle.dbus_json_reader.specs.declared.unread.Unread.{Unread}
@@ -147,26 +148,26 @@ through {T} {U} why inner same b e f =
 
 -- ---- numbers and texts
 
-module _ (t : TypeTree) (j : Json) where
-  pub number_made : (k : NumberCode) (n : ℕ) (v : ValueTree) → t ≡ NumberType k → v ≡ NumberValue k n → values.IsNumber k n → SpellsNumber k n j → (depth : ℕ) → IsRead depth t v j
+module _ (integers : Integers) (t : TypeTree) (j : Json) where
+  pub number_made : (k : NumberCode) (n : ℕ) (v : ValueTree) → t ≡ NumberType k → v ≡ NumberValue k n → values.IsNumber k n → SpellsNumber integers k n j → (depth : ℕ) → IsRead integers depth t v j
   number_made k n v type is fits spelled depth =
-      subst (λ w. IsRead depth t w j) (sym is) (record { spelled = spelled; typed = sym type; formed = fits })
+      subst (λ w. IsRead integers depth t w j) (sym is) (record { spelled = spelled; typed = sym type; formed = fits })
 
-  pub number_none : (k : NumberCode) → t ≡ NumberType k → ((n : ℕ) → values.IsNumber k n → SpellsNumber k n j → ⊥) → (depth : ℕ) (v : ValueTree) → IsRead depth t v j → ⊥
+  pub number_none : (k : NumberCode) → t ≡ NumberType k → ((n : ℕ) → values.IsNumber k n → SpellsNumber integers k n j → ⊥) → (depth : ℕ) (v : ValueTree) → IsRead integers depth t v j → ⊥
   number_none k type none depth (NumberValue i n) h =
       let same : i ≡ k = let e : NumberType i ≡ NumberType k = h.typed ∙ type in cc in
-      none n (subst (λ c. values.IsNumber c n) same h.formed) (subst (λ c. SpellsNumber c n j) same h.spelled)
+      none n (subst (λ c. values.IsNumber c n) same h.formed) (subst (λ c. SpellsNumber integers c n j) same h.spelled)
   number_none k type none depth (TextValue i s) h = absurd (let e : TextType i ≡ NumberType k = h.typed ∙ type in cc)
   number_none k type none depth (VariantValue x) h = absurd (let e : VariantType ≡ NumberType k = h.typed ∙ type in cc)
   number_none k type none depth (ArrayValue u xs) h = absurd (let e : ArrayType u ≡ NumberType k = h.typed ∙ type in cc)
   number_none k type none depth (StructValue xs) h = absurd (let e : StructType (types_of xs) ≡ NumberType k = h.typed ∙ type in cc)
   number_none k type none depth (EntryValue x y) h = absurd (let e : EntryType (type_of x) (type_of y) ≡ NumberType k = h.typed ∙ type in cc)
 
-  pub text_made : (k : TextCode) (s : List ℕ) (v : ValueTree) → t ≡ TextType k → v ≡ TextValue k s → IsWanted (kind_of k) s → length s < 256 ^ length_width k → j ≡ json.string s → (depth : ℕ) → IsRead depth t v j
+  pub text_made : (k : TextCode) (s : List ℕ) (v : ValueTree) → t ≡ TextType k → v ≡ TextValue k s → IsWanted (kind_of k) s → length s < 256 ^ length_width k → j ≡ json.string s → (depth : ℕ) → IsRead integers depth t v j
   text_made k s v type is kind short spelled depth =
-      subst (λ w. IsRead depth t w j) (sym is) (record { spelled = spelled; typed = sym type; formed = (kind, short) })
+      subst (λ w. IsRead integers depth t w j) (sym is) (record { spelled = spelled; typed = sym type; formed = (kind, short) })
 
-  pub text_none : (k : TextCode) → t ≡ TextType k → ((s : List ℕ) → IsWanted (kind_of k) s → length s < 256 ^ length_width k → j ≡ json.string s → ⊥) → (depth : ℕ) (v : ValueTree) → IsRead depth t v j → ⊥
+  pub text_none : (k : TextCode) → t ≡ TextType k → ((s : List ℕ) → IsWanted (kind_of k) s → length s < 256 ^ length_width k → j ≡ json.string s → ⊥) → (depth : ℕ) (v : ValueTree) → IsRead integers depth t v j → ⊥
   text_none k type none depth (TextValue i s) h =
       let same : i ≡ k = let e : TextType i ≡ TextType k = h.typed ∙ type in cc in
       none s (subst (λ c. IsWanted (kind_of c) s) same h.formed.0) (subst (λ c. length s < 256 ^ length_width c) same h.formed.1) h.spelled
@@ -178,15 +179,15 @@ module _ (t : TypeTree) (j : Json) where
 
 -- ---- arrays
 
-module _ (depth : ℕ) (t : TypeTree) (v w : ValueTree) (i j : Json) where
-  pub moved : v ≡ w → i ≡ j → IsRead depth t w j → IsRead depth t v i
-  moved e f h = subst (λ u. IsRead depth t u i) (sym e) (subst (λ o. IsRead depth t w o) (sym f) h)
+module _ (integers : Integers) (depth : ℕ) (t : TypeTree) (v w : ValueTree) (i j : Json) where
+  pub moved : v ≡ w → i ≡ j → IsRead integers depth t w j → IsRead integers depth t v i
+  moved e f h = subst (λ u. IsRead integers depth t u i) (sym e) (subst (λ o. IsRead integers depth t w o) (sym f) h)
 
-pub read_as : (d e : ℕ) (t u : TypeTree) (v : ValueTree) (i j : Json) → d ≡ e → t ≡ u → i ≡ j → IsRead d t v i → IsRead e u v j
-read_as d e t u v i j depths types seen h = subst (λ (o : Json). IsRead e u v o) seen (subst (λ w. IsRead e w v i) types (subst (λ (n : ℕ). IsRead n t v i) depths h))
+pub read_as : (integers : Integers) (d e : ℕ) (t u : TypeTree) (v : ValueTree) (i j : Json) → d ≡ e → t ≡ u → i ≡ j → IsRead integers d t v i → IsRead integers e u v j
+read_as integers d e t u v i j depths types seen h = subst (λ (o : Json). IsRead integers e u v o) seen (subst (λ w. IsRead integers e w v i) types (subst (λ (n : ℕ). IsRead integers n t v i) depths h))
 
-at_depth : (depth less : ℕ) (t : TypeTree) (v : ValueTree) (j : Json) → depth ≡ suc less → IsRead (suc less) t v j → IsRead depth t v j
-at_depth depth less t v j deep h = subst (λ (d : ℕ). IsRead d t v j) (sym deep) h
+at_depth : (integers : Integers) (depth less : ℕ) (t : TypeTree) (v : ValueTree) (j : Json) → depth ≡ suc less → IsRead integers (suc less) t v j → IsRead integers depth t v j
+at_depth integers depth less t v j deep h = subst (λ (d : ℕ). IsRead integers d t v j) (sym deep) h
 
 bytes_back : (bytes : List ℕ) → bytes_in (byte_values bytes) ≡ bytes
 bytes_back [] = refl
@@ -204,30 +205,30 @@ byte_only : (t : TypeTree) → is_byte t ≡ true → t ≡ NumberType BYTE
 byte_only (NumberType BYTE) e = refl
 byte_only t e = absurd (true≢false (sym e))
 
-pub bytes_made : (depth less : ℕ) (t : TypeTree) (bytes text : List ℕ) → depth ≡ suc less → is_byte t ≡ true → decode_of text ≡ Ok bytes → IsRead depth (ArrayType t) (ArrayValue (NumberType BYTE) (byte_values bytes)) (json.string text)
-bytes_made depth less t bytes text deep byte decoded = at_depth depth less _ _ _ deep (record {
+pub bytes_made : (integers : Integers) (depth less : ℕ) (t : TypeTree) (bytes text : List ℕ) → depth ≡ suc less → is_byte t ≡ true → decode_of text ≡ Ok bytes → IsRead integers depth (ArrayType t) (ArrayValue (NumberType BYTE) (byte_values bytes)) (json.string text)
+bytes_made integers depth less t bytes text deep byte decoded = at_depth integers depth less _ _ _ deep (record {
   spelled = (λ e. (text, refl, decoded ∙ ap (λ (b : List ℕ). Ok b) (sym (bytes_back bytes))), λ e. absurd (true≢false e));
   typed = ap ArrayType (sym (byte_only t byte));
   formed = (all_bytes bytes, bytes_formed less bytes (decode_of-ok text bytes decoded).3);
 })
 
-pub array_made : (depth less : ℕ) (t : TypeTree) (xs : ValueTrees) (js : Items) → depth ≡ suc less → is_byte t ≡ false → AreElements less t xs js → IsRead depth (ArrayType t) (ArrayValue t xs) (json.array js)
-array_made depth less t xs js deep other h = at_depth depth less _ _ _ deep (record {
+pub array_made : (integers : Integers) (depth less : ℕ) (t : TypeTree) (xs : ValueTrees) (js : Items) → depth ≡ suc less → is_byte t ≡ false → AreElements integers less t xs js → IsRead integers depth (ArrayType t) (ArrayValue t xs) (json.array js)
+array_made integers depth less t xs js deep other h = at_depth integers depth less _ _ _ deep (record {
   spelled = (λ e. absurd (true≢false (sym e ∙ other)), λ e. (js, refl, h.spelled));
   typed = refl;
   formed = (h.typed, h.formed);
 })
 
-pub record IsArrayRead (depth : ℕ) (t : TypeTree) (v : ValueTree) (j : Json) : Type 0 where
+pub record IsArrayRead (integers : Integers) (depth : ℕ) (t : TypeTree) (v : ValueTree) (j : Json) : Type 0 where
   pub less : ℕ
   pub deep : depth ≡ suc less
   pub xs : ValueTrees
   pub shape : v ≡ ArrayValue t xs
   pub bytes : is_byte t ≡ true → (text : List ℕ) × (j ≡ json.string text) × (decode_of text ≡ Ok (bytes_in xs))
-  pub items : is_byte t ≡ false → (js : Items) × (j ≡ json.array js) × AreElements less t xs js
+  pub items : is_byte t ≡ false → (js : Items) × (j ≡ json.array js) × AreElements integers less t xs js
 
-array_parts : (less : ℕ) (u t : TypeTree) (xs : ValueTrees) (j : Json) → u ≡ t → IsRead (suc less) (ArrayType t) (ArrayValue u xs) j → IsArrayRead (suc less) t (ArrayValue u xs) j
-array_parts less u t xs j same h = record {
+array_parts : (integers : Integers) (less : ℕ) (u t : TypeTree) (xs : ValueTrees) (j : Json) → u ≡ t → IsRead integers (suc less) (ArrayType t) (ArrayValue u xs) j → IsArrayRead integers (suc less) t (ArrayValue u xs) j
+array_parts integers less u t xs j same h = record {
   less = less;
   deep = refl;
   xs = xs;
@@ -236,64 +237,64 @@ array_parts less u t xs j same h = record {
   items = λ e. let all = h.spelled.1 (ap is_byte same ∙ e) in (all.0, all.1, record { spelled = all.2; typed = subst (λ w. AllOf w xs) same h.formed.0; formed = h.formed.1 });
 }
 
-pub array_read : (depth : ℕ) (t : TypeTree) (v : ValueTree) (j : Json) → IsRead depth (ArrayType t) v j → IsArrayRead depth t v j
-array_read zero t (ArrayValue u xs) j h = absurd h.formed
-array_read (suc less) t (ArrayValue u xs) j h = array_parts less u t xs j (let e : ArrayType u ≡ ArrayType t = h.typed in cc) h
-array_read depth t (NumberValue k n) j h = absurd (let e : NumberType k ≡ ArrayType t = h.typed in cc)
-array_read depth t (TextValue k s) j h = absurd (let e : TextType k ≡ ArrayType t = h.typed in cc)
-array_read depth t (VariantValue x) j h = absurd (let e : VariantType ≡ ArrayType t = h.typed in cc)
-array_read depth t (StructValue xs) j h = absurd (let e : StructType (types_of xs) ≡ ArrayType t = h.typed in cc)
-array_read depth t (EntryValue x y) j h = absurd (let e : EntryType (type_of x) (type_of y) ≡ ArrayType t = h.typed in cc)
+pub array_read : (integers : Integers) (depth : ℕ) (t : TypeTree) (v : ValueTree) (j : Json) → IsRead integers depth (ArrayType t) v j → IsArrayRead integers depth t v j
+array_read integers zero t (ArrayValue u xs) j h = absurd h.formed
+array_read integers (suc less) t (ArrayValue u xs) j h = array_parts integers less u t xs j (let e : ArrayType u ≡ ArrayType t = h.typed in cc) h
+array_read integers depth t (NumberValue k n) j h = absurd (let e : NumberType k ≡ ArrayType t = h.typed in cc)
+array_read integers depth t (TextValue k s) j h = absurd (let e : TextType k ≡ ArrayType t = h.typed in cc)
+array_read integers depth t (VariantValue x) j h = absurd (let e : VariantType ≡ ArrayType t = h.typed in cc)
+array_read integers depth t (StructValue xs) j h = absurd (let e : StructType (types_of xs) ≡ ArrayType t = h.typed in cc)
+array_read integers depth t (EntryValue x y) j h = absurd (let e : EntryType (type_of x) (type_of y) ≡ ArrayType t = h.typed in cc)
 
 -- ---- structs
 
-pub struct_made : (depth less : ℕ) (ts : TypeTrees) (xs : ValueTrees) (js : Items) → depth ≡ suc less → AreRead less ts xs js → IsRead depth (StructType ts) (StructValue xs) (json.array js)
-struct_made depth less ts xs js deep h = at_depth depth less _ _ _ deep (record { spelled = (js, refl, h.spelled); typed = ap StructType h.typed; formed = h.formed })
+pub struct_made : (integers : Integers) (depth less : ℕ) (ts : TypeTrees) (xs : ValueTrees) (js : Items) → depth ≡ suc less → AreRead integers less ts xs js → IsRead integers depth (StructType ts) (StructValue xs) (json.array js)
+struct_made integers depth less ts xs js deep h = at_depth integers depth less _ _ _ deep (record { spelled = (js, refl, h.spelled); typed = ap StructType h.typed; formed = h.formed })
 
-pub record IsStructRead (depth : ℕ) (ts : TypeTrees) (v : ValueTree) (j : Json) : Type 0 where
+pub record IsStructRead (integers : Integers) (depth : ℕ) (ts : TypeTrees) (v : ValueTree) (j : Json) : Type 0 where
   pub less : ℕ
   pub deep : depth ≡ suc less
   pub xs : ValueTrees
   pub shape : v ≡ StructValue xs
   pub js : Items
   pub is : j ≡ json.array js
-  pub fields : AreRead less ts xs js
+  pub fields : AreRead integers less ts xs js
 
-pub struct_read : (depth : ℕ) (ts : TypeTrees) (v : ValueTree) (j : Json) → IsRead depth (StructType ts) v j → IsStructRead depth ts v j
-struct_read zero ts (StructValue xs) j h = absurd h.formed
-struct_read (suc less) ts (StructValue xs) j h =
+pub struct_read : (integers : Integers) (depth : ℕ) (ts : TypeTrees) (v : ValueTree) (j : Json) → IsRead integers depth (StructType ts) v j → IsStructRead integers depth ts v j
+struct_read integers zero ts (StructValue xs) j h = absurd h.formed
+struct_read integers (suc less) ts (StructValue xs) j h =
     let same : types_of xs ≡ ts = let e : StructType (types_of xs) ≡ StructType ts = h.typed in cc in
     record { less = less; deep = refl; xs = xs; shape = refl; js = h.spelled.0; is = h.spelled.1; fields = record { spelled = h.spelled.2; typed = same; formed = h.formed } }
-struct_read depth ts (NumberValue k n) j h = absurd (let e : NumberType k ≡ StructType ts = h.typed in cc)
-struct_read depth ts (TextValue k s) j h = absurd (let e : TextType k ≡ StructType ts = h.typed in cc)
-struct_read depth ts (VariantValue x) j h = absurd (let e : VariantType ≡ StructType ts = h.typed in cc)
-struct_read depth ts (ArrayValue u xs) j h = absurd (let e : ArrayType u ≡ StructType ts = h.typed in cc)
-struct_read depth ts (EntryValue x y) j h = absurd (let e : EntryType (type_of x) (type_of y) ≡ StructType ts = h.typed in cc)
+struct_read integers depth ts (NumberValue k n) j h = absurd (let e : NumberType k ≡ StructType ts = h.typed in cc)
+struct_read integers depth ts (TextValue k s) j h = absurd (let e : TextType k ≡ StructType ts = h.typed in cc)
+struct_read integers depth ts (VariantValue x) j h = absurd (let e : VariantType ≡ StructType ts = h.typed in cc)
+struct_read integers depth ts (ArrayValue u xs) j h = absurd (let e : ArrayType u ≡ StructType ts = h.typed in cc)
+struct_read integers depth ts (EntryValue x y) j h = absurd (let e : EntryType (type_of x) (type_of y) ≡ StructType ts = h.typed in cc)
 
 -- ---- dict entries
 
 two_types : (k l t u : TypeTree) → k ≡ l → t ≡ u → EntryType k t ≡ EntryType l u
 two_types k l t u e f = cc
 
-pub entry_made : (depth : ℕ) (k t : TypeTree) (x y : ValueTree) (a b : Json) → IsRead depth k x a → IsRead depth t y b → IsRead depth (EntryType k t) (EntryValue x y) (json.array (item a (item b no_items)))
-entry_made depth k t x y a b key held = record {
+pub entry_made : (integers : Integers) (depth : ℕ) (k t : TypeTree) (x y : ValueTree) (a b : Json) → IsRead integers depth k x a → IsRead integers depth t y b → IsRead integers depth (EntryType k t) (EntryValue x y) (json.array (item a (item b no_items)))
+entry_made integers depth k t x y a b key held = record {
   spelled = (a, b, key.spelled, held.spelled, refl);
   typed = two_types _ _ _ _ key.typed held.typed;
   formed = (key.formed, held.formed);
 }
 
-pub record IsEntryRead (depth : ℕ) (k t : TypeTree) (v : ValueTree) (j : Json) : Type 0 where
+pub record IsEntryRead (integers : Integers) (depth : ℕ) (k t : TypeTree) (v : ValueTree) (j : Json) : Type 0 where
   pub key : Json
   pub value : Json
   pub is : j ≡ json.array (item key (item value no_items))
   pub x : ValueTree
   pub y : ValueTree
   pub shape : v ≡ EntryValue x y
-  pub reads_key : IsRead depth k x key
-  pub reads_value : IsRead depth t y value
+  pub reads_key : IsRead integers depth k x key
+  pub reads_value : IsRead integers depth t y value
 
-pub entry_read : (depth : ℕ) (k t : TypeTree) (v : ValueTree) (j : Json) → IsRead depth (EntryType k t) v j → IsEntryRead depth k t v j
-entry_read depth k t (EntryValue x y) j h =
+pub entry_read : (integers : Integers) (depth : ℕ) (k t : TypeTree) (v : ValueTree) (j : Json) → IsRead integers depth (EntryType k t) v j → IsEntryRead integers depth k t v j
+entry_read integers depth k t (EntryValue x y) j h =
     let first : type_of x ≡ k = let e : EntryType (type_of x) (type_of y) ≡ EntryType k t = h.typed in cc in
     let second : type_of y ≡ t = let e : EntryType (type_of x) (type_of y) ≡ EntryType k t = h.typed in cc in
     record {
@@ -306,22 +307,22 @@ entry_read depth k t (EntryValue x y) j h =
       reads_key = record { spelled = h.spelled.2; typed = first; formed = h.formed.0 };
       reads_value = record { spelled = h.spelled.3; typed = second; formed = h.formed.1 };
     }
-entry_read depth k t (NumberValue i n) j h = absurd (let e : NumberType i ≡ EntryType k t = h.typed in cc)
-entry_read depth k t (TextValue i s) j h = absurd (let e : TextType i ≡ EntryType k t = h.typed in cc)
-entry_read depth k t (VariantValue x) j h = absurd (let e : VariantType ≡ EntryType k t = h.typed in cc)
-entry_read depth k t (ArrayValue u xs) j h = absurd (let e : ArrayType u ≡ EntryType k t = h.typed in cc)
-entry_read depth k t (StructValue xs) j h = absurd (let e : StructType (types_of xs) ≡ EntryType k t = h.typed in cc)
+entry_read integers depth k t (NumberValue i n) j h = absurd (let e : NumberType i ≡ EntryType k t = h.typed in cc)
+entry_read integers depth k t (TextValue i s) j h = absurd (let e : TextType i ≡ EntryType k t = h.typed in cc)
+entry_read integers depth k t (VariantValue x) j h = absurd (let e : VariantType ≡ EntryType k t = h.typed in cc)
+entry_read integers depth k t (ArrayValue u xs) j h = absurd (let e : ArrayType u ≡ EntryType k t = h.typed in cc)
+entry_read integers depth k t (StructValue xs) j h = absurd (let e : StructType (types_of xs) ≡ EntryType k t = h.typed in cc)
 
 -- ---- variants
 
-pub variant_made : (depth less : ℕ) (t : TypeTree) (x : ValueTree) (inner : Json) (ms : Members) → depth ≡ suc less → IsSingleType t → IsTyped (sig t) inner ms → IsRead less t x inner → IsRead depth VariantType (VariantValue x) (json.object ms)
-variant_made depth less t x inner ms deep single pair h = at_depth depth less _ _ _ deep (record {
+pub variant_made : (integers : Integers) (depth less : ℕ) (t : TypeTree) (x : ValueTree) (inner : Json) (ms : Members) → depth ≡ suc less → IsSingleType t → IsTyped (sig t) inner ms → IsRead integers less t x inner → IsRead integers depth VariantType (VariantValue x) (json.object ms)
+variant_made integers depth less t x inner ms deep single pair h = at_depth integers depth less _ _ _ deep (record {
   spelled = (ms, inner, refl, subst (λ u. IsTyped (sig u) inner ms) (sym h.typed) pair, h.spelled);
   typed = refl;
   formed = (subst IsSingleType (sym h.typed) single, h.formed);
 })
 
-pub record IsVariantRead (depth : ℕ) (v : ValueTree) (j : Json) : Type 0 where
+pub record IsVariantRead (integers : Integers) (depth : ℕ) (v : ValueTree) (j : Json) : Type 0 where
   pub less : ℕ
   pub deep : depth ≡ suc less
   pub ms : Members
@@ -332,11 +333,11 @@ pub record IsVariantRead (depth : ℕ) (v : ValueTree) (j : Json) : Type 0 where
   pub pair : IsTyped (sig t) value ms
   pub x : ValueTree
   pub shape : v ≡ VariantValue x
-  pub reads : IsRead less t x value
+  pub reads : IsRead integers less t x value
 
-pub variant_read : (depth : ℕ) (v : ValueTree) (j : Json) → IsRead depth VariantType v j → IsVariantRead depth v j
-variant_read zero (VariantValue x) j h = absurd h.formed
-variant_read (suc less) (VariantValue x) j h = record {
+pub variant_read : (integers : Integers) (depth : ℕ) (v : ValueTree) (j : Json) → IsRead integers depth VariantType v j → IsVariantRead integers depth v j
+variant_read integers zero (VariantValue x) j h = absurd h.formed
+variant_read integers (suc less) (VariantValue x) j h = record {
   less = less;
   deep = refl;
   ms = h.spelled.0;
@@ -349,11 +350,11 @@ variant_read (suc less) (VariantValue x) j h = record {
   shape = refl;
   reads = record { spelled = h.spelled.4; typed = refl; formed = h.formed.1 };
 }
-variant_read depth (NumberValue i n) j h = absurd (let e : NumberType i ≡ VariantType = h.typed in cc)
-variant_read depth (TextValue i s) j h = absurd (let e : TextType i ≡ VariantType = h.typed in cc)
-variant_read depth (ArrayValue u xs) j h = absurd (let e : ArrayType u ≡ VariantType = h.typed in cc)
-variant_read depth (StructValue xs) j h = absurd (let e : StructType (types_of xs) ≡ VariantType = h.typed in cc)
-variant_read depth (EntryValue x y) j h = absurd (let e : EntryType (type_of x) (type_of y) ≡ VariantType = h.typed in cc)
+variant_read integers depth (NumberValue i n) j h = absurd (let e : NumberType i ≡ VariantType = h.typed in cc)
+variant_read integers depth (TextValue i s) j h = absurd (let e : TextType i ≡ VariantType = h.typed in cc)
+variant_read integers depth (ArrayValue u xs) j h = absurd (let e : ArrayType u ≡ VariantType = h.typed in cc)
+variant_read integers depth (StructValue xs) j h = absurd (let e : StructType (types_of xs) ≡ VariantType = h.typed in cc)
+variant_read integers depth (EntryValue x y) j h = absurd (let e : EntryType (type_of x) (type_of y) ≡ VariantType = h.typed in cc)
 
 -- an object has one type and one value
 member_parts : (k l : List ℕ) (i j : Json) (ms ns : Members) → member k i ms ≡ member l j ns → (k ≡ l) × (i ≡ j) × (ms ≡ ns)

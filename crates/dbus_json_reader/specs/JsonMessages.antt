@@ -16,6 +16,7 @@ use Rattle.dbus_value_model.specs.declared.order.Order.TheVariants.{Little}
 use Rattle.dbus_value_model.specs.Values.{ValueTrees, NoValues, type_of}
 use Rattle.dbus_message_model.specs.Messages.{FieldTree, MessageTree, order_byte, IsValidMessage}
 use Rattle.dbus_show.specs.ShownMessages.{field_name}
+use Rattle.dbus_json.specs.declared.integers.Integers.{Integers}
 use Rattle.dbus_json.specs.JsonMessages.{known_fields, other_fields, is_before_known}
 use Rattle.dbus_json_reader.specs.JsonMembers.{SpellsKind}
 use Rattle.dbus_json_reader.specs.JsonValues.{Spells, AllSpell}
@@ -59,12 +60,12 @@ SpellsOr default n (Some j) = j ≡ number (decimal n)
 -- ---- header fields
 
 -- a known field is the member of its name
-abbrev pub IsKnown : ℕ × FieldTree → List ℕ × Json → Type 0
-IsKnown p m = (m.0 ≡ field_name p.1.code) × Spells p.1.value m.1
+abbrev pub IsKnown : Integers → ℕ × FieldTree → List ℕ × Json → Type 0
+IsKnown integers p m = (m.0 ≡ field_name p.1.code) × Spells integers p.1.value m.1
 
 -- The known fields are the members that are no others of a line, in their order.
-abbrev pub AreKnown : List FieldTree → Members → Type 0
-AreKnown fs ms = AllZip IsKnown (known_fields fs) (field_members ms)
+abbrev pub AreKnown : Integers → List FieldTree → Members → Type 0
+AreKnown integers fs ms = AllZip (IsKnown integers) (known_fields fs) (field_members ms)
 
 -- the place of a field among all fields, counted from 0; a field with no place told stands after
 -- all known ones
@@ -74,7 +75,7 @@ SpellsPlace before_known place (Some j) = j ≡ number (decimal place)
 
 -- A field that is not known is an object of its code, the signature of its value, the value, and
 -- maybe its place: of nothing else, and of none of these twice.
-pub record IsOther (before_known : Bool) (place : ℕ) (f : FieldTree) (j : Json) : Type 0 where
+pub record IsOther (integers : Integers) (before_known : Bool) (place : ℕ) (f : FieldTree) (j : Json) : Type 0 where
   pub ms : Members
   pub is : j ≡ object ms
   pub named : list_all (is_among other_names) (keys ms) ≡ true
@@ -83,25 +84,25 @@ pub record IsOther (before_known : Bool) (place : ℕ) (f : FieldTree) (j : Json
   pub type : get (codes "type") j ≡ Some (string (sig (type_of f.value)))
   pub value : Json
   pub held : get (codes "value") j ≡ Some value
-  pub spelled : Spells f.value value
+  pub spelled : Spells integers f.value value
   pub placed : SpellsPlace before_known place (get (codes "place") j)
 
 -- The fields that are not known are the objects of an array, in their order; there are none if it
 -- is left out.
-abbrev pub AreOthers : List FieldTree → Option Json → Type 0
-AreOthers fs None = other_fields fs ≡ []
-AreOthers fs (Some j) = (js : List Json) × (j ≡ array (items_of js)) × AllZip (λ p i. IsOther (is_before_known fs p.0) p.0 p.1 i) (other_fields fs) js
+abbrev pub AreOthers : Integers → List FieldTree → Option Json → Type 0
+AreOthers integers fs None = other_fields fs ≡ []
+AreOthers integers fs (Some j) = (js : List Json) × (j ≡ array (items_of js)) × AllZip (λ p i. IsOther integers (is_before_known fs p.0) p.0 p.1 i) (other_fields fs) js
 
 -- ---- messages
 
 -- the values of the body are the items of an array; there are none if it is left out
-abbrev pub AreBody : ValueTrees → Option Json → Type 0
-AreBody xs None = xs ≡ NoValues
-AreBody xs (Some j) = (js : List Json) × (j ≡ array (items_of js)) × AllSpell xs (items_of js)
+abbrev pub AreBody : Integers → ValueTrees → Option Json → Type 0
+AreBody integers xs None = xs ≡ NoValues
+AreBody integers xs (Some j) = (js : List Json) × (j ≡ array (items_of js)) × AllSpell integers xs (items_of js)
 
 -- The JSON spells the message in the order: an object, no two of whose members have one name. The
 -- message has this number as its serial if none is told. Its type has to be told.
-pub record SpellsMessage (number : ℕ) (order : Order) (m : MessageTree) (j : Json) : Type 0 where
+pub record SpellsMessage (integers : Integers) (number : ℕ) (order : Order) (m : MessageTree) (j : Json) : Type 0 where
   pub ms : Members
   pub is : j ≡ object ms
   pub distinct : AreDistinct (keys ms)
@@ -111,11 +112,11 @@ pub record SpellsMessage (number : ℕ) (order : Order) (m : MessageTree) (j : J
   pub kind : SpellsKind m.kind type
   pub flags : SpellsOr 0 m.flags (get (codes "flags") j)
   pub serial : SpellsOr number m.serial (get (codes "serial") j)
-  pub known : AreKnown m.fields ms
-  pub others : AreOthers m.fields (get (codes "fields") j)
-  pub body : AreBody m.body (get (codes "body") j)
+  pub known : AreKnown integers m.fields ms
+  pub others : AreOthers integers m.fields (get (codes "fields") j)
+  pub body : AreBody integers m.body (get (codes "body") j)
 
 -- The JSON spells the message, which is valid within the limits.
-pub record IsReadMessage (limits : Limits) (number : ℕ) (order : Order) (m : MessageTree) (j : Json) : Type 0 where
-  pub spelled : SpellsMessage number order m j
+pub record IsReadMessage (integers : Integers) (limits : Limits) (number : ℕ) (order : Order) (m : MessageTree) (j : Json) : Type 0 where
+  pub spelled : SpellsMessage integers number order m j
   pub valid : IsValidMessage limits m

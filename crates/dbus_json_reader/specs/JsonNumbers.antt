@@ -10,11 +10,13 @@ use Rattle.dbus_texts.specs.Types.{NumberCode, BYTE, BOOLEAN, INT16, UINT16, INT
 use Rattle.dbus_value_model.specs.declared.order.Order.TheVariants.{Big}
 use Rattle.dbus_value_model.specs.Bytes.{num}
 use Rattle.dbus_show.specs.ShownValues.{number_text}
+use Rattle.dbus_json.specs.declared.integers.Integers.{Integers}
+use Rattle.dbus_json.specs.JsonIntegers.{may_be_number, wide_size}
 
--- An integer of 64 bits, of which this is the text in decimal, is this number, or a string of it,
--- which no reader rounds.
-abbrev pub SpellsWide : (text : List ℕ) → Json → Type 0
-SpellsWide text j = (j ≡ number text) ⊎ (j ≡ string text)
+-- An integer of 64 bits, of this absolute value and of which this is the text in decimal, is this
+-- number if it may be one, or a string of it, which no reader rounds.
+abbrev pub SpellsWide : Integers → (size : ℕ) → (text : List ℕ) → Json → Type 0
+SpellsWide integers size text j = ((may_be_number integers size ≡ true) × (j ≡ number text)) ⊎ (j ≡ string text)
 
 -- the text reads as the float of these 64 bits, which is finite
 abbrev pub IsFinite : (bits : ℕ) → (text : List ℕ) → Type 0
@@ -36,14 +38,14 @@ SpellsDouble bits (object ms) = ⊥
 
 -- a BOOLEAN is true or false, a DOUBLE as above, and any other number its text in decimal, which of
 -- 64 bits a string may hold
-abbrev pub SpellsNumber : NumberCode → ℕ → Json → Type 0
-SpellsNumber BYTE n j = j ≡ number (number_text BYTE n)
-SpellsNumber BOOLEAN n j = (b : Bool) × (j ≡ boolean b) × (n ≡ cond b 1 0)
-SpellsNumber INT16 n j = j ≡ number (number_text INT16 n)
-SpellsNumber UINT16 n j = j ≡ number (number_text UINT16 n)
-SpellsNumber INT32 n j = j ≡ number (number_text INT32 n)
-SpellsNumber UINT32 n j = j ≡ number (number_text UINT32 n)
-SpellsNumber INT64 n j = SpellsWide (number_text INT64 n) j
-SpellsNumber UINT64 n j = SpellsWide (number_text UINT64 n) j
-SpellsNumber DOUBLE n j = SpellsDouble n j
-SpellsNumber UNIX_FD n j = j ≡ number (number_text UNIX_FD n)
+abbrev pub SpellsNumber : Integers → NumberCode → ℕ → Json → Type 0
+SpellsNumber integers BYTE n j = j ≡ number (number_text BYTE n)
+SpellsNumber integers BOOLEAN n j = (b : Bool) × (j ≡ boolean b) × (n ≡ cond b 1 0)
+SpellsNumber integers INT16 n j = j ≡ number (number_text INT16 n)
+SpellsNumber integers UINT16 n j = j ≡ number (number_text UINT16 n)
+SpellsNumber integers INT32 n j = j ≡ number (number_text INT32 n)
+SpellsNumber integers UINT32 n j = j ≡ number (number_text UINT32 n)
+SpellsNumber integers INT64 n j = SpellsWide integers (wide_size INT64 n) (number_text INT64 n) j
+SpellsNumber integers UINT64 n j = SpellsWide integers (wide_size UINT64 n) (number_text UINT64 n) j
+SpellsNumber integers DOUBLE n j = SpellsDouble n j
+SpellsNumber integers UNIX_FD n j = j ≡ number (number_text UNIX_FD n)

@@ -12,6 +12,7 @@ use Rattle.dbus_value_model.specs.Values.{ValueTrees, type_of, types_of, IsWellF
 use Rattle.dbus_message_model.specs.Messages.{FieldTree, want, is_known}
 use Rattle.dbus_build.specs.BuildFaults.{type_wanted}
 use Rattle.dbus_show.specs.ShownMessages.{field_name}
+use Rattle.dbus_json.specs.declared.integers.Integers.{Integers}
 use Rattle.dbus_json.specs.JsonMessages.{known_fields, other_fields}
 use Rattle.dbus_json_reader.specs.JsonMembers.{SpellsKind}
 use Rattle.dbus_json_reader.specs.JsonMessages.{SpellsOrder, SpellsOr, AreOthers, AreBody, IsOther, is_among, other_names}
@@ -27,12 +28,12 @@ pub record IsHead (default : ℕ) (order : Order) (kind flags serial : ℕ) (j :
   pub serial_is : SpellsOr default serial (get (codes "serial") j)
 
 -- a known field, which is of its own type
-pub record IsKnownField (depth : ℕ) (f : FieldTree) (m : List ℕ × Json) : Type 0 where
+pub record IsKnownField (integers : Integers) (depth : ℕ) (f : FieldTree) (m : List ℕ × Json) : Type 0 where
   pub known : is_known f.code ≡ true
   pub named : m.0 ≡ field_name f.code
   pub type : TypeTree
   pub wanted : type_wanted (want f.code) ≡ Some type
-  pub read : IsRead depth type f.value m.1
+  pub read : IsRead integers depth type f.value m.1
 
 -- fields that are known
 abbrev pub AreAllKnown : List FieldTree → Type 0
@@ -63,24 +64,24 @@ pub record IsFormedField (depth : ℕ) (f : FieldTree) : Type 0 where
   pub formed : IsWellFormed depth f.value
 
 -- such a field, whose place is `end` if none is told
-pub record IsOtherField (depth end place : ℕ) (f : FieldTree) (j : Json) : Type 0 where
+pub record IsOtherField (integers : Integers) (depth end place : ℕ) (f : FieldTree) (j : Json) : Type 0 where
   pub unknown : is_known f.code ≡ false
   pub within : place ≤ end
   pub formed : IsFormedField depth f
-  pub spelled : IsOther (nat_lt place end) place f j
+  pub spelled : IsOther integers (nat_lt place end) place f j
 
 abbrev pub AreFormedFields : ℕ → List (ℕ × FieldTree) → Type 0
 AreFormedFields depth [] = Unit {0}
 AreFormedFields depth (p ∷ ps) = IsFormedField depth p.1 × AreFormedFields depth ps
 
 -- all fields: these known ones, and the others
-pub record AreReadFields (depth : ℕ) (known : List FieldTree) (told : Option Json) (fs : List FieldTree) : Type 0 where
+pub record AreReadFields (integers : Integers) (depth : ℕ) (known : List FieldTree) (told : Option Json) (fs : List FieldTree) : Type 0 where
   pub knowns : map (λ p. p.1) (known_fields fs) ≡ known
-  pub others : AreOthers fs told
+  pub others : AreOthers integers fs told
   pub formed : AreFormedFields depth (other_fields fs)
 
 -- the body, of the types that a signature spells
-pub record IsReadBody (depth : ℕ) (signature : List ℕ) (told : Option Json) (xs : ValueTrees) : Type 0 where
-  pub spelled : AreBody xs told
+pub record IsReadBody (integers : Integers) (depth : ℕ) (signature : List ℕ) (told : Option Json) (xs : ValueTrees) : Type 0 where
+  pub spelled : AreBody integers xs told
   pub typed : sigs (types_of xs) ≡ signature
   pub formed : AreWellFormed depth xs

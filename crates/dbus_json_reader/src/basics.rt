@@ -19,19 +19,20 @@ use crate::doubles::double;
 use crate::numbers::{signed_16, signed_32, signed_64, unsigned, unsigned_64};
 use crate::texts::text;
 use crate::unread::Unread;
+use dbus_json::Integers;
 use dbus_types::{SigType, TextKind};
 use dbus_value_model::Value;
 use json::Value as Json;
 use std::alloc::Allocator;
 
 /// The value of a type of numbers that JSON spells, or `None` if it spells none.
-fn number<A: Allocator>(ty: &SigType<A>, json: &Json<'_, A>) -> Option<Value<A>>
+fn number<A: Allocator>(ty: &SigType<A>, json: &Json<'_, A>, integers: Integers) -> Option<Value<A>>
     ensures some { IfSome result (λ v. (depth : ℕ) →
-        IsRead depth (type_tree ty.now) (value_tree v) (value_view json.now)) }
+        IsRead integers depth (type_tree ty.now) (value_tree v) (value_view json.now)) }
     ensures packed { IfSome result (λ v. IsTrue (keeps_bytes v)) }
     ensures none { result ≡ None → (k : NumberCode) → type_tree ty.now ≡ NumberType k →
         (depth : ℕ) (v : ValueTree) →
-        IsRead depth (type_tree ty.now) v (value_view json.now) → ⊥ }
+        IsRead integers depth (type_tree ty.now) v (value_view json.now) → ⊥ }
 {
     match ty {
         SigType::Byte => Some(Value::Byte(unsigned(json, u64::from(u8::MAX))? as u8)),
@@ -40,8 +41,8 @@ fn number<A: Allocator>(ty: &SigType<A>, json: &Json<'_, A>) -> Option<Value<A>>
         SigType::U16 => Some(Value::U16(unsigned(json, u64::from(u16::MAX))? as u16)),
         SigType::I32 => Some(Value::I32(signed_32(json)?)),
         SigType::U32 => Some(Value::U32(unsigned(json, u64::from(u32::MAX))? as u32)),
-        SigType::I64 => Some(Value::I64(signed_64(json)?)),
-        SigType::U64 => Some(Value::U64(unsigned_64(json)?)),
+        SigType::I64 => Some(Value::I64(signed_64(json, integers)?)),
+        SigType::U64 => Some(Value::U64(unsigned_64(json, integers)?)),
         SigType::Double => Some(Value::Double(double(json)?)),
         SigType::Fd => Some(Value::Fd(unsigned(json, u64::from(u32::MAX))? as u32)),
         _ => None,
@@ -70,19 +71,20 @@ pub(crate) fn read_basic<A: Allocator + Copy>(
     alloc: A,
     ty: &SigType<A>,
     json: &Json<'_, A>,
+    integers: Integers,
 ) -> Result<Value<A>, Unread>
     requires { IsBasic (type_tree ty.now) }
     ensures ok { IfOk result (λ v. (depth : ℕ) →
-        IsRead depth (type_tree ty.now) (value_tree v) (value_view json.now)) }
+        IsRead integers depth (type_tree ty.now) (value_tree v) (value_view json.now)) }
     ensures packed { IfOk result (λ v. IsTrue (keeps_bytes v)) }
     ensures refused { (broken : TheBroken) → result ≡ Err (Unread.Unspelled broken) → (depth : ℕ) (v : ValueTree) →
-        IsRead depth (type_tree ty.now) v (value_view json.now) → ⊥ }
+        IsRead integers depth (type_tree ty.now) v (value_view json.now) → ⊥ }
 {
     match ty {
         SigType::Str => Ok(Value::Str(copied(alloc, json, TextKind::Text)?)),
         SigType::Path => Ok(Value::Path(copied(alloc, json, TextKind::Path)?)),
         SigType::Sig => Ok(Value::Sig(copied(alloc, json, TextKind::Signature)?)),
-        _ => match number(ty, json) {
+        _ => match number(ty, json, integers) {
             Some(value) => Ok(value),
             None => Err(Unread::here(no_number(ty, json))),
         },

@@ -2,6 +2,7 @@
 //! to pay for. RFC 8259; D-Bus Specification, "Type System", "Message Format" and "Header Fields".
 #![tactic(auto)]
 
+use crate::integers::{signed_in, unsigned_in};
 use crate::known::named;
 use crate::names::has_name;
 use crate::numbers::unsigned;
@@ -24,6 +25,20 @@ fn no_integer(text: &[u8]) -> JsonReason {
         return JsonReason::NotInteger;
     }
     JsonReason::Range
+}
+
+/// Why the text of a number is no integer of a type of 64 bits that is taken. One of the type is
+/// not taken only if it may be no number.
+fn no_wide<A: Allocator>(ty: &SigType<A>, text: &[u8]) -> JsonReason {
+    let is_integer = match ty {
+        SigType::I64 => signed_in(text).is_some(),
+        _ => unsigned_in(text).is_some(),
+    };
+    if is_integer {
+        JsonReason::MayBeRounded
+    } else {
+        no_integer(text)
+    }
 }
 
 /// Whether a text is a number other than 0 in decimal, with no sign but a minus.
@@ -50,6 +65,7 @@ pub(crate) fn no_number<A: Allocator>(ty: &SigType<A>, json: &Json<'_, A>) -> Js
         Json::Number(text) => match ty {
             SigType::Bool => JsonReason::Form,
             SigType::Double => JsonReason::Range,
+            SigType::I64 | SigType::U64 => no_wide(ty, text.as_bytes()),
             _ => no_integer(text.as_bytes()),
         },
         Json::String(text) => match ty {

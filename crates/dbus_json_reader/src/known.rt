@@ -21,6 +21,7 @@ use crate::names::is_plain;
 use crate::reasons::JsonReason;
 use crate::tokens::tokens_in_members;
 use crate::unread::Unread;
+use dbus_json::Integers;
 use dbus_message_model::HeaderField;
 use dbus_message_model::field_code::{PATH, UNIX_FDS};
 use dbus_message_model::field_table::{Wanted, is_known, want};
@@ -87,17 +88,18 @@ fn read_known<A: Allocator + Copy>(
     name: &str,
     json: &Json<'_, A>,
     before: &[(&str, Json<'_, A>)],
+    integers: Integers,
 ) -> Result<HeaderField<A>, Unread>
     ensures ok { IfOk result (λ field. (depth : ℕ) →
-        IsKnownField depth (field_tree field) (name.now, value_view json.now)) }
+        IsKnownField integers depth (field_tree field) (name.now, value_view json.now)) }
     ensures packed { IfOk result (λ field. IsTrue (keeps_bytes field.value)) }
     ensures refused { (broken : TheBroken) → result ≡ Err (Unread.Unspelled broken) → (depth : ℕ) (field : FieldTree) →
-        IsKnownField depth field (name.now, value_view json.now) → ⊥ }
+        IsKnownField integers depth field (name.now, value_view json.now) → ⊥ }
 {
     let Some(code) = field_named(name) else {
         return Err(Unread::here(JsonReason::MemberUnknown).after(tokens_in_members(before)));
     };
-    let value = match read_basic(alloc, &known_type(code), json) {
+    let value = match read_basic(alloc, &known_type(code), json, integers) {
         Ok(value) => value,
         Err(why) => return Err(why.after(tokens_in_members(before).saturating_add(1))),
     };
@@ -112,18 +114,19 @@ fn read_known<A: Allocator + Copy>(
 pub(crate) fn read_known_fields<A: Allocator + Copy>(
     alloc: A,
     members: &[(&str, Json<'_, A>)],
+    integers: Integers,
 ) -> Result<Vec<HeaderField<A>, A>, Unread>
-    ensures ok { IfOk result (λ fields. (depth : ℕ) → AllZip (IsKnownField depth)
+    ensures ok { IfOk result (λ fields. (depth : ℕ) → AllZip (IsKnownField integers depth)
         (field_trees fields.items) (field_members (members_view members.now))) }
     ensures packed { IfOk result (λ fields. IsTrue (keep_bytes (field_values fields.items))) }
     ensures refused { (broken : TheBroken) → result ≡ Err (Unread.Unspelled broken) →
         (depth : ℕ) (fields : List FieldTree) →
-        AllZip (IsKnownField depth) fields (field_members (members_view members.now)) → ⊥ }
+        AllZip (IsKnownField integers depth) fields (field_members (members_view members.now)) → ⊥ }
 {
     let mut fields = Vec::new(alloc);
     for (i, member) in members.iter().enumerate() {
         if !is_plain(member.0) {
-            fields.push(read_known(alloc, member.0, &member.1, &members[..i])?)?;
+            fields.push(read_known(alloc, member.0, &member.1, &members[..i], integers)?)?;
         }
     }
     Ok(fields)

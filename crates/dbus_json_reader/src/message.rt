@@ -28,6 +28,7 @@ use crate::tokens::tokens_in_members;
 use crate::unread::Unread;
 use crate::values::read_values;
 use dbus_build::Build;
+use dbus_json::Integers;
 use dbus_message_model::known_fields::body_signature;
 use dbus_message_model::{HeaderField, Message, Parts};
 use dbus_types::{SigFault, parse_signature};
@@ -45,13 +46,14 @@ fn read_body<A: Allocator + Copy>(
     fields: &[HeaderField<A>],
     json: &Json<'_, A>,
     depth: u8,
+    integers: Integers,
 ) -> Result<Vec<Value<A>, A>, Unread>
-    ensures ok { IfOk result (λ body. IsReadBody depth (signature_of (field_trees fields.now))
+    ensures ok { IfOk result (λ body. IsReadBody integers depth (signature_of (field_trees fields.now))
         (get (codes "body") (value_view json.now)) (value_trees_of body.items)) }
     ensures packed { IfOk result (λ body. IsTrue (keep_bytes body.items)) }
     ensures refused { (broken : TheBroken) → result ≡ Err (Unread.Unspelled broken) →
         IsKind Signature (signature_of (field_trees fields.now)) → (xs : ValueTrees) →
-        IsReadBody depth (signature_of (field_trees fields.now))
+        IsReadBody integers depth (signature_of (field_trees fields.now))
         (get (codes "body") (value_view json.now)) xs → ⊥ }
 {
     let types = match parse_signature(alloc, body_signature(fields)) {
@@ -65,7 +67,7 @@ fn read_body<A: Allocator + Copy>(
         }
         return Ok(Vec::new(alloc));
     };
-    match read_values(alloc, &types, told, depth) {
+    match read_values(alloc, &types, told, depth, integers) {
         Ok(body) => Ok(body),
         Err(why) => Err(why.after(before_value(json, "body"))),
     }
@@ -80,7 +82,7 @@ fn read_body<A: Allocator + Copy>(
 /// `body` is an array of the body's values. Only `type` has to be there: the order is then the
 /// little-endian one, the flags are 0, the serial is `number`, and there are no such fields or
 /// values. The members `number`, `offset`, `length` and `time` may hold anything. No other name
-/// may be there, and none twice.
+/// may be there, and none twice. An INT64 or UINT64 is a number or a string as [`Integers`] has it.
 ///
 /// `Unspelled` exactly if it spells no valid message; `Memory` if an allocation failed. RFC 8259;
 /// D-Bus Specification, "Message Format" and "Header Fields".
@@ -89,11 +91,12 @@ pub fn read_message<A: Allocator + Copy>(
     json: &Json<'_, A>,
     limits: Limits,
     number: u32,
+    integers: Integers,
 ) -> Result<(Order, Message<A>), Unread>
     ensures ok { IfOk result (λ r.
-        IsReadMessage limits number r.0 (message_tree r.1) (value_view json.now)) }
+        IsReadMessage integers limits number r.0 (message_tree r.1) (value_view json.now)) }
     ensures refused { (broken : TheBroken) → result ≡ Err (Unread.Unspelled broken) → (order : TheOrder) (m : MessageTree) →
-        IsReadMessage limits number order m (value_view json.now) → ⊥ }
+        IsReadMessage integers limits number order m (value_view json.now) → ⊥ }
 {
     let Json::Object(members) = json else {
         return Err(Unread::here(JsonReason::Form));
@@ -103,17 +106,17 @@ pub fn read_message<A: Allocator + Copy>(
         Err(why) => return Err(why),
     };
     let members = members.as_slice();
-    let known = read_known_fields(alloc, members)?;
+    let known = read_known_fields(alloc, members, integers)?;
     if let Some(i) = first_again(members) {
         let why = Unread::here(JsonReason::MemberTwice);
         return Err(why.after(tokens_in_members(&members[..i])));
     }
     let depth = limits.depth.saturating_sub(AROUND_FIELD);
-    let fields = match with_others(alloc, known, json, depth) {
+    let fields = match with_others(alloc, known, json, depth, integers) {
         Ok(fields) => fields,
         Err(why) => return Err(why.after(before_value(json, "fields"))),
     };
-    let body = read_body(alloc, &fields, json, limits.depth)?;
+    let body = read_body(alloc, &fields, json, limits.depth, integers)?;
     let parts = Parts {
         kind: head.kind,
         flags: head.flags,

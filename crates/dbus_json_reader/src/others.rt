@@ -21,6 +21,7 @@ use crate::reasons::JsonReason;
 use crate::tokens::tokens_in_items;
 use crate::unread::Unread;
 use crate::values::{read_value, single_type};
+use dbus_json::Integers;
 use dbus_message_model::HeaderField;
 use dbus_message_model::field_table::is_known;
 use json::Value as Json;
@@ -124,12 +125,13 @@ fn read_other<A: Allocator + Copy>(
     json: &Json<'_, A>,
     end: usize,
     depth: u8,
+    integers: Integers,
 ) -> Result<(usize, HeaderField<A>), Unread>
     ensures ok { IfOk result (λ r.
-        IsOtherField depth end r.0 (field_tree r.1) (value_view json.now)) }
+        IsOtherField integers depth end r.0 (field_tree r.1) (value_view json.now)) }
     ensures packed { IfOk result (λ r. IsTrue (keeps_bytes r.1.value)) }
     ensures refused { (broken : TheBroken) → result ≡ Err (Unread.Unspelled broken) → (place : ℕ) (field : FieldTree) →
-        IsOtherField depth end place field (value_view json.now) → ⊥ }
+        IsOtherField integers depth end place field (value_view json.now) → ⊥ }
 {
     let other = match other_in(json, end) {
         Ok(other) => other,
@@ -145,7 +147,7 @@ fn read_other<A: Allocator + Copy>(
         Ok(ty) => ty,
         Err(why) => return Err(why.after(before_value(json, "type"))),
     };
-    let value = match read_value(alloc, &ty, value, depth) {
+    let value = match read_value(alloc, &ty, value, depth, integers) {
         Ok(value) => value,
         Err(why) => return Err(why.after(before_value(json, "value"))),
     };
@@ -164,16 +166,17 @@ pub(crate) fn with_others<A: Allocator + Copy>(
     known: Vec<HeaderField<A>, A>,
     json: &Json<'_, A>,
     depth: u8,
+    integers: Integers,
 ) -> Result<Vec<HeaderField<A>, A>, Unread>
     requires known { AreAllKnown (field_trees known.items) }
     requires packed { IsTrue (keep_bytes (field_values known.items)) }
-    ensures ok { IfOk result (λ fields. AreReadFields depth (field_trees known.items)
+    ensures ok { IfOk result (λ fields. AreReadFields integers depth (field_trees known.items)
         (get (codes "fields") (value_view json.now)) (field_trees fields.items)) }
-    ensures only { IfOk result (λ fields. (fs : List FieldTree) → AreReadFields depth
+    ensures only { IfOk result (λ fields. (fs : List FieldTree) → AreReadFields integers depth
         (field_trees known.items) (get (codes "fields") (value_view json.now)) fs →
         fs ≡ field_trees fields.items) }
     ensures packed { IfOk result (λ fields. IsTrue (keep_bytes (field_values fields.items))) }
-    ensures refused { (broken : TheBroken) → result ≡ Err (Unread.Unspelled broken) → (fs : List FieldTree) → AreReadFields depth
+    ensures refused { (broken : TheBroken) → result ≡ Err (Unread.Unspelled broken) → (fs : List FieldTree) → AreReadFields integers depth
         (field_trees known.items) (get (codes "fields") (value_view json.now)) fs → ⊥ }
 {
     let mut fields = known;
@@ -186,7 +189,7 @@ pub(crate) fn with_others<A: Allocator + Copy>(
     let items = items.as_slice();
     let mut next = 0;
     for (i, item) in items.iter().enumerate() {
-        let (place, field) = match read_other(alloc, item, fields.len(), depth) {
+        let (place, field) = match read_other(alloc, item, fields.len(), depth, integers) {
             Ok(read) => read,
             Err(why) => return Err(why.after(tokens_in_items(&items[..i]))),
         };

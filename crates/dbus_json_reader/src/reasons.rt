@@ -42,6 +42,9 @@ pub enum JsonReason {
     NotInteger,
     /// A number that is not of the type, or that is too large for a DOUBLE.
     Range,
+    /// An integer of 64 bits beyond 2^53 - 1 as a number, if integers are to be safe: it may have
+    /// been rounded.
+    MayBeRounded,
     /// A string that is no pairs of hexadecimal digits, or not 16 of them for a DOUBLE, or no
     /// number for an integer of 64 bits.
     Digits,
@@ -99,6 +102,7 @@ impl fmt::Display for JsonReason {
             JsonReason::FieldPlace => f.write_str("FieldPlace"),
             JsonReason::NotInteger => f.write_str("NotInteger"),
             JsonReason::Range => f.write_str("Range"),
+            JsonReason::MayBeRounded => f.write_str("MayBeRounded"),
             JsonReason::Digits => f.write_str("Digits"),
             JsonReason::Count => f.write_str("Count"),
             JsonReason::Text => f.write_str("Text"),

@@ -18,6 +18,7 @@ use crate::blame::{before_value, not_counted, not_typed};
 use crate::reasons::JsonReason;
 use crate::tokens::{tokens_in, tokens_in_items};
 use crate::unread::Unread;
+use dbus_json::Integers;
 use dbus_types::{SigFault, SigType, is_byte, parse_single};
 use dbus_value_model::{DictEntry, Value};
 use json::Value as Json;
@@ -115,12 +116,13 @@ fn read_variant<A: Allocator + Copy>(
     alloc: A,
     json: &Json<'_, A>,
     depth: u8,
+    integers: Integers,
 ) -> Result<Value<A>, Unread>
     ensures ok { IfOk result (λ v.
-        IsRead depth VariantType (value_tree v) (value_view json.now)) }
+        IsRead integers depth VariantType (value_tree v) (value_view json.now)) }
     ensures packed { IfOk result (λ v. IsTrue (keeps_bytes v)) }
     ensures refused { (broken : TheBroken) → result ≡ Err (Unread.Unspelled broken) → (v : ValueTree) →
-        IsRead depth VariantType v (value_view json.now) → ⊥ }
+        IsRead integers depth VariantType v (value_view json.now) → ⊥ }
 {
     let Json::Object(members) = json else {
         return Err(Unread::here(JsonReason::Form));
@@ -136,7 +138,7 @@ fn read_variant<A: Allocator + Copy>(
         Ok(ty) => ty,
         Err(why) => return Err(why.after(before_value(json, "type"))),
     };
-    let value = match read_value(alloc, &ty, value, depth - 1) {
+    let value = match read_value(alloc, &ty, value, depth - 1, integers) {
         Ok(value) => value,
         Err(why) => return Err(why.after(before_value(json, "value"))),
     };
@@ -150,12 +152,13 @@ fn read_array<A: Allocator + Copy>(
     element: &SigType<A>,
     json: &Json<'_, A>,
     depth: u8,
+    integers: Integers,
 ) -> Result<Value<A>, Unread>
     ensures ok { IfOk result (λ v.
-        IsRead depth (ArrayType (type_tree element.now)) (value_tree v) (value_view json.now)) }
+        IsRead integers depth (ArrayType (type_tree element.now)) (value_tree v) (value_view json.now)) }
     ensures packed { IfOk result (λ v. IsTrue (keeps_bytes v)) }
     ensures refused { (broken : TheBroken) → result ≡ Err (Unread.Unspelled broken) → (v : ValueTree) →
-        IsRead depth (ArrayType (type_tree element.now)) v (value_view json.now) → ⊥ }
+        IsRead integers depth (ArrayType (type_tree element.now)) v (value_view json.now) → ⊥ }
 {
     if depth == 0 {
         return Err(Unread::here(JsonReason::TooDeep));
@@ -169,7 +172,7 @@ fn read_array<A: Allocator + Copy>(
     let items = items.as_slice();
     let mut values = Vec::with_capacity(alloc, items.len())?;
     for (i, item) in items.iter().enumerate() {
-        match read_value(alloc, element, item, depth - 1) {
+        match read_value(alloc, element, item, depth - 1, integers) {
             Ok(value) => values.push(value)?,
             Err(why) => return Err(why.after(tokens_in_items(&items[..i]))),
         }
@@ -185,21 +188,22 @@ fn read_entry<A: Allocator + Copy>(
     value: &SigType<A>,
     json: &Json<'_, A>,
     depth: u8,
+    integers: Integers,
 ) -> Result<Value<A>, Unread>
-    ensures ok { IfOk result (λ v. IsRead depth (EntryType (type_tree key.now)
+    ensures ok { IfOk result (λ v. IsRead integers depth (EntryType (type_tree key.now)
         (type_tree value.now)) (value_tree v) (value_view json.now)) }
     ensures packed { IfOk result (λ v. IsTrue (keeps_bytes v)) }
-    ensures refused { (broken : TheBroken) → result ≡ Err (Unread.Unspelled broken) → (v : ValueTree) → IsRead depth
+    ensures refused { (broken : TheBroken) → result ≡ Err (Unread.Unspelled broken) → (v : ValueTree) → IsRead integers depth
         (EntryType (type_tree key.now) (type_tree value.now)) v (value_view json.now) → ⊥ }
 {
     let Some((first, second)) = pair_of(json) else {
         return Err(not_counted(json));
     };
-    let key = match read_value(alloc, key, first, depth) {
+    let key = match read_value(alloc, key, first, depth, integers) {
         Ok(key) => key,
         Err(why) => return Err(why.after(1)),
     };
-    let value = match read_value(alloc, value, second, depth) {
+    let value = match read_value(alloc, value, second, depth, integers) {
         Ok(value) => value,
         Err(why) => return Err(why.after(tokens_in(first).saturating_add(1))),
     };
@@ -217,12 +221,13 @@ pub fn read_values<A: Allocator + Copy>(
     types: &[SigType<A>],
     json: &Json<'_, A>,
     depth: u8,
+    integers: Integers,
 ) -> Result<Vec<Value<A>, A>, Unread>
     ensures ok { IfOk result (λ vs. (js : Items) × (value_view json.now ≡ array js)
-        × AreRead depth (type_trees_of types.now) (value_trees_of vs.items) js) }
+        × AreRead integers depth (type_trees_of types.now) (value_trees_of vs.items) js) }
     ensures packed { IfOk result (λ vs. IsTrue (keep_bytes vs.items)) }
     ensures refused { (broken : TheBroken) → result ≡ Err (Unread.Unspelled broken) → (js : Items) (xs : ValueTrees) →
-        value_view json.now ≡ array js → AreRead depth (type_trees_of types.now) xs js → ⊥ }
+        value_view json.now ≡ array js → AreRead integers depth (type_trees_of types.now) xs js → ⊥ }
 {
     let Json::Array(items) = json else {
         return Err(Unread::here(JsonReason::Form));
@@ -233,7 +238,7 @@ pub fn read_values<A: Allocator + Copy>(
     }
     let mut values = Vec::with_capacity(alloc, items.len())?;
     for (i, item) in items.iter().enumerate() {
-        match read_value(alloc, &types[i], item, depth) {
+        match read_value(alloc, &types[i], item, depth, integers) {
             Ok(value) => values.push(value)?,
             Err(why) => return Err(why.after(tokens_in_items(&items[..i]))),
         }
@@ -243,10 +248,11 @@ pub fn read_values<A: Allocator + Copy>(
 
 /// The value of the type that JSON spells. No more containers than `depth` are open in it at once.
 ///
-/// A number is in decimal, one of 64 bits maybe in a string, and a DOUBLE maybe as 16 hexadecimal
-/// digits; an array of BYTE is a string of hexadecimal digits, any other array one of its elements,
-/// a STRUCT one of its fields, and a dict entry one of its key and its value; a VARIANT is an
-/// object of `type` and `value`. An array of BYTE in what it returns is `Bytes`.
+/// A number is in decimal, one of 64 bits maybe in a string, as [`Integers`] has it, and a DOUBLE
+/// maybe as 16 hexadecimal digits; an array of BYTE is a string of hexadecimal digits, any other
+/// array one of its elements, a STRUCT one of its fields, and a dict entry one of its key and its
+/// value; a VARIANT is an object of `type` and `value`. An array of BYTE in what it returns is
+/// `Bytes`.
 ///
 /// `Unspelled` exactly if it spells none; `Memory` if an allocation failed. RFC 8259; D-Bus
 /// Specification, "Type System".
@@ -256,23 +262,24 @@ pub fn read_value<A: Allocator + Copy>(
     ty: &SigType<A>,
     json: &Json<'_, A>,
     depth: u8,
+    integers: Integers,
 ) -> Result<Value<A>, Unread>
     ensures ok { IfOk result (λ v.
-        IsRead depth (type_tree ty.now) (value_tree v) (value_view json.now)) }
+        IsRead integers depth (type_tree ty.now) (value_tree v) (value_view json.now)) }
     ensures packed { IfOk result (λ v. IsTrue (keeps_bytes v)) }
     ensures refused { (broken : TheBroken) → result ≡ Err (Unread.Unspelled broken) → (v : ValueTree) →
-        IsRead depth (type_tree ty.now) v (value_view json.now) → ⊥ }
+        IsRead integers depth (type_tree ty.now) v (value_view json.now) → ⊥ }
 {
     match ty {
-        SigType::Variant => read_variant(alloc, json, depth),
-        SigType::Array(element) => read_array(alloc, element, json, depth),
+        SigType::Variant => read_variant(alloc, json, depth, integers),
+        SigType::Array(element) => read_array(alloc, element, json, depth, integers),
         SigType::Struct(fields) => {
             if depth == 0 {
                 return Err(Unread::here(JsonReason::TooDeep));
             }
-            Ok(Value::Struct(read_values(alloc, fields, json, depth - 1)?))
+            Ok(Value::Struct(read_values(alloc, fields, json, depth - 1, integers)?))
         }
-        SigType::Entry(key, value) => read_entry(alloc, key, value, json, depth),
-        _ => read_basic(alloc, ty, json),
+        SigType::Entry(key, value) => read_entry(alloc, key, value, json, depth, integers),
+        _ => read_basic(alloc, ty, json, integers),
     }
 }

@@ -4,6 +4,7 @@
 ghost use Rattle.std.specs.Prelude.{◌≡◌, ℕ, List};
 ghost use Rattle.dbus_header.specs.MessageOutcomes.{IsWhole};
 ghost use Rattle.dbus_header.specs.NoMessage.{BeginsWithNone};
+ghost use Rattle.dbus_json.specs.declared.integers.Integers.TheVariants.{Exact};
 ghost use Rattle.dbus_json.specs.JsonMessages.{IsJsonLine};
 ghost use Rattle.dbus_message_model.specs.Messages.{MessageTree};
 ghost use Rattle.dbus_value_model.specs.Specification.{specification};
@@ -14,7 +15,7 @@ ghost use Rattle.dbus_page.specs.Written.{IsWritten, IsNoText};
 use crate::answers::NO_TEXT;
 use crate::room::end;
 use crate::time::time_if;
-use dbus_json::{LinePlace, write_json};
+use dbus_json::{Integers, LinePlace, write_json};
 use dbus_room::Room;
 use dbus_validate::validate;
 use dbus_value_model::Limits;
@@ -60,7 +61,7 @@ pub extern "C" fn dbus_page_json(
 ) -> u32
     ensures written { (order : Order) (m : MessageTree) (n : ℕ) →
         IsWhole specification bytes.now order m n →
-        (text : List ℕ) × IsJsonLine order m (line_place place.now) text ×
+        (text : List ℕ) × IsJsonLine Exact order m (line_place place.now) text ×
         IsWritten text room.old room.new count.new result }
     ensures none { BeginsWithNone specification bytes.now →
         IsNoText room.old room.new count.new result }
@@ -69,7 +70,15 @@ pub extern "C" fn dbus_page_json(
     match validate(bytes, limits) {
         Some(validated) => {
             let mut draft = Room::new(room);
-            write_json(&mut draft, bytes, limits, &validated, line_place(place));
+            let place = line_place(place);
+            write_json(
+                &mut draft,
+                bytes,
+                limits,
+                &validated,
+                place,
+                Integers::Exact,
+            );
             end(&draft, count)
         }
         None => {

@@ -22,8 +22,7 @@ returns-in-Text g c = λ order m whole.
 
 pub returns-in-JsonLine : goal.returns-in-JsonLine
 returns-in-JsonLine g c = λ order m whole.
-    let told = rw c.told-told.ensures at c.write_json_line.ensures order m whole in
-    rw c.in-JsonLine.is told
+    rw c.in-JsonLine.is (c.write_json_line.ensures order m whole)
 
 pub returns-in-InOrder : goal.returns-in-InOrder
 returns-in-InOrder g c = λ order m whole.

@@ -1,6 +1,6 @@
 use Rattle.std.proofs.Common.{ℕ, List, [], ◌∷◌, ◌++◌, codes, decimal, refl, subst}
 use Rattle.dbus_show.proofs.FieldTexts.{then}
-use Rattle.dbus_json.specs.JsonMessages.{front_members, head_members, type_text}
+use Rattle.dbus_json.specs.JsonMessages.{head_members, type_text}
 use Rattle.dbus_json.specs.JsonValues.{array, member, object, plain}
 use Rattle.dbus_message_model.specs.Messages.{order_byte}
 use Rattle.dbus_json.proofs.OneLines.{header_is}

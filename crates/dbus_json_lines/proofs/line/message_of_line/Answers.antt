@@ -17,7 +17,7 @@ returns-clause-refused g c = λ f e order m l.
     let reads : json_of c.in-Ok.text.now ≡ Some (value_view c.in-Ok-Some.json) = c.in-Ok-Some.ensures ∙ ap (option_map (λ v. value_view v)) c.in-Ok-Some.field-0-is in
     let same : Some (value_view c.in-Ok-Some.json) ≡ Some l.json = sym reads ∙ (ap json_of text ∙ l.read) in
     let b = unspelled c.args.line.now c.in-Err-read_message.why c.in_line.result f c.in_line.ensures (told _ f e) in
-    c.in-Err-read_message.ensures.refused b.0 b.1 order m (subst (IsReadMessage c.args.limits c.args.number order m) (sym (one_value _ _ same)) l.spelled)
+    c.in-Err-read_message.ensures.refused b.0 b.1 order m (subst (IsReadMessage c.args.integers c.args.limits c.args.number order m) (sym (one_value _ _ same)) l.spelled)
 
 pub returns-clause-place : goal.returns-clause-place
 returns-clause-place g c = λ f e.

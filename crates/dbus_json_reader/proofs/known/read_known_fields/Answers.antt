@@ -11,16 +11,16 @@ use Rattle.dbus_json_reader.proofs.known.read_known_fields.Goals as goal
 use Rattle.dbus_json_reader.proofs.known.read_known_fields.Goals.{then-not-is_plain+in_ok-read_known+in_ok-push, else-not-is_plain}
 
 pub loop-i-init : goal.loop-i-init
-loop-i-init g c = (begins _ _ (ap field_trees c.new-fields.ensures.items), values_none _ c.new-fields.ensures.items)
+loop-i-init g c = (begins c.args.integers _ _ (ap field_trees c.new-fields.ensures.items), values_none _ c.new-fields.ensures.items)
 
 pub returns-in_err-read_known-clause-refused : goal.returns-in_err-read_known-clause-refused
 returns-in_err-read_known-clause-refused g c = λ b e depth fs h.
     let l = c.args.members.now in
     let m = c.index-members-i.result in
     let i = c.loop-i.i in
-    let going = subst (λ ms. AreGoing (members_view l) ms (field_trees c.loop-i.fields.items)) (members_at l i m c.loop-i-test.true c.index-members-i.is) c.loop-i.invariant.0 in
+    let going = subst (λ ms. AreGoing c.args.integers (members_view l) ms (field_trees c.loop-i.fields.items)) (members_at l i m c.loop-i-test.true c.index-members-i.is) c.loop-i.invariant.0 in
     let plain : is_among plain_names m.0.now ≡ false = sym c.is_plain.ensures ∙ c.if-not-is_plain.true in
-    stops (members_view l) m.0.now (value_view m.1) (members_view (drop (i + 1) l)) (field_trees c.loop-i.fields.items) going plain
+    stops c.args.integers (members_view l) m.0.now (value_view m.1) (members_view (drop (i + 1) l)) (field_trees c.loop-i.fields.items) going plain
     (λ d f one. c.in_err-read_known.ensures.refused b (failed c.from_residual.result c.in_err-read_known.field-0.0 c.from_residual.ensures.1 b e) d f one) depth fs h
 
 pub loop-i-preserved : goal.loop-i-preserved
@@ -28,19 +28,19 @@ loop-i-preserved g c =
     let l = c.args.members.now in
     let m = c.index-members-i.result in
     let i = c.loop-i.i in
-    let going = subst (λ ms. AreGoing (members_view l) ms (field_trees c.loop-i.fields.items)) (members_at l i m c.loop-i-test.true c.index-members-i.is) c.loop-i.invariant.0 in
+    let going = subst (λ ms. AreGoing c.args.integers (members_view l) ms (field_trees c.loop-i.fields.items)) (members_at l i m c.loop-i-test.true c.index-members-i.is) c.loop-i.invariant.0 in
     elim c.if-not-is_plain.branch [
       | then-not-is_plain+in_ok-read_known+in_ok-push w ↦ (
           let plain : is_among plain_names m.0.now ≡ false = sym c.is_plain.ensures ∙ w.if-not-is_plain.true in
           let pushed : c.if-not-is_plain.fields.items ≡ c.loop-i.fields.items ++ w.in_ok-read_known.field-0 ∷ [] = search rules in (
-            goes_on (members_view l) m.0.now (value_view m.1) (members_view (drop (i + 1) l)) (field_trees c.loop-i.fields.items) going plain (field_tree w.in_ok-read_known.field-0) (field_trees c.if-not-is_plain.fields.items) (trees_push _ _ _ pushed) w.in_ok-read_known.ensures.ok,
+            goes_on c.args.integers (members_view l) m.0.now (value_view m.1) (members_view (drop (i + 1) l)) (field_trees c.loop-i.fields.items) going plain (field_tree w.in_ok-read_known.field-0) (field_trees c.if-not-is_plain.fields.items) (trees_push _ _ _ pushed) w.in_ok-read_known.ensures.ok,
             values_push _ _ _ pushed c.loop-i.invariant.1 w.in_ok-read_known.ensures.packed,
           )
           )
       | else-not-is_plain w ↦ (
           let plain : is_among plain_names m.0.now ≡ true = sym c.is_plain.ensures ∙ w.if-not-is_plain.false in
           let same : c.if-not-is_plain.fields.items ≡ c.loop-i.fields.items = search rules in (
-            passes (members_view l) m.0.now (value_view m.1) (members_view (drop (i + 1) l)) (field_trees c.if-not-is_plain.fields.items) (subst (λ fs. AreGoing (members_view l) (member m.0.now (value_view m.1) (members_view (drop (i + 1) l))) (field_trees fs)) (sym same) going) plain,
+            passes c.args.integers (members_view l) m.0.now (value_view m.1) (members_view (drop (i + 1) l)) (field_trees c.if-not-is_plain.fields.items) (subst (λ fs. AreGoing c.args.integers (members_view l) (member m.0.now (value_view m.1) (members_view (drop (i + 1) l))) (field_trees fs)) (sym same) going) plain,
             search rules,
           )
           )
@@ -48,4 +48,4 @@ loop-i-preserved g c =
 
 pub returns-clause-ok : goal.returns-clause-ok
 returns-clause-ok g c = λ depth.
-    ends _ _ _ c.loop-i.invariant.0 (at_drop_all members_view c.args.members.now c.loop-i.i c.loop-i-test.false) depth
+    ends c.args.integers _ _ _ c.loop-i.invariant.0 (at_drop_all members_view c.args.members.now c.loop-i.i c.loop-i-test.false) depth

@@ -7,4 +7,4 @@ use Rattle.dbus_json_reader.proofs.KnownFields.{AreGoing}
 use Rattle.dbus_json_reader.proofs.known.read_known_fields.Given as goal
 
 abbrev pub invariant-loop-i : goal.invariant-loop-i
-invariant-loop-i g l = AreGoing (members_view l.members) (members_view (drop l.i l.members)) (field_trees l.fields.items) × IsTrue (keep_bytes (field_values l.fields.items))
+invariant-loop-i g l = AreGoing l.integers (members_view l.members) (members_view (drop l.i l.members)) (field_trees l.fields.items) × IsTrue (keep_bytes (field_values l.fields.items))

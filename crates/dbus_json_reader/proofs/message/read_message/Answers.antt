@@ -19,23 +19,23 @@ use Rattle.dbus_json_reader.proofs.message.read_message.Goals as goal
 pub returns-in-Err-clause-refused : goal.returns-in-Err-clause-refused
 returns-in-Err-clause-refused g c = λ b e order m h.
     let v = h.valid order in
-    c.in-Err.ensures.refused order m.kind m.flags m.serial v.kind_fits v.flags v.serial_fits (head_of c.args.limits c.args.number order m _ h)
+    c.in-Err.ensures.refused order m.kind m.flags m.serial v.kind_fits v.flags v.serial_fits (head_of c.args.integers c.args.limits c.args.number order m _ h)
 
 pub returns-in_err-known-clause-refused : goal.returns-in_err-known-clause-refused
 returns-in_err-known-clause-refused g c = λ b e order m h.
     let l = c.as_slice-members.result.now in
     let seen = object_seen c.args.json.now c.in-Object.members l c.in-Object.is c.as_slice-members.ensures.value in
     c.in_err-known.ensures.refused b (failed c.from_residual.result c.in_err-known.field-0.0 c.from_residual.ensures.1 b e) (c.args.limits.depth - 3) (map field_of (known_fields m.fields))
-    (known_of c.args.limits c.args.number order m _ h (members_view l) seen)
+    (known_of c.args.integers c.args.limits c.args.number order m _ h (members_view l) seen)
 
 pub returns-in-Some-clause-refused : goal.returns-in-Some-clause-refused
 returns-in-Some-clause-refused g c = λ b e order m h.
     let l = c.as_slice-members.result.now in
     let seen = object_seen c.args.json.now c.in-Object.members l c.in-Object.is c.as_slice-members.ensures.value in
-    c.in-Some.ensures.some.1 (distinct_of c.args.limits c.args.number order m _ h (members_view l) seen)
+    c.in-Some.ensures.some.1 (distinct_of c.args.integers c.args.limits c.args.number order m _ h (members_view l) seen)
 
 pub with_others-requires-clause-known : goal.with_others-requires-clause-known
-with_others-requires-clause-known g c = all_known 0 _ _ (c.in_ok-known.ensures.ok 0)
+with_others-requires-clause-known g c = all_known c.args.integers 0 _ _ (c.in_ok-known.ensures.ok 0)
 
 pub returns-in-Err-with_others-clause-refused : goal.returns-in-Err-with_others-clause-refused
 returns-in-Err-with_others-clause-refused g c = λ b e order m h.
@@ -43,9 +43,9 @@ returns-in-Err-with_others-clause-refused g c = λ b e order m h.
     let seen = object_seen c.args.json.now c.in-Object.members l c.in-Object.is c.as_slice-members.ensures.value in
     let ks = field_trees c.in_ok-known.known.items in
     let depth : c.saturating_sub-depth.result ≡ c.args.limits.depth - 3 = omega arith in
-    let read = fields_of c.args.limits c.args.number order m _ h (members_view l) seen ks (c.in_ok-known.ensures.ok (c.args.limits.depth - 3)) in
+    let read = fields_of c.args.integers c.args.limits c.args.number order m _ h (members_view l) seen ks (c.in_ok-known.ensures.ok (c.args.limits.depth - 3)) in
     through c.after-in-Err-with_others.result c.in-Err-with_others.why c.after-in-Err-with_others.ensures b e c.in-Err-with_others.ensures.refused m.fields
-    (subst (λ (n : ℕ). AreReadFields n ks (get (codes "fields") (value_view c.args.json.now)) m.fields) (sym depth) read)
+    (subst (λ (n : ℕ). AreReadFields c.args.integers n ks (get (codes "fields") (value_view c.args.json.now)) m.fields) (sym depth) read)
 
 pub returns-in_err-body-clause-refused : goal.returns-in_err-body-clause-refused
 returns-in_err-body-clause-refused g c = λ b e order m h.
@@ -53,12 +53,12 @@ returns-in_err-body-clause-refused g c = λ b e order m h.
     let seen = object_seen c.args.json.now c.in-Object.members l c.in-Object.is c.as_slice-members.ensures.value in
     let ks = field_trees c.in_ok-known.known.items in
     let depth : c.saturating_sub-depth.result ≡ c.args.limits.depth - 3 = omega arith in
-    let read = fields_of c.args.limits c.args.number order m _ h (members_view l) seen ks (c.in_ok-known.ensures.ok (c.args.limits.depth - 3)) in
+    let read = fields_of c.args.integers c.args.limits c.args.number order m _ h (members_view l) seen ks (c.in_ok-known.ensures.ok (c.args.limits.depth - 3)) in
     let same : m.fields ≡ field_trees c.deref.result.now =
-    c.in-Ok-with_others.ensures.only m.fields (subst (λ (n : ℕ). AreReadFields n ks (get (codes "fields") (value_view c.args.json.now)) m.fields) (sym depth) read) ∙ ap field_trees (sym c.deref.ensures.value) in
+    c.in-Ok-with_others.ensures.only m.fields (subst (λ (n : ℕ). AreReadFields c.args.integers n ks (get (codes "fields") (value_view c.args.json.now)) m.fields) (sym depth) read) ∙ ap field_trees (sym c.deref.ensures.value) in
     c.in_err-body.ensures.refused b (failed c.from_residual-in_err-body.result c.in_err-body.field-0.0 c.from_residual-in_err-body.ensures.1 b e)
-    (subst (λ (fs : List FieldTree). IsKind Signature (body_signature fs)) same (signature_kind _ m.fields (fit_of c.args.limits c.args.number order m _ h)))
-    m.body (body_of c.args.limits c.args.number order m _ h (field_trees c.deref.result.now) same)
+    (subst (λ (fs : List FieldTree). IsKind Signature (body_signature fs)) same (signature_kind _ m.fields (fit_of c.args.integers c.args.limits c.args.number order m _ h)))
+    m.body (body_of c.args.integers c.args.limits c.args.number order m _ h (field_trees c.deref.result.now) same)
 
 pub returns-in-Ok-new_within-clause-ok : goal.returns-in-Ok-new_within-clause-ok
 returns-in-Ok-new_within-clause-ok g c =
@@ -73,8 +73,8 @@ returns-in-Ok-new_within-clause-ok g c =
     let serial : head.serial < 256 ^ 4 = omega arith in
     let depth : c.saturating_sub-depth.result ≡ c.args.limits.depth - 3 = omega arith in
     let distinct = c.first_again.ensures.none c.in_default-first_again.is in
-    let body = subst (λ (fs : List FieldTree). IsReadBody c.args.limits.depth (body_signature fs) (get (codes "body") (value_view c.args.json.now)) (value_trees_of c.in_ok-body.body.items)) (ap field_trees c.deref.ensures.value) c.in_ok-body.ensures.ok in
-    made c.args.limits c.args.number c.in-Ok.head.order q _ (record {
+    let body = subst (λ (fs : List FieldTree). IsReadBody c.args.integers c.args.limits.depth (body_signature fs) (get (codes "body") (value_view c.args.json.now)) (value_trees_of c.in_ok-body.body.items)) (ap field_trees c.deref.ensures.value) c.in_ok-body.ensures.ok in
+    made c.args.integers c.args.limits c.args.number c.in-Ok.head.order q _ (record {
       ms = members_view l;
       is = object_seen c.args.json.now c.in-Object.members l c.in-Object.is c.as_slice-members.ensures.value;
       distinct = distinct;
@@ -84,8 +84,8 @@ returns-in-Ok-new_within-clause-ok g c =
       serial_fits = serial;
       ks = ks;
       known = c.in_ok-known.ensures.ok (c.args.limits.depth - 3);
-      fields = subst (λ (n : ℕ). AreReadFields n ks told gs) depth c.in-Ok-with_others.ensures.ok;
-      only = λ fs k. c.in-Ok-with_others.ensures.only fs (subst (λ (n : ℕ). AreReadFields n ks told fs) (sym depth) k);
+      fields = subst (λ (n : ℕ). AreReadFields c.args.integers n ks told gs) depth c.in-Ok-with_others.ensures.ok;
+      only = λ fs k. c.in-Ok-with_others.ensures.only fs (subst (λ (n : ℕ). AreReadFields c.args.integers n ks told fs) (sym depth) k);
       body = body;
     }) c.in-Ok-new_within.message c.in-Ok-new_within.ensures.built
 
@@ -102,8 +102,8 @@ returns-in-Err-new_within-clause-refused g c = λ b e order m h.
     let serial : head.serial < 256 ^ 4 = omega arith in
     let depth : c.saturating_sub-depth.result ≡ c.args.limits.depth - 3 = omega arith in
     let distinct = c.first_again.ensures.none c.in_default-first_again.is in
-    let body = subst (λ (fs : List FieldTree). IsReadBody c.args.limits.depth (body_signature fs) (get (codes "body") (value_view c.args.json.now)) (value_trees_of c.in_ok-body.body.items)) (ap field_trees c.deref.ensures.value) c.in_ok-body.ensures.ok in
-    never_refused c.args.limits c.args.number c.in-Ok.head.order q _ (record {
+    let body = subst (λ (fs : List FieldTree). IsReadBody c.args.integers c.args.limits.depth (body_signature fs) (get (codes "body") (value_view c.args.json.now)) (value_trees_of c.in_ok-body.body.items)) (ap field_trees c.deref.ensures.value) c.in_ok-body.ensures.ok in
+    never_refused c.args.integers c.args.limits c.args.number c.in-Ok.head.order q _ (record {
       ms = members_view l;
       is = object_seen c.args.json.now c.in-Object.members l c.in-Object.is c.as_slice-members.ensures.value;
       distinct = distinct;
@@ -113,7 +113,7 @@ returns-in-Err-new_within-clause-refused g c = λ b e order m h.
       serial_fits = serial;
       ks = ks;
       known = c.in_ok-known.ensures.ok (c.args.limits.depth - 3);
-      fields = subst (λ (n : ℕ). AreReadFields n ks told gs) depth c.in-Ok-with_others.ensures.ok;
-      only = λ fs k. c.in-Ok-with_others.ensures.only fs (subst (λ (n : ℕ). AreReadFields n ks told fs) (sym depth) k);
+      fields = subst (λ (n : ℕ). AreReadFields c.args.integers n ks told gs) depth c.in-Ok-with_others.ensures.ok;
+      only = λ fs k. c.in-Ok-with_others.ensures.only fs (subst (λ (n : ℕ). AreReadFields c.args.integers n ks told fs) (sym depth) k);
       body = body;
     }) c.in-Err-new_within.refused c.in-Err-new_within.ensures.built c.in-Err-new_within.ensures.taken (c.in-Ok-with_others.ensures.packed, c.in_ok-body.ensures.packed) order m h

@@ -18,26 +18,26 @@ pub returns-in_default-clause-ok : goal.returns-in_default-clause-ok
 returns-in_default-clause-ok g c =
     let none : get (codes "fields") (value_view c.args.json.now) ≡ None = search rules in
     let ks = field_trees c.args.known.items in
-    known_read c.args.depth ks _ none ks (all_known c.args.depth 0 ks c.requires.known)
+    known_read c.args.integers c.args.depth ks _ none ks (all_known c.args.integers c.args.depth 0 ks c.requires.known)
 
 pub returns-in_default-clause-only : goal.returns-in_default-clause-only
 returns-in_default-clause-only g c = λ fs h.
     let none : get (codes "fields") (value_view c.args.json.now) ≡ None = search rules in
     let ks = field_trees c.args.known.items in
-    only_known c.args.depth 0 ks fs (read_known c.args.depth ks _ none fs h)
+    only_known c.args.integers c.args.depth 0 ks fs (read_known c.args.integers c.args.depth ks _ none fs h)
 
 pub returns-in_default-json : goal.returns-in_default-json
 returns-in_default-json g c = record {
   ok = tt;
   only = tt;
   packed = tt;
-  refused = λ b e fs h. no_row c.args.depth (field_trees c.args.known.items) _ (value_view c.in-Some.json.now) (sym c.in-Some.ensures) (no_array c.in-Some.json.now c.in_default-json.not-Array) fs h;
+  refused = λ b e fs h. no_row c.args.integers c.args.depth (field_trees c.args.known.items) _ (value_view c.in-Some.json.now) (sym c.in-Some.ensures) (no_array c.in-Some.json.now c.in_default-json.not-Array) fs h;
 }
 
 -- ---- the objects
 
 pub loop-i-init : goal.loop-i-init
-loop-i-init g c = (begins c.args.depth (field_trees c.args.known.items) _ c.requires.known, c.requires.packed)
+loop-i-init g c = (begins c.args.integers c.args.depth (field_trees c.args.known.items) _ c.requires.known, c.requires.packed)
 
 pub returns-in-Err-clause-refused : goal.returns-in-Err-clause-refused
 returns-in-Err-clause-refused g c = λ b e fs h.
@@ -47,11 +47,11 @@ returns-in-Err-clause-refused g c = λ b e fs h.
     let ks = field_trees c.args.known.items in
     let gs = field_trees c.loop-i.fields.items in
     let seen = array_seen c.in-Some.json.now c.in-Array.items l c.in-Array.is c.as_slice-items.ensures.value in
-    let going = subst (IsMerging c.args.depth ks (map value_view l) c.loop-i.next gs) (json_at l i x c.loop-i-test.true c.index-items-i.is) c.loop-i.invariant.0 in
+    let going = subst (IsMerging c.args.integers c.args.depth ks (map value_view l) c.loop-i.next gs) (json_at l i x c.loop-i-test.true c.index-items-i.is) c.loop-i.invariant.0 in
     let size : length gs ≡ c.len.result = trees_long c.loop-i.fields.items ∙ sym c.loop-i.fields.ok.0 ∙ sym c.len.ensures in
-    no_field c.args.depth ks (map value_view l) c.loop-i.next gs (value_view x) (map value_view (drop (i + 1) l)) going
-    (λ place f one. through c.after.result c.in-Err.why c.after.ensures b e c.in-Err.ensures.refused place f (subst (λ (n : ℕ). IsOtherField c.args.depth n place f (value_view x)) size one)) fs
-    (read_row c.args.depth ks _ (value_view c.in-Some.json.now) (map value_view l) (sym c.in-Some.ensures) seen fs h)
+    no_field c.args.integers c.args.depth ks (map value_view l) c.loop-i.next gs (value_view x) (map value_view (drop (i + 1) l)) going
+    (λ place f one. through c.after.result c.in-Err.why c.after.ensures b e c.in-Err.ensures.refused place f (subst (λ (n : ℕ). IsOtherField c.args.integers c.args.depth n place f (value_view x)) size one)) fs
+    (read_row c.args.integers c.args.depth ks _ (value_view c.in-Some.json.now) (map value_view l) (sym c.in-Some.ensures) seen fs h)
 
 pub returns-then-place-next-clause-refused : goal.returns-then-place-next-clause-refused
 returns-then-place-next-clause-refused g c = λ b e fs h.
@@ -61,14 +61,14 @@ returns-then-place-next-clause-refused g c = λ b e fs h.
     let ks = field_trees c.args.known.items in
     let gs = field_trees c.loop-i.fields.items in
     let seen = array_seen c.in-Some.json.now c.in-Array.items l c.in-Array.is c.as_slice-items.ensures.value in
-    let going = subst (IsMerging c.args.depth ks (map value_view l) c.loop-i.next gs) (json_at l i x c.loop-i-test.true c.index-items-i.is) c.loop-i.invariant.0 in
+    let going = subst (IsMerging c.args.integers c.args.depth ks (map value_view l) c.loop-i.next gs) (json_at l i x c.loop-i-test.true c.index-items-i.is) c.loop-i.invariant.0 in
     let size : length gs ≡ c.len.result = trees_long c.loop-i.fields.items ∙ sym c.loop-i.fields.ok.0 ∙ sym c.len.ensures in
     let few : length gs < 2 ^ 64 = omega (arith, size) in
     let place = c.in-Ok.read.0 in
     let f = field_tree c.in-Ok.read.1 in
-    let one = subst (λ (n : ℕ). IsOtherField c.args.depth n place f (value_view x)) (sym size) c.in-Ok.ensures.ok in
-    too_low c.args.depth ks (map value_view l) c.loop-i.next gs (value_view x) (map value_view (drop (i + 1) l)) going place f few one c.if-place-next.true fs
-    (read_row c.args.depth ks _ (value_view c.in-Some.json.now) (map value_view l) (sym c.in-Some.ensures) seen fs h)
+    let one = subst (λ (n : ℕ). IsOtherField c.args.integers c.args.depth n place f (value_view x)) (sym size) c.in-Ok.ensures.ok in
+    too_low c.args.integers c.args.depth ks (map value_view l) c.loop-i.next gs (value_view x) (map value_view (drop (i + 1) l)) going place f few one c.if-place-next.true fs
+    (read_row c.args.integers c.args.depth ks _ (value_view c.in-Some.json.now) (map value_view l) (sym c.in-Some.ensures) seen fs h)
 
 pub loop-i-preserved : goal.loop-i-preserved
 loop-i-preserved g c =
@@ -77,16 +77,16 @@ loop-i-preserved g c =
     let x = c.index-items-i.result in
     let ks = field_trees c.args.known.items in
     let gs = field_trees c.loop-i.fields.items in
-    let going = subst (IsMerging c.args.depth ks (map value_view l) c.loop-i.next gs) (json_at l i x c.loop-i-test.true c.index-items-i.is) c.loop-i.invariant.0 in
+    let going = subst (IsMerging c.args.integers c.args.depth ks (map value_view l) c.loop-i.next gs) (json_at l i x c.loop-i-test.true c.index-items-i.is) c.loop-i.invariant.0 in
     let size : length gs ≡ c.len.result = trees_long c.loop-i.fields.items ∙ sym c.loop-i.fields.ok.0 ∙ sym c.len.ensures in
     let few : length gs < 2 ^ 64 = omega (arith, size) in
     let place = c.in-Ok.read.0 in
     let f = field_tree c.in-Ok.read.1 in
-    let one = subst (λ (n : ℕ). IsOtherField c.args.depth n place f (value_view x)) (sym size) c.in-Ok.ensures.ok in
+    let one = subst (λ (n : ℕ). IsOtherField c.args.integers c.args.depth n place f (value_view x)) (sym size) c.in-Ok.ensures.ok in
     let put : c.insert.new.self.items ≡ insert c.loop-i.fields.items place c.in-Ok.read.1 = search rules in
     let trees = ap field_trees put ∙ trees_put c.loop-i.fields.items place c.in-Ok.read.1 in (
-      subst (λ hs. IsMerging c.args.depth ks (map value_view l) (place + 1) hs (map value_view (drop (i + 1) l))) (sym trees)
-          (goes_on c.args.depth ks (map value_view l) c.loop-i.next gs (value_view x) (map value_view (drop (i + 1) l)) going place f few one c.if-place-next.false),
+      subst (λ hs. IsMerging c.args.integers c.args.depth ks (map value_view l) (place + 1) hs (map value_view (drop (i + 1) l))) (sym trees)
+          (goes_on c.args.integers c.args.depth ks (map value_view l) c.loop-i.next gs (value_view x) (map value_view (drop (i + 1) l)) going place f few one c.if-place-next.false),
       subst (λ hs. IsTrue (keep_bytes (field_values hs))) (sym put) (values_put c.loop-i.fields.items place c.in-Ok.read.1 c.loop-i.invariant.1 c.in-Ok.ensures.packed),
     )
 
@@ -96,8 +96,8 @@ returns-clause-ok g c =
     let ks = field_trees c.args.known.items in
     let gs = field_trees c.loop-i.fields.items in
     let seen = array_seen c.in-Some.json.now c.in-Array.items l c.in-Array.is c.as_slice-items.ensures.value in
-    let going = subst (IsMerging c.args.depth ks (map value_view l) c.loop-i.next gs) (at_drop_all (map value_view) l c.loop-i.i c.loop-i-test.false) c.loop-i.invariant.0 in
-    row_read c.args.depth ks _ (value_view c.in-Some.json.now) (map value_view l) (sym c.in-Some.ensures) seen gs (merged c.args.depth ks (map value_view l) c.loop-i.next gs going)
+    let going = subst (IsMerging c.args.integers c.args.depth ks (map value_view l) c.loop-i.next gs) (at_drop_all (map value_view) l c.loop-i.i c.loop-i-test.false) c.loop-i.invariant.0 in
+    row_read c.args.integers c.args.depth ks _ (value_view c.in-Some.json.now) (map value_view l) (sym c.in-Some.ensures) seen gs (merged c.args.integers c.args.depth ks (map value_view l) c.loop-i.next gs going)
 
 pub returns-clause-only : goal.returns-clause-only
 returns-clause-only g c = λ fs h.
@@ -105,5 +105,5 @@ returns-clause-only g c = λ fs h.
     let ks = field_trees c.args.known.items in
     let gs = field_trees c.loop-i.fields.items in
     let seen = array_seen c.in-Some.json.now c.in-Array.items l c.in-Array.is c.as_slice-items.ensures.value in
-    let going = subst (IsMerging c.args.depth ks (map value_view l) c.loop-i.next gs) (at_drop_all (map value_view) l c.loop-i.i c.loop-i-test.false) c.loop-i.invariant.0 in
-    alone c.args.depth ks (map value_view l) c.loop-i.next gs going fs (read_row c.args.depth ks _ (value_view c.in-Some.json.now) (map value_view l) (sym c.in-Some.ensures) seen fs h)
+    let going = subst (IsMerging c.args.integers c.args.depth ks (map value_view l) c.loop-i.next gs) (at_drop_all (map value_view) l c.loop-i.i c.loop-i-test.false) c.loop-i.invariant.0 in
+    alone c.args.integers c.args.depth ks (map value_view l) c.loop-i.next gs going fs (read_row c.args.integers c.args.depth ks _ (value_view c.in-Some.json.now) (map value_view l) (sym c.in-Some.ensures) seen fs h)

@@ -8,5 +8,5 @@ use Rattle.dbus_json_reader.proofs.others.with_others.Given as goal
 
 abbrev pub invariant-loop-i : goal.invariant-loop-i
 invariant-loop-i g l =
-    IsMerging l.depth (field_trees l.fn.known.items) (map value_view l.items) l.next (field_trees l.fields.items) (map value_view (drop l.i l.items))
+    IsMerging l.integers l.depth (field_trees l.fn.known.items) (map value_view l.items) l.next (field_trees l.fields.items) (map value_view (drop l.i l.items))
     × IsTrue (keep_bytes (field_values l.fields.items))

@@ -24,9 +24,9 @@ decreases-read_variant g l = 2 * length (json_tokens (value_view l.json.now))
 
 abbrev pub invariant-read_array-loop-i : goal.invariant-read_array-loop-i
 invariant-read_array-loop-i g l =
-    let each = AreElements (l.depth - 1) (type_tree l.element) in
+    let each = AreElements l.integers (l.depth - 1) (type_tree l.element) in
     IsGoing each each (items_view l.items) (items_view (drop l.i l.items)) l.values.items × IsTrue (keep_bytes l.values.items)
 
 abbrev pub invariant-read_values-loop-i : goal.invariant-read_values-loop-i
 invariant-read_values-loop-i g l =
-    IsGoing (AreRead l.depth (type_trees_of l.types)) (AreRead l.depth (type_trees_of (drop l.i l.types))) (items_view l.items) (items_view (drop l.i l.items)) l.values.items × IsTrue (keep_bytes l.values.items)
+    IsGoing (AreRead l.integers l.depth (type_trees_of l.types)) (AreRead l.integers l.depth (type_trees_of (drop l.i l.types))) (items_view l.items) (items_view (drop l.i l.items)) l.values.items × IsTrue (keep_bytes l.values.items)

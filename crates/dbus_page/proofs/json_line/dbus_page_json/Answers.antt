@@ -1,6 +1,7 @@
 use Rattle.std.proofs.Common.{◌≡◌, rules, subst, sym}
 use Rattle.dbus_header.specs.MessageOutcomes.{IsWhole}
 use Rattle.dbus_header.proofs.OutcomeLaws.{one_whole}
+use Rattle.dbus_json.specs.declared.integers.Integers.TheVariants.{Exact}
 use Rattle.dbus_json.specs.JsonMessages.{IsJsonLine}
 use Rattle.dbus_json.specs.declared.place.LinePlace.{LinePlace}
 use Rattle.dbus_message_model.specs.Messages.{MessageTree}
@@ -22,6 +23,6 @@ returns-in-Some-clause-written c = λ order m n whole.
     let same = gains.2.same in
     let back : c.write_json.new.draft.bytes.now ≡ c.room-1.given.0 = search rules in (
       gains.0,
-      subst (λ (p : LinePlace). IsJsonLine order m p gains.0) c.line_place.ensures (subst (λ (o : Order). IsJsonLine o m c.line_place.result gains.0) one.0 gains.1),
+      subst (λ (p : LinePlace). IsJsonLine Exact order m p gains.0) c.line_place-place.ensures (subst (λ (o : Order). IsJsonLine Exact o m c.line_place-place.result gains.0) one.0 gains.1),
       ended c.args.room.now gains.0 c.new-draft.result c.write_json.new.draft c.new-draft.ensures.begins gains.2 _ c.end.new.count c.end.result back c.end.ensures.counted c.end.ensures.answers,
     )

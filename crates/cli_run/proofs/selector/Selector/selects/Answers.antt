@@ -1,4 +1,4 @@
-use Rattle.std.proofs.Common.{◌≡◌, Bool, true, false, List, not, refl, subst}
+use Rattle.std.proofs.Common.{Bool, true, false, List, not, refl, subst}
 use Rattle.std.specs.Bool.{Decides}
 use Rattle.std.specs.Map.{values_of}
 use Rattle.std.specs.declared.alloc.Global.{Global}
