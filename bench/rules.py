@@ -1,5 +1,6 @@
 #!/usr/bin/env python3
-"""rules.py [--check]: writes the part "Rules" of the manual page out of the definitions of dbus_explain, which the prover compares with the code.
+"""rules.py [--check]: writes the parts "Rules" and "Rules of lines" of the manual page out of the definitions of dbus_explain and cli_encode, which the
+prover compares with the code.
 
 They are what `--explain` and `rule` of `--json` say of each reason, and of what an input looks like. With --check nothing is written, and the exit
 status is 1 if the page is not current.
@@ -16,7 +17,13 @@ PAGE = ROOT / "man" / "dbus-wire.1"
 REASONS = "dbus_value_model/specs/FaultTexts.antt"
 RULES = "dbus_explain/specs/Rules.antt"
 LOOKS = "dbus_explain/specs/Looks.antt"
+LINE_REASONS = "dbus_json_reader/specs/JsonReasons.antt"
+LINE_RULES = "cli_encode/specs/Rules.antt"
 PART = re.compile(r"(?<=\n)\.SS Rules\n.*?(?=\.S[SH] )", re.S)
+LINES_PART = re.compile(r"(?<=\n)\.SS Rules of lines\n.*?(?=\.S[SH] )", re.S)
+# A rule of a line: its own words, those of messages, or these and the one of a reason more.
+OWN = re.compile(r'codes "(.*)"$')
+MESSAGE = re.compile(r"rule_text \(?broken\.(\w+)(?: code\))?(?: \+\+ (\w+))?$")
 RULED = r'ruled \(codes "(.*?)"\) \(codes "(.*?)"\)'
 LOOK = re.compile(r'if (.*) then codes "(.*)"')
 FRONT = re.compile(r"begins bytes \((.*?)\)(?= \|\||$)")
@@ -31,6 +38,14 @@ and
 of
 .B \\-\\-json
 have it for each reason:
+.nh
+"""
+LINES_HEAD = """.SS Rules of lines
+What has to be there, as
+.B \\-\\-explain
+of
+.B encode
+has it for each reason:
 .nh
 """
 LOOKS_HEAD = """.PP
@@ -58,6 +73,32 @@ def rules():
     return [row for name in names for row in (missing.items() if name == "FieldMissing" else [(name, own[name])])]
 
 
+def worded(rule, section):
+    return f'{rule} (D-Bus Specification, "{section}")'
+
+
+def line_rules():
+    """Each reason of a line with its rule, in the order of the reasons. The rule that all have that no row names is that of messages."""
+    text = text_of(LINE_RULES)
+    messages = {name: worded(*pair) for name, pair in rules()}
+    also = {name: f"; {messages[why]}" for name, why in re.findall(r'^(\w+) = codes "; " \+\+ rule_text broken\.(\w+)$', text, re.M)}
+    rows = re.findall(r"^\w+_text \(?reason\.(\w+)(?: code\))? = (.*)$", text, re.M)
+    found = {"TooLong": OWN.match(re.search(r"^line_rule_text TooLong = (.*)$", text, re.M)[1])[1]}
+    for name, said in rows + re.findall(r"^message_rule_text (why) = (.*)$", text, re.M):
+        message, ruled = MESSAGE.match(said), re.match(RULED, said)
+        if message and message[1] == "FieldMissing":
+            found |= {it: rule for it, rule in messages.items() if it.startswith("FieldMissing(")}
+        elif message:
+            found[message[1]] = messages[message[1]] + also.get(message[2], "")
+        else:
+            found[name] = worded(*ruled.groups()) if ruled else OWN.match(said)[1]
+    names = re.findall(r"^json_reason_text \(?reason\.(\w+)", text_of(LINE_REASONS), re.M)
+    order = ["TooLong"] + [it for name in names for it in ([n for n in found if n.startswith("FieldMissing(")] if name == "FieldMissing" else [name])]
+    if set(order) != set(found):
+        sys.exit(f"{LINE_RULES} has not one row for each reason: {', '.join(set(order) ^ set(found))}")
+    return [(name, found[name]) for name in order]
+
+
 def bytes_of(list_text):
     """The bytes of a list, in hexadecimal."""
     parts = re.findall(r'codes "(.*)"|(0x[0-9A-F]+|\d+)', list_text)
@@ -80,16 +121,25 @@ def filled(text):
     return "".join(("\\&" if it[0] in ".'" else "") + it + ("\\&" if it[-1] in ".?!" else "") + "\n" for it in lines)
 
 
+def table(rows):
+    return "".join(f".TP\n.B {name}\n{filled(rule)}" for name, rule in rows)
+
+
 def part():
-    ruled = "".join(f".TP\n.B {name}\n" + filled(f'{rule} (D-Bus Specification, "{section}")') for name, (rule, section) in rules())
-    looked = "".join(f".TP\n.B {front}\n{filled(said)}" for front, said in looks())
+    ruled = table((name, worded(*pair)) for name, pair in rules())
+    looked = table(looks())
     return HEAD + ruled + LOOKS_HEAD + looked + ".hy\n"
+
+
+def lines_part():
+    return f"{LINES_HEAD}{table(line_rules())}.hy\n"
 
 
 def main(*words):
     new, count = PART.subn(lambda _: part(), PAGE.read_text())
-    if count != 1:
-        sys.exit(f"{PAGE} has not one part Rules")
+    new, lines_count = LINES_PART.subn(lambda _: lines_part(), new)
+    if (count, lines_count) != (1, 1):
+        sys.exit(f"{PAGE} has not one part Rules and one part Rules of lines")
     return write_or_check(PAGE, new, words, "man/dbus-wire.1 has other rules than the definitions: make definitions writes them")
 
 

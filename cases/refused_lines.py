@@ -1,7 +1,7 @@
 #!/usr/bin/env python3
-"""refused_lines.py PROGRAM [LINES [SEED [WORD..]]]: reads changed lines of JSON by itself, and says where `PROGRAM encode --keep-going`, or what the
-words run, tells another reason or column. The lines are those of json.txt, of encode.txt and of the samples, changed at random. The exit status is 1 if
-something differs.
+"""refused_lines.py PROGRAM [LINES [SEED [WORD..]]]: reads changed lines of JSON by itself, and says where `PROGRAM encode --keep-going`, without
+`--safe-integers`, with it and with `--explain`, or what the words run, tells another reason or column, or explains that otherwise. The lines are those
+of json.txt, of encode.txt and of the samples, changed at random. The exit status is 1 if something differs.
 
 What a line spells is as the manual page of dbus-wire describes it.
 """
@@ -17,6 +17,7 @@ import sys
 sys.dont_write_bytecode = True
 sys.setrecursionlimit(10000)
 
+from lines import is_hidden  # noqa: E402
 from read_cases import DATA, read_cases, read_parts  # noqa: E402
 
 SPACE, MARKS = b" \t\n\r", b"{}[],:"
@@ -39,6 +40,7 @@ KNOWN_TEXTS = {2: ("Interface", INTERFACE), 3: ("Member", ELEMENTS), 4: ("ErrorN
 KNOWN_TEXTS |= {code: ("BusName", rf"{WELL_KNOWN}|:[A-Za-z0-9_-]+(\.[A-Za-z0-9_-]+)+") for code in (6, 7)}
 PATH = r"/|(/[A-Za-z0-9_]+)+"
 DEPTH, LINE_DEPTH = 64, 130
+GREATEST_SAFE = 9007199254740991
 
 Node = collections.namedtuple("Node", "kind value at")
 Member = collections.namedtuple("Member", "name at node")
@@ -46,6 +48,10 @@ Member = collections.namedtuple("Member", "name at node")
 
 class Refused(Exception):
     """A reason, and the place in bytes from 0."""
+
+
+# Whether `--safe-integers` is among the words.
+safe_integers = False
 
 
 def refuse(at, reason):
@@ -212,6 +218,8 @@ def integer(node, kind):
         refuse(node.at, "NotInteger")
     if not low <= int(node.value) < high:
         refuse(node.at, "Range" if node.kind == "number" or node.value != "0" else "Digits")
+    if safe_integers and kind in "xt" and node.kind == "number" and abs(int(node.value)) > GREATEST_SAFE:
+        refuse(node.at, "MayBeRounded")
     return int(node.value)
 
 
@@ -422,6 +430,8 @@ def refusal(line, number):
 
 PIECES = b'0 -0 1 -1 255 256 65536 -32769 4294967296 9223372036854775808 -9223372036854775809 18446744073709551616 1.0 1e3 1e999 01 true null "1" "-5" "x"'.split()
 PIECES += b'"" "zz" "7ff0000000000000" [] {} [1] ["a",1] "/" "/a" "a.b" "l" "B" "signal" "s" "su" "a{sv}" "\\u0000" "\\ud83d" "\\u00e9" NaN'.split()
+PIECES += b'9007199254740991 9007199254740992 -9007199254740992 "9007199254740992" "-1" 18446744073709551615 "01"'.split()
+PIECES += [b'{"type":"t","value":9007199254740992}', b'{"type":"x","value":"-9007199254740992"}', b'{"type":"x","value":-9007199254740992}']
 PIECES += [b'{"type":"u","value":1}', b'{"value":"a","type":"s"}', b'{"type":"u"}', b'{"type":"u","value":-1}', b'{"type":"a","value":1}', b'{"type":1,"value":1}']
 MEMBERS = [b'"order":"B"', b'"type":3', b'"type":9', b'"flags":256', b'"serial":0', b'"path":"/x"', b'"interface":"q"', b'"member":"M.M"', b'"error_name":"e"']
 MEMBERS += [b'"reply_serial":0', b'"destination":":1.2"', b'"sender":"a"', b'"signature":"s"', b'"unix_fds":2', b'"body":["x"]', b'"x":1', b'"fields":[]']
@@ -468,20 +478,49 @@ def lines_of(program):
         yield from (it for it in read_parts(row[2], DATA).split(b"\n")[:40] if len(it) < 2000)
 
 
-def main(program, count=10000, seed=1, *words):
-    dice = random.Random(int(seed))
-    some = [it for it in lines_of(program) if it.strip()]
-    lines = [changed(dice.choice(some), dice) for _ in range(int(count))]
+def rules_of_reasons():
+    """What the manual page says that has to be there, for each reason."""
+    page = (DATA.parent.parent / "man" / "dbus-wire.1").read_text()
+    rows = page.partition("\n.SS Rules of lines\n")[2].partition("\n.hy\n")[0].split("\n.TP\n.B ")[1:]
+    said = {name: text.replace("\n", " ").strip() for name, _, text in (it.partition("\n") for it in rows)}
+    return {name: text.replace("\\-", "-").replace("\\(dq", '"').replace("\\&", "") for name, text in said.items()}
+
+
+def seen(part):
+    """A part of a line as a terminal may get it."""
+    letters = part.decode("utf-8", "replace")
+    return "".join(f"\\x{ord(it):02x}" if it < " " or it == "\x7f" else f"\\u{{{ord(it):x}}}" if is_hidden(it) else it for it in letters)
+
+
+def explanation(line, column, rule):
+    before, there = seen(line[max(0, column - 41) : column - 1]), seen(line[column - 1 : column + 35])
+    return f"\n  {before}{there}\n  {' ' * len(before)}^\n  {rule}"
+
+
+def compared(lines, words):
+    """Whether what the words run tells of the lines what is told here."""
+    global safe_integers
+    safe_integers = "--safe-integers" in words
     numbers = itertools.count(1)
     found = [refusal(it, next(numbers)) if it.strip(SPACE) else None for it in lines]
-    wanted = [f"refused at line {n}, column {it[0]}: {it[1]}" for n, it in enumerate(found, 1) if it]
-    ran = subprocess.run(words or [program, "encode", "--keep-going"], input=b"\n".join(lines) + b"\n", capture_output=True)
-    told = ran.stderr.decode().split("\n")[:-1]
+    ruled = rules_of_reasons() if "--explain" in words else {}
+    explained = [explanation(lines[n], it[0], ruled[it[1]]) if it and ruled else "" for n, it in enumerate(found)]
+    wanted = [f"refused at line {n}, column {it[0]}: {it[1]}{explained[n - 1]}" for n, it in enumerate(found, 1) if it]
+    ran = subprocess.run(words, input=b"\n".join(lines) + b"\n", capture_output=True)
+    told = re.split(r"\n(?=refused )", ran.stderr.decode().removesuffix("\n"))
     wrong = [f"{a}\n{b}\n{lines[int(re.search('[0-9]+', a)[0]) - 1]}" for a, b in zip(wanted, told) if a != b]
     reasons = collections.Counter(it[1] for it in found if it)
     print(*wrong[:20], *(f"{reason} {times}" for reason, times in sorted(reasons.items())), sep="\n")
     print(f"{len(lines)} lines, {len(wanted)} refused, {len(told)} told, {len(wrong)} differ")
-    return 1 if wrong or len(wanted) != len(told) or ran.returncode != (1 if wanted else 0) else 0
+    return not wrong and len(wanted) == len(told) and ran.returncode == (1 if wanted else 0)
+
+
+def main(program, count=10000, seed=1, *words):
+    dice = random.Random(int(seed))
+    some = [it for it in lines_of(program) if it.strip()]
+    lines = [changed(dice.choice(some), dice) for _ in range(int(count))]
+    encode = [program, "encode", "--keep-going"]
+    return 0 if all([compared(lines, it) for it in ([words] if words else (encode, [*encode, "--safe-integers"], [*encode, "--explain"]))]) else 1
 
 
 if __name__ == "__main__":

@@ -69,7 +69,7 @@ _dbus_wire() {
             COMPREPLY=($(compgen -W "--time --escape --skip --limit --check-rest --keep-going --resync --resync-window $options" -- "$word"))
             ;;
         json)
-            COMPREPLY=($(compgen -W "--no-time --skip --limit --check-rest --keep-going --resync --resync-window $options" -- "$word"))
+            COMPREPLY=($(compgen -W "--no-time --safe-integers --skip --limit --check-rest --keep-going --resync --resync-window $options" -- "$word"))
             ;;
         list)
             if [[ $word == -* ]]; then
@@ -88,7 +88,7 @@ _dbus_wire() {
             COMPREPLY=($(compgen -W "--members --unanswered --errors --slower --keep-going --resync --resync-window $options" -- "$word"))
             ;;
         encode)
-            COMPREPLY=($(compgen -W '--to --keep-going --max-line --max-message --max-array --max-depth --fds -h --help' -- "$word"))
+            COMPREPLY=($(compgen -W '--to --safe-integers --explain --keep-going --max-line --max-message --max-array --max-depth --fds -h --help' -- "$word"))
             ;;
         handshake)
             COMPREPLY=($(compgen -W '--side -h --help' -- "$word"))

@@ -8,7 +8,7 @@ use Rattle.dbus_lines.specs.Gathering.{IsWithin}
 use Rattle.dbus_json_lines.specs.JsonLines.{IsBlank}
 use Rattle.dbus_json_lines.specs.LineFaults.{IsPlaceOf}
 use Rattle.dbus_json_lines.specs.declared.fault.LineFault.{LineFault}
-use Rattle.cli_encode.specs.Outcomes.{Outcome, Refused, Written, IsOutcome, bytes_of, is_refused, next_serial, refused_line, serial_after, text_of}
+use Rattle.cli_encode.specs.Outcomes.{Outcome, Refused, Written, IsOutcome, bytes_of, is_refused, next_serial, refused_text, serial_after, text_of}
 use Rattle.cli_encode.specs.Running.{TellsLine}
 use Rattle.cli_encode.specs.Steps.{SameState, TakesLine}
 use Rattle.cli_encode.specs.declared.encoder.Encoder.{Encoder}
@@ -45,12 +45,12 @@ newly false done e f = f
 
 module _ {A W E : Type 0} (held : W → Option (List ℕ)) (failures : W → ℕ) (second_held : E → Option (List ℕ)) (second_failures : E → ℕ) where
   -- a line is refused, and told
-  pub takes_refused : (line : List ℕ) (why : Refusal) (old new : Encoder A) (w0 w1 : W) (e0 e1 : E) (result : Result (Unit {0}) Stop) → IsOutcome old.encoding old.serial line (Refused why)
+  pub takes_refused : (line : List ℕ) (why : Refusal) (explained : List ℕ) (old new : Encoder A) (w0 w1 : W) (e0 e1 : E) (result : Result (Unit {0}) Stop) → IsOutcome old.encoding old.serial line (Refused why explained)
       → new.encoding ≡ old.encoding → new.number ≡ old.number + 1 → new.serial ≡ next_serial old.serial → new.refused ≡ true
       → Passes held failures [] (gathered_bytes old.gathered) (gathered_bytes new.gathered) w0 w1 → gathered_bytes new.gathered ≡ []
-      → TellsLine second_held second_failures (refused_line new.number why) e0 e1 result → TakesLine held failures second_held second_failures line old new w0 w1 e0 e1 result
-  takes_refused line why old new w0 w1 e0 e1 (Ok x) is encoding number serial refused p none t = (
-    Refused why,
+      → TellsLine second_held second_failures (refused_text new.number why explained) e0 e1 result → TakesLine held failures second_held second_failures line old new w0 w1 e0 e1 result
+  takes_refused line why explained old new w0 w1 e0 e1 (Ok x) is encoding number serial refused p none t = (
+    Refused why explained,
     record {
       is = is;
       encoding = encoding;
@@ -62,16 +62,16 @@ module _ {A W E : Type 0} (held : W → Option (List ℕ)) (failures : W → ℕ
       tells = t;
     },
   )
-  takes_refused line why old new w0 w1 e0 e1 (Err (ByCause Memory)) is encoding number serial refused p none t =
+  takes_refused line why explained old new w0 w1 e0 e1 (Err (ByCause Memory)) is encoding number serial refused p none t =
       (subst (λ (g : List ℕ). Passes held failures [] (gathered_bytes old.gathered) g w0 w1) none p, t)
-  takes_refused line why old new w0 w1 e0 e1 (Err (ByCause ReadFailed)) is encoding number serial refused p none t = absurd t
-  takes_refused line why old new w0 w1 e0 e1 (Err (ByCause WriteFailed)) is encoding number serial refused p none t = absurd t
-  takes_refused line why old new w0 w1 e0 e1 (Err (ByCause TooManyReads)) is encoding number serial refused p none t = absurd t
-  takes_refused line why old new w0 w1 e0 e1 (Err Untold) is encoding number serial refused p none (n, s) = (
-    Refused why,
+  takes_refused line why explained old new w0 w1 e0 e1 (Err (ByCause ReadFailed)) is encoding number serial refused p none t = absurd t
+  takes_refused line why explained old new w0 w1 e0 e1 (Err (ByCause WriteFailed)) is encoding number serial refused p none t = absurd t
+  takes_refused line why explained old new w0 w1 e0 e1 (Err (ByCause TooManyReads)) is encoding number serial refused p none t = absurd t
+  takes_refused line why explained old new w0 w1 e0 e1 (Err Untold) is encoding number serial refused p none (n, s) = (
+    Refused why explained,
     is,
     subst (λ (g : List ℕ). Passes held failures [] (gathered_bytes old.gathered) g w0 w1) none p,
-    (n, subst (λ (k : ℕ). Stopped second_held second_failures e0 (refused_line k why) n e1) number s),
+    (n, subst (λ (k : ℕ). Stopped second_held second_failures e0 (refused_text k why explained) n e1) number s),
   )
 
   is_outcome : (line : List ℕ) (old mid : Encoder A) → SameState old mid → (done : Outcome) → IsOutcome mid.encoding mid.serial line done → IsOutcome old.encoding old.serial line done

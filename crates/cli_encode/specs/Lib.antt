@@ -1,3 +1,5 @@
+pub mod Rules
+pub mod Explained
 pub mod Outcomes
 pub mod Running
 pub mod Steps

@@ -3,8 +3,10 @@
 use Rattle.std.specs.Prelude.{◌≡◌, ◌<◌, ◌≤◌, ◌+◌, ℕ, Bool, true, false, ◌||◌, nat_eq, if◌then◌else◌, List, [], ◌∷◌, ◌++◌, length, Option, None, Some, codes, decimal}
 use Rattle.dbus_value_model.specs.declared.order.Order.{Order}
 use Rattle.dbus_message_model.specs.Messages.{MessageTree, message_bytes}
+use Rattle.dbus_json.specs.JsonIntegers.{integers_of}
 use Rattle.dbus_json_lines.specs.JsonLines.{IsBlank, IsLineOf}
 use Rattle.dbus_json_lines.specs.LineFaults.{IsPlaceOf}
+use Rattle.cli_encode.specs.Explained.{explanation}
 use Rattle.cli_encode.specs.declared.encoding.Encoding.{Encoding}
 use Rattle.dbus_json_reader.specs.JsonReasons.{json_reason_text}
 use Rattle.cli_encode.specs.declared.reason.LineReason.{LineReason}
@@ -14,7 +16,7 @@ use Rattle.cli_encode.specs.declared.reason.Refusal.{Refusal}
 pub data Outcome : Type 0 where
   Written : List ℕ → Outcome
   Passed : Outcome
-  Refused : Refusal → Outcome
+  Refused : Refusal → (explained : List ℕ) → Outcome
 
 -- the order that is wanted, or the one that the line names
 abbrev pub order_in : Option Order → Order → Order
@@ -26,7 +28,7 @@ module _ (encoding : Encoding) where
   pub record Encodes (serial : ℕ) (line bytes : List ℕ) : Type 0 where
     pub order : Order
     pub message : MessageTree
-    pub spelled : IsLineOf encoding.limits serial line order message
+    pub spelled : IsLineOf (integers_of encoding.safe_integers) encoding.limits serial line order message
     pub encoded : bytes ≡ message_bytes (order_in encoding.order order) message
 
   -- it has more bytes than a line may have, and is refused at the first past those; or it spells no
@@ -39,7 +41,7 @@ module _ (encoding : Encoding) where
   abbrev pub IsOutcome : (serial : ℕ) → (line : List ℕ) → Outcome → Type 0
   IsOutcome serial line (Written bytes) = (length line ≤ encoding.most) × (IsBlank line → ⊥) × Encodes serial line bytes
   IsOutcome serial line Passed = (length line ≤ encoding.most) × IsBlank line
-  IsOutcome serial line (Refused why) = IsRefused serial line why.reason why.at
+  IsOutcome serial line (Refused why explained) = IsRefused serial line why.reason why.at × (explained ≡ explanation encoding.explains line why)
 
 -- The serial of a message with none is the number of its line among those that are not blank, from
 -- 1 to the greatest number of 32 bits, and then from 1 again.
@@ -49,7 +51,7 @@ next_serial serial = if nat_eq serial 4294967295 then 1 else serial + 1
 abbrev pub serial_after : Outcome → ℕ → ℕ
 serial_after (Written bytes) serial = next_serial serial
 serial_after Passed serial = serial
-serial_after (Refused why) serial = next_serial serial
+serial_after (Refused why explained) serial = next_serial serial
 
 -- what becomes of lines, the first of which has this serial
 abbrev pub AreOutcomes : Encoding → (serial : ℕ) → List (List ℕ) → List Outcome → Type 0
@@ -63,24 +65,26 @@ AreOutcomes encoding serial (line ∷ lines) (outcome ∷ outcomes) =
 abbrev pub bytes_of : Outcome → List ℕ
 bytes_of (Written bytes) = bytes
 bytes_of Passed = []
-bytes_of (Refused why) = []
+bytes_of (Refused why explained) = []
 
 abbrev pub all_bytes : List Outcome → List ℕ
 all_bytes [] = []
 all_bytes (outcome ∷ outcomes) = bytes_of outcome ++ all_bytes outcomes
 
--- what is told of a refused line: its number and the column, both from 1, and the reason
+-- what is told of a refused line: its number and the column, both from 1, the reason, and what
+-- explains it
 abbrev pub line_reason_text : LineReason → List ℕ
 line_reason_text TooLong = codes "TooLong"
 line_reason_text (Unspelled why) = json_reason_text why
 
-abbrev pub refused_line : ℕ → Refusal → List ℕ
-refused_line number why = codes "refused at line " ++ (decimal number ++ (codes ", column " ++ (decimal (why.at + 1) ++ (codes ": " ++ (line_reason_text why.reason ++ codes "\n")))))
+abbrev pub refused_text : ℕ → Refusal → (explained : List ℕ) → List ℕ
+refused_text number why explained =
+    codes "refused at line " ++ (decimal number ++ (codes ", column " ++ (decimal (why.at + 1) ++ (codes ": " ++ (line_reason_text why.reason ++ (codes "\n" ++ explained))))))
 
 abbrev pub text_of : (number : ℕ) → Outcome → List ℕ
 text_of number (Written bytes) = []
 text_of number Passed = []
-text_of number (Refused why) = refused_line number why
+text_of number (Refused why explained) = refused_text number why explained
 
 -- of lines, the first of which has this number
 abbrev pub all_text : (number : ℕ) → List Outcome → List ℕ
@@ -91,7 +95,7 @@ all_text number (outcome ∷ outcomes) = text_of number outcome ++ all_text (num
 abbrev pub is_refused : Outcome → Bool
 is_refused (Written bytes) = false
 is_refused Passed = false
-is_refused (Refused why) = true
+is_refused (Refused why explained) = true
 
 -- whether any is
 abbrev pub any_refused : List Outcome → Bool

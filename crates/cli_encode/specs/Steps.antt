@@ -1,5 +1,5 @@
 -- What becomes of an encoder and of the writers by a line.
-use Rattle.std.specs.Prelude.{◌≡◌, ◌⊎◌, ◌+◌, ℕ, true, false, ◌||◌, List, [], Option, Result, Ok, Err}
+use Rattle.std.specs.Prelude.{◌≡◌, ◌⊎◌, ◌+◌, ℕ, true, false, ◌||◌, List, [], Option, Result, Ok, Err, string_bytes}
 use Rattle.dbus_device.specs.Device.{Wrote, Stopped}
 use Rattle.cli_report.specs.Gathering.{Breaks, Passes, gathered_bytes}
 use Rattle.cli_report.specs.declared.ending.Cause.TheVariants.{Memory, WriteFailed}
@@ -12,10 +12,10 @@ use Rattle.cli_encode.specs.declared.ending.Stop.{Stop}
 use Rattle.cli_encode.specs.declared.ending.Stop.TheVariants.{Cause as ByCause, Untold}
 
 -- what became of a line, whose message has these bytes if it is written
-abbrev pub outcome_of : Made → (bytes : List ℕ) → Outcome
+abbrev pub outcome_of : {A : Type 0} → Made A → (bytes : List ℕ) → Outcome
 outcome_of made.Passed bytes = outcome.Passed
 outcome_of made.Written bytes = outcome.Written bytes
-outcome_of (made.Refused why) bytes = outcome.Refused why
+outcome_of (made.Refused why explained) bytes = outcome.Refused why (string_bytes explained)
 
 module _ {A : Type 0} where
   -- no line was taken yet

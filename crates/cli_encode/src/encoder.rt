@@ -9,10 +9,12 @@ ghost use Rattle.cli_encode.specs.Steps.{IsNewEncoder, SameState, TakesLine, out
 
 use crate::encoding::Encoding;
 use crate::ending::Stop;
+use crate::explaining::explanation;
 use crate::reason::{LineReason, Refusal};
 use crate::writing::{tell_refused, write_bytes};
 use cli_report::{Cause, OutputBuffer, Unwritten, write_out};
 use dbus_encode::encode_into;
+use dbus_json::Integers;
 use dbus_json_lines::{NoMessage, is_blank, message_of_line};
 use dbus_stream::Sink;
 use dbus_value_model::Order;
@@ -20,14 +22,14 @@ use json::Scratch;
 use std::alloc::{AllocError, Allocator};
 
 // What becomes of a line.
-#[derive(Clone, Copy, Debug)]
-pub(crate) enum Made {
+#[derive(Drop)]
+pub(crate) enum Made<A: Allocator> {
     // It is blank, and passed over.
     Passed,
     // Its message is made.
     Written,
-    // It is refused.
-    Refused(Refusal),
+    // It is refused, and this explains it, which is empty if that is not wanted.
+    Refused(Refusal, String<A>),
 }
 
 // The order that is wanted, or the one that the line names.
@@ -56,29 +58,36 @@ fn make<A: Allocator + Copy>(
     serial: u32,
     scratch: &mut Scratch<A>,
     out: &mut Vec<u8, A>,
-) -> Result<Made, AllocError>
+) -> Result<Made<A>, AllocError>
     ensures { IfOk result (λ made. (bytes : List ℕ) →
         IsWithin encoding.most bytes (option_map (λ l. l.now) line.entry) →
         IsOutcome encoding serial bytes (outcome_of made out.new.items)) }
 {
     let Some(line) = line else {
-        return Ok(Made::Refused(Refusal {
+        let refusal = Refusal {
             reason: LineReason::TooLong,
             at: encoding.most,
-        }));
+        };
+        let explained = explanation(alloc, encoding.explains, &[], refusal)?;
+        return Ok(Made::Refused(refusal, explained));
     };
     if is_blank(line) {
         return Ok(Made::Passed);
     }
-    match message_of_line(alloc, line, encoding.limits, serial, scratch) {
+    let integers = Integers::of(encoding.safe_integers);
+    match message_of_line(alloc, line, encoding.limits, serial, integers, scratch) {
         Ok((order, message)) => {
             encode_into(out, &message, order_in(encoding.order, order))?;
             Ok(Made::Written)
         }
-        Err(NoMessage::Refused(fault)) => Ok(Made::Refused(Refusal {
-            reason: LineReason::Unspelled(fault.reason),
-            at: fault.at,
-        })),
+        Err(NoMessage::Refused(fault)) => {
+            let refusal = Refusal {
+                reason: LineReason::Unspelled(fault.reason),
+                at: fault.at,
+            };
+            let explained = explanation(alloc, encoding.explains, line, refusal)?;
+            Ok(Made::Refused(refusal, explained))
+        }
         Err(NoMessage::Memory) => Err(AllocError),
     }
 }
@@ -177,7 +186,7 @@ impl<A: Allocator + Copy> Encoder<A> {
     fn finish<W: Sink, E: Sink>(
         &mut self,
         alloc: A,
-        made: Made,
+        made: Made<A>,
         first: &mut W,
         second: &mut E,
     ) -> Result<(), Stop>
@@ -198,11 +207,13 @@ impl<A: Allocator + Copy> Encoder<A> {
                     Err(Unwritten) => Err(Stop::Cause(Cause::WriteFailed)),
                 }
             }
-            Made::Refused(refusal) => {
+            Made::Refused(refusal, explained) => {
                 self.serial = next_serial(self.serial);
                 self.refused = true;
                 match self.settle(first) {
-                    Ok(()) => tell_refused(alloc, self.number, refusal, second),
+                    Ok(()) => {
+                        tell_refused(alloc, self.number, refusal, explained.as_str(), second)
+                    }
                     Err(Unwritten) => Err(Stop::Cause(Cause::WriteFailed)),
                 }
             }

@@ -147,8 +147,11 @@ fn encode_source<R: Source + Drop, A: Allocator + Copy, W: Sink, E: Sink>(
 ///
 /// A line that spells no message is refused, and one of more bytes than a line may have:
 /// `refused at line N, column C: REASON` on the second writer, the number of the line from 1 among
-/// all, the place of the [`crate::Refusal`] in bytes from 1, and the name of its reason. What came
-/// before it is written first. The run ends there, unless it is to go on.
+/// all, the place of the [`crate::Refusal`] in bytes from 1, and the name of its reason. If it is to
+/// be explained, more lines follow there, each after two spaces: unless it is too long, at most 40
+/// bytes of the line before the place and 36 from there on, as text with U+FFFD for what is no
+/// UTF-8, and a `^` below the place; and what has to be there. What came before it is written first.
+/// The run ends there, unless it is to go on.
 ///
 /// If the run fails, it stops at the first cause that it meets, and writes `read failed`, `write
 /// failed`, `too many reads` or `out of memory` on the second writer. Each line ends in LF. What is

@@ -7,8 +7,10 @@
 mod encoder;
 mod encoding;
 mod ending;
+mod explaining;
 mod going;
 mod reason;
+mod rules;
 mod writing;
 
 pub use encoding::Encoding;

@@ -3,7 +3,7 @@
 
 ghost use Rattle.std.specs.Prelude.{◌≡◌, IfOk, string_bytes};
 ghost use Rattle.cli_report.specs.Gathering.{Gathers, gathered_bytes};
-ghost use Rattle.cli_encode.specs.Outcomes.{refused_line};
+ghost use Rattle.cli_encode.specs.Outcomes.{refused_text};
 ghost use Rattle.cli_encode.specs.Running.{TellsLine};
 
 use crate::ending::Stop;
@@ -30,31 +30,33 @@ pub(crate) fn write_bytes<W: Sink>(
     if page.failed { Err(Unwritten) } else { Ok(()) }
 }
 
-// What is told of a line that is refused.
-fn refused_line<A: Allocator + Copy>(
+// What is told of a line that is refused, which is so explained.
+fn refused_text<A: Allocator + Copy>(
     alloc: A,
     number: u64,
     refusal: Refusal,
+    explained: &str,
 ) -> Result<String<A>, AllocError>
-    ensures { IfOk result (λ line. string_bytes line ≡ refused_line number refusal) }
+    ensures { IfOk result (λ text. string_bytes text ≡ refused_text number refusal explained.now) }
 {
     let column = refusal.at as u128 + 1;
     let reason = refusal.reason;
-    format!(in alloc; "refused at line {number}, column {column}: {reason}\n")
+    format!(in alloc; "refused at line {number}, column {column}: {reason}\n{explained}")
 }
 
-/// Tells that the line of this number is refused.
+/// Tells that the line of this number is refused, and what explains that.
 pub(crate) fn tell_refused<A: Allocator + Copy, E: Sink>(
     alloc: A,
     number: u64,
     refusal: Refusal,
+    explained: &str,
     second: &mut E,
 ) -> Result<(), Stop>
-    ensures { TellsLine E.held E.failures (refused_line number refusal) second.old second.new
-        result }
+    ensures { TellsLine E.held E.failures (refused_text number refusal explained.now) second.old
+        second.new result }
 {
-    match refused_line(alloc, number, refusal) {
-        Ok(line) => match write_all(second, line.as_bytes()) {
+    match refused_text(alloc, number, refusal, explained) {
+        Ok(text) => match write_all(second, text.as_bytes()) {
             Ok(()) => Ok(()),
             Err(WrittenOnly(_)) => Err(Stop::Untold),
         },

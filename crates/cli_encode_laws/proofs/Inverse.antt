@@ -5,6 +5,7 @@ use Rattle.std.proofs.lemmas.List.Sums.{list_all-from_AllPass}
 use Rattle.std.specs.List.{flat_map}
 use Rattle.json.specs.Word.{is_space}
 use Rattle.dbus_message_model.specs.Messages.{message_bytes}
+use Rattle.dbus_json.specs.JsonIntegers.{integers_of}
 use Rattle.dbus_json_lines.specs.JsonLines.{IsBlank, IsLineOf}
 use Rattle.dbus_json_laws.proofs.KeptLines.{line_kept, one_message_of}
 use Rattle.cli_encode.specs.Outcomes.{Outcome, Written, Passed, Refused, Encodes, IsOutcome, IsRefused, AreOutcomes, all_bytes, any_refused, next_serial, order_in, serial_after}
@@ -23,8 +24,8 @@ braced (c ∷ line) rest e blank =
 module _ (encoding : Encoding) (kept : encoding.order ≡ None) where
   -- ---- one line
 
-  spelled : (serial : ℕ) (m : PlacedMessage) (line : List ℕ) → IsItsLine encoding m line → IsLineOf encoding.limits serial line m.order m.message
-  spelled serial m line h = line_kept encoding.limits serial m.order m.message m.place line h.valid h.number_in h.offset_in h.json
+  spelled : (serial : ℕ) (m : PlacedMessage) (line : List ℕ) → IsItsLine encoding m line → IsLineOf (integers_of encoding.safe_integers) encoding.limits serial line m.order m.message
+  spelled serial m line h = line_kept (integers_of encoding.safe_integers) encoding.limits serial m.order m.message m.place line h.valid h.number_in h.offset_in h.json
 
   encodes : (serial : ℕ) (m : PlacedMessage) (line : List ℕ) → IsItsLine encoding m line → Encodes encoding serial line (bytes_of m)
   encodes serial m line h = record { order = m.order; message = m.message; spelled = spelled serial m line h; encoded = ap (λ o. message_bytes (order_in o m.order) m.message) (sym kept) }
@@ -42,10 +43,10 @@ module _ (encoding : Encoding) (kept : encoding.order ≡ None) where
   only_written : (serial : ℕ) (m : PlacedMessage) (line : List ℕ) (o : Outcome) → IsItsLine encoding m line → IsOutcome encoding serial line o → o ≡ Written (bytes_of m)
   only_written serial m line (Written bytes) h is =
       let e = is.2 in
-      let same = one_message_of encoding.limits encoding.limits serial e.order m.order e.message m.message line e.spelled (spelled serial m line h) in
+      let same = one_message_of (integers_of encoding.safe_integers) encoding.limits encoding.limits serial e.order m.order e.message m.message line e.spelled (spelled serial m line h) in
       ap Written (e.encoded ∙ ap (λ o. message_bytes (order_in o e.order) e.message) kept ∙ ap₂ message_bytes same.0 same.1)
   only_written serial m line Passed h is = absurd (not_blank m line h is.1)
-  only_written serial m line (Refused why) h is = absurd (never_refused serial m line why.reason why.at h is)
+  only_written serial m line (Refused why explained) h is = absurd (never_refused serial m line why.reason why.at h is.0)
 
   -- ---- all lines
 

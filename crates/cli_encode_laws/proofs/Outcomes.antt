@@ -5,6 +5,7 @@ use Rattle.std.specs.Prelude.{◌||◌, None}
 use Rattle.dbus_lines.specs.Lines.{AreLines}
 use Rattle.dbus_lines.proofs.LineLaws.{each_input, lines_go_on, one_list}
 use Rattle.dbus_message_model.specs.Messages.{message_bytes}
+use Rattle.dbus_json.specs.JsonIntegers.{integers_of}
 use Rattle.dbus_json_laws.proofs.KeptLines.{one_message_of}
 use Rattle.cli_report.specs.Devices.{Taken, Writing}
 use Rattle.cli_encode.specs.Outcomes.{Outcome, Written, Passed, Refused, AreOutcomes, EndsAtRefused, IsOutcome, IsRefused, all_bytes, all_text, any_refused, bytes_of, is_refused, next_serial, order_in, serial_after}
@@ -17,7 +18,7 @@ use Rattle.cli_encode.specs.declared.reason.LineReason.TheVariants.{TooLong, Uns
 abbrev pub made : Outcome → Option (Option (List ℕ))
 made (Written bytes) = Some (Some bytes)
 made Passed = Some None
-made (Refused why) = None
+made (Refused why explained) = None
 
 abbrev pub all_made : List Outcome → List (Option (Option (List ℕ)))
 all_made os = map made os
@@ -33,16 +34,16 @@ module _ (encoding : Encoding) where
 
   pub one_outcome : (serial : ℕ) (line : List ℕ) (a b : Outcome) → IsOutcome encoding serial line a → IsOutcome encoding serial line b → made a ≡ made b
   one_outcome serial line (Written x) (Written y) p q =
-      let one = one_message_of encoding.limits encoding.limits serial p.2.order q.2.order p.2.message q.2.message line p.2.spelled q.2.spelled in
+      let one = one_message_of (integers_of encoding.safe_integers) encoding.limits encoding.limits serial p.2.order q.2.order p.2.message q.2.message line p.2.spelled q.2.spelled in
       ap (λ (bytes : List ℕ). Some (Some bytes)) (p.2.encoded ∙ ap₂ (λ o m. message_bytes (order_in encoding.order o) m) one.0 one.1 ∙ sym q.2.encoded)
   one_outcome serial line (Written x) Passed p q = absurd (p.1 q.1)
-  one_outcome serial line (Written x) (Refused why) p q = absurd (refused_none serial line x why.reason why.at p q)
+  one_outcome serial line (Written x) (Refused why explained) p q = absurd (refused_none serial line x why.reason why.at p q.0)
   one_outcome serial line Passed (Written y) p q = absurd (q.1 p.1)
   one_outcome serial line Passed Passed p q = refl
-  one_outcome serial line Passed (Refused why) p q = absurd (refused_blank serial line why.reason why.at p q)
-  one_outcome serial line (Refused why) (Written y) p q = absurd (refused_none serial line y why.reason why.at q p)
-  one_outcome serial line (Refused why) Passed p q = absurd (refused_blank serial line why.reason why.at q p)
-  one_outcome serial line (Refused why) (Refused also) p q = refl
+  one_outcome serial line Passed (Refused why explained) p q = absurd (refused_blank serial line why.reason why.at p q.0)
+  one_outcome serial line (Refused why explained) (Written y) p q = absurd (refused_none serial line y why.reason why.at q p.0)
+  one_outcome serial line (Refused why explained) Passed p q = absurd (refused_blank serial line why.reason why.at q p.0)
+  one_outcome serial line (Refused why explained) (Refused also other) p q = refl
 
 -- ---- what depends on it alone
 
@@ -62,17 +63,17 @@ bytes_made other = []
 refused_by : (o : Outcome) → is_none (made o) ≡ is_refused o
 refused_by (Written bytes) = refl
 refused_by Passed = refl
-refused_by (Refused why) = refl
+refused_by (Refused why explained) = refl
 
 serial_by : (o : Outcome) (serial : ℕ) → goes_after (made o) serial ≡ serial_after o serial
 serial_by (Written bytes) serial = refl
 serial_by Passed serial = refl
-serial_by (Refused why) serial = refl
+serial_by (Refused why explained) serial = refl
 
 bytes_by : (o : Outcome) → bytes_made (made o) ≡ bytes_of o
 bytes_by (Written bytes) = refl
 bytes_by Passed = refl
-bytes_by (Refused why) = refl
+bytes_by (Refused why explained) = refl
 
 refused_one : (x y : Outcome) → made x ≡ made y → is_refused x ≡ is_refused y
 refused_one x y e = sym (refused_by x) ∙ ap is_none e ∙ refused_by y
@@ -108,7 +109,7 @@ pub none_told : (number : ℕ) (os : List Outcome) → any_refused os ≡ false 
 none_told number [] e = refl
 none_told number (Written bytes ∷ os) e = none_told (number + 1) os e
 none_told number (Passed ∷ os) e = none_told (number + 1) os e
-none_told number (Refused why ∷ os) e = absurd cc
+none_told number (Refused why explained ∷ os) e = absurd cc
 
 -- ---- why no line follows
 

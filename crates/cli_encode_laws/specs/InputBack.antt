@@ -23,10 +23,10 @@ pub record IsDoneWith {W E : Type 0} (w : Writing W) (e : Writing E) (end : Exit
   pub second : Wrote e.held e.failures e.old [] e.new
 
 -- `json` ran over an input and refused nothing, so that it is all messages, and `encode` over what
--- `json` wrote, under the same limits, in the orders that the lines name, and did not fail: then it
--- wrote that input
+-- `json` wrote, under the same limits, both with safe integers or both without, in the orders that
+-- the lines name, and did not fail: then it wrote that input
 abbrev pub IsInputBack : (R S W V E F : Type 0) → Type 0
 IsInputBack R S W V E F = (r : Reading R) (s : Reading S) (w : Writing W) (v : Writing V) (e : Writing E) (f : Writing F) (times : Bool) (encoding : Encoding) (most more : ℕ) (input text : List ℕ) (end : ExitStatus)
-    → r.left r.old ≡ Some input → length input < 2 ^ 64 → Runs r w e encoding.limits most (Json times) status.Done
+    → r.left r.old ≡ Some input → length input < 2 ^ 64 → Runs r w e encoding.limits most (Json times encoding.safe_integers) status.Done
     → w.held w.old ≡ Some [] → w.held w.new ≡ Some text → s.left s.old ≡ Some text
     → encoding.order ≡ None → AreShort encoding.most text → end ≢ status.Failed → EncodesLines s v f encoding more end → IsDoneWith v f end input

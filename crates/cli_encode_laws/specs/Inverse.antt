@@ -5,6 +5,7 @@ use Rattle.std.specs.List.{AllZip, flat_map}
 use Rattle.dbus_value_model.specs.declared.order.Order.{Order}
 use Rattle.dbus_message_model.specs.Messages.{MessageTree, IsValidMessage, message_bytes}
 use Rattle.dbus_json.specs.declared.place.LinePlace.{LinePlace}
+use Rattle.dbus_json.specs.JsonIntegers.{integers_of}
 use Rattle.dbus_json.specs.JsonMessages.{IsJsonLine}
 use Rattle.cli_encode.specs.Outcomes.{Outcome, Written, AreOutcomes, all_bytes, any_refused}
 use Rattle.cli_encode.specs.declared.encoding.Encoding.{Encoding}
@@ -19,12 +20,13 @@ abbrev pub bytes_of : PlacedMessage → List ℕ
 bytes_of m = message_bytes m.order m.message
 
 -- The message is valid within the limits, and this is the line that `json` writes of it, without
--- its line feed, no longer than a line may be. Its number and offset are numbers of 64 bits.
+-- its line feed, no longer than a line may be, with safe integers exactly if it is encoded so. Its
+-- number and offset are numbers of 64 bits.
 pub record IsItsLine (encoding : Encoding) (m : PlacedMessage) (line : List ℕ) : Type 0 where
   pub valid : IsValidMessage encoding.limits m.message
   pub number_in : m.place.number < 2 ^ 64
   pub offset_in : m.place.offset < 2 ^ 64
-  pub json : IsJsonLine m.order m.message m.place (line ++ codes "\n")
+  pub json : IsJsonLine (integers_of encoding.safe_integers) m.order m.message m.place (line ++ codes "\n")
   pub short : length line ≤ encoding.most
 
 -- these are the lines of these messages, each of one

@@ -19,8 +19,8 @@ pub fn messages_back()
 
 /// What a run of `json` writes of an input of fewer than 2^64 bytes, in which it refuses nothing,
 /// is encoded under the same limits to that input, byte for byte, and the run that encodes it is
-/// `Done`: if that does not fail, no other byte order is wanted, and no line is longer than a line
-/// may be.
+/// `Done`: if that does not fail, both have safe integers or both not, no other byte order is
+/// wanted, and no line is longer than a line may be.
 pub fn input_back<R, S, W, V, E, F>()
     ensures { IsInputBack R S W V E F }
 {}

@@ -56,7 +56,7 @@ module _ (sub : Text × List Row) (other : sub.0 ≡ codes "handshake" → ⊥) 
 module _ (rows : List Row) (no_side : (side : Side) → first_of (codes "side") rows ≡ Some (side_word side) → ⊥) where
   no_messages : (command : Command) → NamesCommand (codes "handshake") rows command → ⊥
   no_messages (Show times escapes) named = let bad : ◌≡◌ {A = ℕ} 104 115 = ap (λ t. slice_index t 0) named.0 in absurd (omega arith)
-  no_messages (Json times) named = let bad : ◌≡◌ {A = ℕ} 104 106 = ap (λ t. slice_index t 0) named.0 in absurd (omega arith)
+  no_messages (Json times safe) named = let bad : ◌≡◌ {A = ℕ} 104 106 = ap (λ t. slice_index t 0) named.0 in absurd (omega arith)
   no_messages Check named = let bad : ◌≡◌ {A = ℕ} 104 99 = ap (λ t. slice_index t 0) named in absurd (omega arith)
   no_messages (Swap order form) named = let bad : ◌≡◌ {A = ℕ} 104 115 = ap (λ t. slice_index t 0) named.0 in absurd (omega arith)
   no_messages (Filter selection form) named = let bad : ◌≡◌ {A = ℕ} 104 102 = ap (λ t. slice_index t 0) named.0 in absurd (omega arith)
@@ -79,7 +79,7 @@ module _ (rows : List Row) (no_side : (side : Side) → first_of (codes "side") 
 module _ (rows : List Row) (no_wanted : (wanted : WantedCalls) → HasWanted rows wanted → ⊥) where
   no_calls : (command : Command) → NamesCommand (codes "calls") rows command → ⊥
   no_calls (Show times escapes) named = let bad : ◌≡◌ {A = ℕ} 99 115 = ap (λ t. slice_index t 0) named.0 in absurd (omega arith)
-  no_calls (Json times) named = let bad : ◌≡◌ {A = ℕ} 99 106 = ap (λ t. slice_index t 0) named.0 in absurd (omega arith)
+  no_calls (Json times safe) named = let bad : ◌≡◌ {A = ℕ} 99 106 = ap (λ t. slice_index t 0) named.0 in absurd (omega arith)
   no_calls Check named = let bad : ◌≡◌ {A = ℕ} 97 104 = ap (λ t. slice_index t 1) named in absurd (omega arith)
   no_calls (Swap order form) named = let bad : ◌≡◌ {A = ℕ} 99 115 = ap (λ t. slice_index t 0) named.0 in absurd (omega arith)
   no_calls (Filter selection form) named = let bad : ◌≡◌ {A = ℕ} 99 102 = ap (λ t. slice_index t 0) named.0 in absurd (omega arith)
@@ -102,7 +102,7 @@ module _ (rows : List Row) (no_wanted : (wanted : WantedCalls) → HasWanted row
 module _ (rows : List Row) (no_encoding : (wanted : WantedEncoding) → HasEncoding rows wanted → ⊥) where
   no_encode : (command : Command) → NamesCommand (codes "encode") rows command → ⊥
   no_encode (Show times escapes) named = let bad : ◌≡◌ {A = ℕ} 101 115 = ap (λ t. slice_index t 0) named.0 in absurd (omega arith)
-  no_encode (Json times) named = let bad : ◌≡◌ {A = ℕ} 101 106 = ap (λ t. slice_index t 0) named.0 in absurd (omega arith)
+  no_encode (Json times safe) named = let bad : ◌≡◌ {A = ℕ} 101 106 = ap (λ t. slice_index t 0) named.0 in absurd (omega arith)
   no_encode Check named = let bad : ◌≡◌ {A = ℕ} 101 99 = ap (λ t. slice_index t 0) named in absurd (omega arith)
   no_encode (Swap order form) named = let bad : ◌≡◌ {A = ℕ} 101 115 = ap (λ t. slice_index t 0) named.0 in absurd (omega arith)
   no_encode (Filter selection form) named = let bad : ◌≡◌ {A = ℕ} 101 102 = ap (λ t. slice_index t 0) named.0 in absurd (omega arith)
@@ -124,7 +124,7 @@ module _ (rows : List Row) (no_encoding : (wanted : WantedEncoding) → HasEncod
 module _ (rows : List Row) (no_order : (order : Order) → first_of (codes "to") rows ≡ Some (order_word order) → ⊥) where
   unordered_command : (command : Command) → NamesCommand (codes "swap") rows command → ⊥
   unordered_command (Show times escapes) named = let bad : ◌≡◌ {A = ℕ} 119 104 = ap (λ t. slice_index t 1) named.0 in absurd (omega arith)
-  unordered_command (Json times) named = let bad : ◌≡◌ {A = ℕ} 115 106 = ap (λ t. slice_index t 0) named.0 in absurd (omega arith)
+  unordered_command (Json times safe) named = let bad : ◌≡◌ {A = ℕ} 115 106 = ap (λ t. slice_index t 0) named.0 in absurd (omega arith)
   unordered_command Check named = let bad : ◌≡◌ {A = ℕ} 115 99 = ap (λ t. slice_index t 0) named in absurd (omega arith)
   unordered_command (Swap order form) named = no_order order named.1
   unordered_command (Filter selection form) named = let bad : ◌≡◌ {A = ℕ} 115 102 = ap (λ t. slice_index t 0) named.0 in absurd (omega arith)
@@ -140,7 +140,7 @@ module _ (rows : List Row) (no_order : (order : Order) → first_of (codes "to")
 module _ (rows : List Row) (no_lines : (wanted : WantedLines) → HasLines rows wanted → ⊥) where
   no_list : (command : Command) → NamesCommand (codes "list") rows command → ⊥
   no_list (Show times escapes) named = let bad : ◌≡◌ {A = ℕ} 108 115 = ap (λ t. slice_index t 0) named.0 in absurd (omega arith)
-  no_list (Json times) named = let bad : ◌≡◌ {A = ℕ} 108 106 = ap (λ t. slice_index t 0) named.0 in absurd (omega arith)
+  no_list (Json times safe) named = let bad : ◌≡◌ {A = ℕ} 108 106 = ap (λ t. slice_index t 0) named.0 in absurd (omega arith)
   no_list Check named = let bad : ◌≡◌ {A = ℕ} 108 99 = ap (λ t. slice_index t 0) named in absurd (omega arith)
   no_list (Swap order form) named = let bad : ◌≡◌ {A = ℕ} 108 115 = ap (λ t. slice_index t 0) named.0 in absurd (omega arith)
   no_list (Filter selection form) named = let bad : ◌≡◌ {A = ℕ} 108 102 = ap (λ t. slice_index t 0) named.0 in absurd (omega arith)
@@ -175,7 +175,7 @@ unowned_names_nothing rows no_owners = unlined_names_nothing rows (λ wanted lin
 module _ (rows : List Row) (no_owners : GiveOwners rows → ⊥) where
   unselected_command : (command : Command) → NamesCommand (codes "filter") rows command → ⊥
   unselected_command (Show times escapes) named = let bad : ◌≡◌ {A = ℕ} 102 115 = ap (λ t. slice_index t 0) named.0 in absurd (omega arith)
-  unselected_command (Json times) named = let bad : ◌≡◌ {A = ℕ} 102 106 = ap (λ t. slice_index t 0) named.0 in absurd (omega arith)
+  unselected_command (Json times safe) named = let bad : ◌≡◌ {A = ℕ} 102 106 = ap (λ t. slice_index t 0) named.0 in absurd (omega arith)
   unselected_command Check named = let bad : ◌≡◌ {A = ℕ} 102 99 = ap (λ t. slice_index t 0) named in absurd (omega arith)
   unselected_command (Swap order form) named = let bad : ◌≡◌ {A = ℕ} 102 115 = ap (λ t. slice_index t 0) named.0 in absurd (omega arith)
   unselected_command (Filter selection form) named = no_selection rows no_owners selection named.1

@@ -70,7 +70,7 @@ abbrev pub show_app : App
 show_app = with_window (with_rule (with_rule (new_app (codes "show")) (flag_rule (codes "time"))) (flag_rule (codes "escape")))
 
 abbrev pub json_app : App
-json_app = with_window (with_rule (new_app (codes "json")) (flag_rule (codes "no-time")))
+json_app = with_window (with_rule (with_rule (new_app (codes "json")) (flag_rule (codes "no-time"))) (flag_rule (codes "safe-integers")))
 
 -- the most cells that `--width` names: the greatest number of 16 bits
 abbrev pub most_cells : ℕ
@@ -100,7 +100,10 @@ abbrev pub most_line : ℕ
 most_line = 1073741824
 
 abbrev pub encode_app : App
-encode_app = with_limits (with_rule (with_rule (with_rule (new_app (codes "encode")) (word_rule (codes "to"))) (flag_rule (codes "keep-going"))) (limit_rule (codes "max-line") most_line))
+encode_app = with_limits
+    (with_rule
+    (with_rule (with_rule (with_rule (with_rule (new_app (codes "encode")) (word_rule (codes "to"))) (flag_rule (codes "safe-integers"))) (flag_rule (codes "explain"))) (flag_rule (codes "keep-going")))
+    (limit_rule (codes "max-line") most_line))
 
 abbrev pub handshake_app : App
 handshake_app = with_rule (new_app (codes "handshake")) (needed_rule (codes "side"))

@@ -78,10 +78,11 @@ pub record IsSelectionGiven (rows : List Row) (selection : Selection) : Type 0 w
   pub learns : (selection.learns ≡ true) ↔ IsGiven (codes "learn-owners") rows
 
 -- the name of a subcommand and the words after it name the command; `show` writes times, and
--- escapes hidden characters, if its flags are given, and `json` writes times if its flag is not
+-- escapes hidden characters, if its flags are given, and `json` writes times if that flag is not,
+-- and safe integers if that one is
 abbrev pub NamesCommand : Text → List Row → Command → Type 0
 NamesCommand name rows (Show times escapes) = (name ≡ codes "show") × ((times ≡ true) ↔ IsGiven (codes "time") rows) × ((escapes ≡ true) ↔ IsGiven (codes "escape") rows)
-NamesCommand name rows (Json times) = (name ≡ codes "json") × ((times ≡ false) ↔ IsGiven (codes "no-time") rows)
+NamesCommand name rows (Json times safe) = (name ≡ codes "json") × ((times ≡ false) ↔ IsGiven (codes "no-time") rows) × ((safe ≡ true) ↔ IsGiven (codes "safe-integers") rows)
 NamesCommand name rows Check = name ≡ codes "check"
 NamesCommand name rows (Swap order form) = (name ≡ codes "swap") × (first_of (codes "to") rows ≡ Some (order_word order)) × HasFileForm rows form
 NamesCommand name rows (Filter selection form) = (name ≡ codes "filter") × IsSelectionGiven rows selection × HasFileForm rows form
@@ -118,10 +119,12 @@ abbrev pub HasOrder : List Row → Option Order → Type 0
 HasOrder rows order = first_of (codes "to") rows ≡ option_map order_word order
 
 -- what `encode` is to write keeps the limits that its options name, in the order that they name,
--- and goes on if that flag is given
+-- of safe integers, and explains what it refuses, and goes on, if those flags are given
 pub record HasEncoding (rows : List Row) (wanted : WantedEncoding) : Type 0 where
   pub limits : HasLimits rows wanted.limits
   pub order : HasOrder rows wanted.order
+  pub safe_integers : (wanted.safe_integers ≡ true) ↔ IsGiven (codes "safe-integers") rows
+  pub explains : (wanted.explains ≡ true) ↔ IsGiven (codes "explain") rows
   pub keeps_going : (wanted.keeps_going ≡ true) ↔ IsGiven (codes "keep-going") rows
   pub max_line : HasLineLimit rows wanted.max_line
 

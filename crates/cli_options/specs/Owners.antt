@@ -65,7 +65,7 @@ selection_lacks_owner selection = not selection.learns && some_needs_owner selec
 
 abbrev pub lacks_owner : Command → Bool
 lacks_owner (Show times escapes) = false
-lacks_owner (Json times) = false
+lacks_owner (Json times safe) = false
 lacks_owner Check = false
 lacks_owner (Swap order form) = false
 lacks_owner (Filter selection form) = selection_lacks_owner selection

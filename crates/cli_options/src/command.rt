@@ -17,6 +17,8 @@ pub enum Command {
     Json {
         /// Whether its time is written, if it has one.
         times: bool,
+        /// Whether its integers are safe: an INT64 or UINT64 beyond 2^53 - 1 is a string.
+        safe: bool,
     },
     /// Checks that the input is messages, and counts them.
     Check,

@@ -43,8 +43,9 @@ use std::alloc::Global;
 /// words. `--width` of `list` is the number of cells of its lines; without it they have 80. The
 /// words that stand alone after `list` and `filter` are rules, and `--invert`, `--owner` and
 /// `--learn-owners` say more of what they select; `list` without rules selects all messages.
-/// `encode` takes the options of the limits, `--to` for the order of all messages, `--keep-going`
-/// and `--max-line`, in bytes; without it a line may have 1 GiB.
+/// `encode` takes the options of the limits, `--to` for the order of all messages, `--explain`,
+/// `--keep-going` and `--max-line`, in bytes; without it a line may have 1 GiB. `--safe-integers` of `json` and of
+/// `encode` is set if it is among the words.
 ///
 /// `Usage`: the words name no command of the program, or have what it does not take, a limit over
 /// that of the specification, a number of messages or milliseconds over 4294967295, a width over
@@ -110,11 +111,15 @@ fn encoding_named(alloc: Global, inner: &ArgMatches) -> Result<WantedEncoding, U
 {
     let limits = limits_named(alloc, inner)?;
     let order = order_given(alloc, inner)?;
+    let safe_integers = is_given(inner, "safe-integers");
+    let explains = is_given(inner, "explain");
     let keeps_going = is_given(inner, "keep-going");
     match line_limit_named(inner) {
         Some(max_line) => Ok(WantedEncoding {
             limits,
             order,
+            safe_integers,
+            explains,
             keeps_going,
             max_line,
         }),
@@ -231,7 +236,8 @@ fn command_with(alloc: Global, name: &str, inner: &ArgMatches) -> Result<Command
     }
     if name == "json" {
         let times = !is_given(inner, "no-time");
-        return Ok(Command::Json { times });
+        let safe = is_given(inner, "safe-integers");
+        return Ok(Command::Json { times, safe });
     }
     if name == "check" {
         return Ok(Command::Check);

@@ -19,7 +19,10 @@ impl Clone for Command {
                 times: *times,
                 escapes: *escapes,
             }),
-            Command::Json { times } => Ok(Command::Json { times: *times }),
+            Command::Json { times, safe } => Ok(Command::Json {
+                times: *times,
+                safe: *safe,
+            }),
             Command::Check => Ok(Command::Check),
             Command::Swap(order, form) => Ok(Command::Swap(*order, *form)),
             Command::Filter(selection, form) => Ok(Command::Filter(selection.clone()?, *form)),

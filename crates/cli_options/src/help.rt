@@ -120,13 +120,17 @@ pub(crate) const JSON_MORE: &str = more!(
 
   JSON nests as deep as the message does, which can be over 128 levels: some
   parsers refuse that. Integers of 64 bits are written exactly; JavaScript
-  rounds them.",
+  and jq 1.6 round them: with --safe-integers those beyond 2^53 - 1, up or down,
+  are strings.",
     "
   dbus-monitor --session --binary | dbus-wire json"
 );
 
 /// What `--no-time` of `json` does.
 pub(crate) const NO_TIME: &str = "Leaves out the times";
+
+/// What `--safe-integers` of `json` does.
+pub(crate) const SAFE_INTEGERS: &str = "Writes integers beyond 2^53 - 1 as strings";
 
 /// What `list` does.
 pub(crate) const LIST: &str = "Writes each message as one line that fits a terminal";
@@ -319,14 +323,17 @@ pub(crate) const ENCODE_MORE: &str = "Input:
   has to be there; order is l, flags are 0 and serial is the number of the line
   among those that are not blank if they are left out, and so may fields and
   body be if there are none. number, offset, length and time mean nothing. Any
-  other name, or one twice, is refused. A blank line is passed over.
+  other name, or one twice, is refused. A blank line is passed over. An integer
+  of 64 bits may be a string; with --safe-integers one beyond 2^53 - 1, up or
+  down, has to be: a number may have been rounded.
 
 Output:
   The messages, on standard output. A line that spells no message within the
   limits is refused: `refused at line N, column C: NAME` on standard error, with
   the line counted from 1 over all lines, and the column in bytes from 1; the
-  manual page has the names. The messages of the lines before it stay, and with
-  --keep-going those of the lines after it follow.
+  manual page has the names. With --explain lines after that show the place in
+  the line, and say what has to be there. The messages of the lines before it
+  stay, and with --keep-going those of the lines after it follow.
 
 Exit status:
   0  each line is a message or blank, or help was asked for
@@ -336,6 +343,9 @@ Exit status:
 
 Example:
   dbus-wire json < capture | jq -c 'select(.member)' | dbus-wire encode > calls";
+
+/// What `--safe-integers` of `encode` does.
+pub(crate) const SAFE_LINES: &str = "Takes integers beyond 2^53 - 1 only as strings";
 
 /// What `--keep-going` of `encode` does.
 pub(crate) const KEEP_GOING_LINES: &str = "Goes on after a refused line";

@@ -196,12 +196,14 @@ fn show_command<'a>(alloc: Global) -> Result<Command<'a>, AllocError>
     with_window(alloc, with_arg(timed, flag(alloc, "escape", help::ESCAPE)))
 }
 
-// `json`, with its flag.
+// `json`, with its flags.
 fn json_command<'a>(alloc: Global) -> Result<Command<'a>, AllocError>
     ensures { IfOk result (IsLocal json_app) }
 {
     let json = bare(alloc, "json", help::JSON, help::JSON_USAGE, help::JSON_MORE);
-    with_window(alloc, with_arg(json, flag(alloc, "no-time", help::NO_TIME)))
+    let timed = with_arg(json, flag(alloc, "no-time", help::NO_TIME));
+    let safe = flag(alloc, "safe-integers", help::SAFE_INTEGERS);
+    with_window(alloc, with_arg(timed, safe))
 }
 
 // `list`, with its rules and its width.
@@ -301,7 +303,13 @@ fn encode_command<'a>(alloc: Global) -> Result<Command<'a>, AllocError>
         help::ENCODE_MORE,
     );
     let ordered = with_arg(encode, word_option(alloc, "to", "ORDER", help::ORDER));
-    let going = with_arg(ordered, flag(alloc, "keep-going", help::KEEP_GOING_LINES));
+    let safe = flag(alloc, "safe-integers", help::SAFE_LINES);
+    let kept = with_arg(ordered, safe);
+    let explaining = with_arg(kept, flag(alloc, "explain", help::EXPLAIN));
+    let going = with_arg(
+        explaining,
+        flag(alloc, "keep-going", help::KEEP_GOING_LINES),
+    );
     let line = limit_option(alloc, "max-line", MOST_LINE, help::MAX_LINE);
     with_limits(alloc, with_arg(going, line))
 }

@@ -35,29 +35,30 @@ unfailed e = cc
 
 module _ {R W E : Type 0} (left : R → Option (List ℕ)) (calls failures : R → ℕ) (packets : R → Option Packets) (packet : R → Option Packet) (old new : ReadAhead R) (w : Writing W) (e : Writing E) where
   -- no handshake is taken first
-  from_start : (settings : Settings) (times : Bool) → ask_more settings ≡ false → DoesTask left calls failures packets packet old new w e settings (Run (Json times)) status.Done → settings.handshake ≡ None
-      → Runs (ahead left calls failures packets packet old new) w e settings.limits (2 ^ 32) (Json times) status.Done
-  from_start settings times no_more (inl does) none =
+  from_start : (settings : Settings) (times safe : Bool) → ask_more settings ≡ false → DoesTask left calls failures packets packet old new w e settings (Run (Json times safe)) status.Done → settings.handshake ≡ None
+      → Runs (ahead left calls failures packets packet old new) w e settings.limits (2 ^ 32) (Json times safe) status.Done
+  from_start settings times safe no_more (inl does) none =
       let begun : does.0 ≡ old = subst (λ (s : Option Side). TakesHandshake left calls failures packets packet s old does.0 (Ok tt)) none does.1 in
-      plainly (ahead left calls failures packets packet old new) w e settings no_more _ (Json times) status.Done
-      (subst (λ (a : ReadAhead R). DoesBy (ahead left calls failures packets packet a new) w e settings (Run (Json times)) status.Done) begun does.2)
-  from_start settings times no_more (inr told) none = absurd (subst (λ (s : Option Side). TakesHandshake left calls failures packets packet s old new (Err told.0)) none told.1)
+      plainly (ahead left calls failures packets packet old new) w e settings no_more _ (Json times safe) status.Done
+      (subst (λ (a : ReadAhead R). DoesBy (ahead left calls failures packets packet a new) w e settings (Run (Json times safe)) status.Done) begun does.2)
+  from_start settings times safe no_more (inr told) none = absurd (subst (λ (s : Option Side). TakesHandshake left calls failures packets packet s old new (Err told.0)) none told.1)
 
-  runs_json : (settings : Settings) (times : Bool) (asked : Asked) → AreSameAsked (Messages (Json times) settings) asked → ask_more settings ≡ false → settings.handshake ≡ None
-      → Does left calls failures packets packet old new w e (Ok asked) status.Done → Runs (ahead left calls failures packets packet old new) w e settings.limits (2 ^ 32) (Json times) status.Done
-  runs_json settings times (Messages (Json t) s) same no_more none does =
-      let here = subst (λ (b : Bool). Does left calls failures packets packet old new w e (Ok (Messages (Json b) s)) status.Done) (sym same.0) does in
-      let there = subst (λ (x : Settings). Does left calls failures packets packet old new w e (Ok (Messages (Json times) x)) status.Done) (sym same.1) here in
-      from_start settings times no_more (unnoted left calls failures packets packet old new w e settings (Json times) status.Done unfailed (explains_none settings.as_json settings.explains settings.keeps_going _ no_more) there) none
-  runs_json settings times (Messages (Show a b) s) same no_more none does = absurd same.0
-  runs_json settings times (Messages Check s) same no_more none does = absurd same.0
-  runs_json settings times (Messages (Swap a b) s) same no_more none does = absurd same.0
-  runs_json settings times (Messages (Filter a b) s) same no_more none does = absurd same.0
-  runs_json settings times (Count s) same no_more none does = absurd same
-  runs_json settings times (Listing s a) same no_more none does = absurd same
-  runs_json settings times (Calls s a) same no_more none does = absurd same
-  runs_json settings times (Encode a) same no_more none does = absurd same
-  runs_json settings times (Handshake a) same no_more none does = absurd same
+  runs_json : (settings : Settings) (times safe : Bool) (asked : Asked) → AreSameAsked (Messages (Json times safe) settings) asked → ask_more settings ≡ false → settings.handshake ≡ None
+      → Does left calls failures packets packet old new w e (Ok asked) status.Done → Runs (ahead left calls failures packets packet old new) w e settings.limits (2 ^ 32) (Json times safe) status.Done
+  runs_json settings times safe (Messages (Json t u) s) same no_more none does =
+      let timed = subst (λ (b : Bool). Does left calls failures packets packet old new w e (Ok (Messages (Json b u) s)) status.Done) (sym same.0.0) does in
+      let here = subst (λ (b : Bool). Does left calls failures packets packet old new w e (Ok (Messages (Json times b) s)) status.Done) (sym same.0.1) timed in
+      let there = subst (λ (x : Settings). Does left calls failures packets packet old new w e (Ok (Messages (Json times safe) x)) status.Done) (sym same.1) here in
+      from_start settings times safe no_more (unnoted left calls failures packets packet old new w e settings (Json times safe) status.Done unfailed (explains_none settings.as_json settings.explains settings.keeps_going _ no_more) there) none
+  runs_json settings times safe (Messages (Show a b) s) same no_more none does = absurd same.0
+  runs_json settings times safe (Messages Check s) same no_more none does = absurd same.0
+  runs_json settings times safe (Messages (Swap a b) s) same no_more none does = absurd same.0
+  runs_json settings times safe (Messages (Filter a b) s) same no_more none does = absurd same.0
+  runs_json settings times safe (Count s) same no_more none does = absurd same
+  runs_json settings times safe (Listing s a) same no_more none does = absurd same
+  runs_json settings times safe (Calls s a) same no_more none does = absurd same
+  runs_json settings times safe (Encode a) same no_more none does = absurd same
+  runs_json settings times safe (Handshake a) same no_more none does = absurd same
 
   runs_encode : (wanted : WantedEncoding) (asked : Asked) (end : ExitStatus) → AreSameAsked (Encode wanted) asked → Does left calls failures packets packet old new w e (Ok asked) end
       → EncodesLines (ahead left calls failures packets packet old new) w e (encoding_wanted wanted) (2 ^ 32) end
@@ -70,10 +71,11 @@ module _ {R W E : Type 0} (left : R → Option (List ℕ)) (calls failures : R �
 
 pub program_back : (R S W V E F : Type 0) → ProgramBack R S W V E F
 program_back R S W V E F left calls failures packets packet other_left other_calls other_failures other_packets other_packet r0 r1 s0 s1 w v e f words others end named runs ran input text known small empty held given short done =
-    let j = answer_is left calls failures packets packet r0 r1 w e words (Messages (Json named.times) named.settings) named.json named.faultless status.Done unfailed runs.answer runs.named runs.told runs.does in
+    let j = answer_is left calls failures packets packet r0 r1 w e words (Messages (Json named.times named.safe) named.settings) named.json named.faultless status.Done unfailed runs.answer runs.named runs.told runs.does in
     let k = answer_is other_left other_calls other_failures other_packets other_packet s0 s1 v f others (Encode named.wanted) named.encode named.others_faultless end done ran.answer ran.named ran.told ran.does in
-    let first = runs_json left calls failures packets packet r0 r1 w e named.settings named.times j.0 (same_asked words (Messages (Json named.times) named.settings) j.0 named.json j.1) named.no_more named.no_handshake j.2 in
+    let first = runs_json left calls failures packets packet r0 r1 w e named.settings named.times named.safe j.0 (same_asked words (Messages (Json named.times named.safe) named.settings) j.0 named.json j.1) named.no_more named.no_handshake j.2 in
     let second = runs_encode other_left other_calls other_failures other_packets other_packet s0 s1 v f named.wanted k.0 end (same_asked others (Encode named.wanted) k.0 named.encode k.1) k.2 in
-    let within = subst (λ (l : Limits). Runs (ahead left calls failures packets packet r0 r1) w e l (2 ^ 32) (Json named.times) status.Done) (sym named.same_limits) first in
+    let within = subst (λ (l : Limits). Runs (ahead left calls failures packets packet r0 r1) w e l (2 ^ 32) (Json named.times named.safe) status.Done) (sym named.same_limits) first in
+    let so = subst (λ (b : Bool). Runs (ahead left calls failures packets packet r0 r1) w e named.wanted.limits (2 ^ 32) (Json named.times b) status.Done) (sym named.same_integers) within in
     input_back (ReadAhead R) (ReadAhead S) W V E F (ahead left calls failures packets packet r0 r1) (ahead other_left other_calls other_failures other_packets other_packet s0 s1) w v e f named.times (encoding_wanted named.wanted) _ _ input text end
-    known small within empty held given named.no_order short done second
+    known small so empty held given named.no_order short done second

@@ -268,14 +268,14 @@ mark t = slice_index t 0 * 256 + slice_index t 1
 
 abbrev pub mark_of : Command → ℕ
 mark_of (Show times escapes) = mark (codes "show")
-mark_of (Json times) = mark (codes "json")
+mark_of (Json times safe) = mark (codes "json")
 mark_of Check = mark (codes "check")
 mark_of (Swap order form) = mark (codes "swap")
 mark_of (Filter selection form) = mark (codes "filter")
 
 pub marked : (name : Text) (rows : List Row) (command : Command) → NamesCommand name rows command → mark name ≡ mark_of command
 marked name rows (Show times escapes) h = ap mark h.0
-marked name rows (Json times) h = ap mark h.0
+marked name rows (Json times safe) h = ap mark h.0
 marked name rows Check h = ap mark h
 marked name rows (Swap order form) h = ap mark h.0
 marked name rows (Filter selection form) h = ap mark h.0
@@ -288,7 +288,7 @@ same_file_form files.AsRead files.Raw p q = p.1 (q.0 refl)
 
 same_command : (name : Text) (rows : List Row) (a b : Command) → NamesCommand name rows a → NamesCommand name rows b → AreSameCommand a b
 same_command name rows (Show a x) (Show b y) p q = (same_flag a b p.1 q.1, same_flag x y p.2 q.2)
-same_command name rows (Json a) (Json b) p q = same_absent a b p.1 q.1
+same_command name rows (Json a x) (Json b y) p q = (same_absent a b p.1 q.1, same_flag x y p.2 q.2)
 same_command name rows Check Check p q = tt
 same_command name rows (Swap a f) (Swap b g) p q = (same_order_word a b (some_is (order_word a) (order_word b) (sym p.1 ∙ q.1)), same_file_form f g p.2 q.2)
 same_command name rows (Filter a f) (Filter b g) p q = (same_selection rows a b p.1 q.1, same_file_form f g p.2 q.2)
@@ -308,41 +308,43 @@ same_encoding : (rows : List Row) (a b : WantedEncoding) → HasEncoding rows a 
 same_encoding rows a b p q =
     let limits = same_limits rows a.limits b.limits p.limits q.limits in
     let order = same_order a.order b.order (sym p.order ∙ q.order) in
+    let safe_integers = same_flag a.safe_integers b.safe_integers p.safe_integers q.safe_integers in
+    let explains = same_flag a.explains b.explains p.explains q.explains in
     let keeps_going = same_flag a.keeps_going b.keeps_going p.keeps_going q.keeps_going in
     let max_line = same_number _ _ a.max_line b.max_line p.max_line.0 q.max_line.0 in
-    λ i. record { limits = limits i; order = order i; keeps_going = keeps_going i; max_line = max_line i }
+    λ i. record { limits = limits i; order = order i; safe_integers = safe_integers i; explains = explains i; keeps_going = keeps_going i; max_line = max_line i }
 
 no_count : (name : Text) (rows : List Row) (command : Command) → NamesCommand name rows command → name ≡ codes "count" → ⊥
 no_count name rows (Show times escapes) p e = omega (arith, ap mark p.0, ap mark e)
-no_count name rows (Json times) p e = omega (arith, ap mark p.0, ap mark e)
+no_count name rows (Json times safe) p e = omega (arith, ap mark p.0, ap mark e)
 no_count name rows Check p e = omega (arith, marked name rows Check p, ap mark e)
 no_count name rows (Swap order form) p e = omega (arith, ap mark p.0, ap mark e)
 no_count name rows (Filter selection form) p e = omega (arith, ap mark p.0, ap mark e)
 
 no_calls : (name : Text) (rows : List Row) (command : Command) → NamesCommand name rows command → name ≡ codes "calls" → ⊥
 no_calls name rows (Show times escapes) p e = omega (arith, ap mark p.0, ap mark e)
-no_calls name rows (Json times) p e = omega (arith, ap mark p.0, ap mark e)
+no_calls name rows (Json times safe) p e = omega (arith, ap mark p.0, ap mark e)
 no_calls name rows Check p e = omega (arith, marked name rows Check p, ap mark e)
 no_calls name rows (Swap order form) p e = omega (arith, ap mark p.0, ap mark e)
 no_calls name rows (Filter selection form) p e = omega (arith, ap mark p.0, ap mark e)
 
 no_list : (name : Text) (rows : List Row) (command : Command) → NamesCommand name rows command → name ≡ codes "list" → ⊥
 no_list name rows (Show times escapes) p e = omega (arith, ap mark p.0, ap mark e)
-no_list name rows (Json times) p e = omega (arith, ap mark p.0, ap mark e)
+no_list name rows (Json times safe) p e = omega (arith, ap mark p.0, ap mark e)
 no_list name rows Check p e = omega (arith, marked name rows Check p, ap mark e)
 no_list name rows (Swap order form) p e = omega (arith, ap mark p.0, ap mark e)
 no_list name rows (Filter selection form) p e = omega (arith, ap mark p.0, ap mark e)
 
 no_handshake : (name : Text) (rows : List Row) (command : Command) → NamesCommand name rows command → name ≡ codes "handshake" → ⊥
 no_handshake name rows (Show times escapes) p e = omega (arith, ap mark p.0, ap mark e)
-no_handshake name rows (Json times) p e = omega (arith, ap mark p.0, ap mark e)
+no_handshake name rows (Json times safe) p e = omega (arith, ap mark p.0, ap mark e)
 no_handshake name rows Check p e = omega (arith, marked name rows Check p, ap mark e)
 no_handshake name rows (Swap order form) p e = omega (arith, ap mark p.0, ap mark e)
 no_handshake name rows (Filter selection form) p e = omega (arith, ap mark p.0, ap mark e)
 
 no_encode : (name : Text) (rows : List Row) (command : Command) → NamesCommand name rows command → name ≡ codes "encode" → ⊥
 no_encode name rows (Show times escapes) p e = omega (arith, ap mark p.0, ap mark e)
-no_encode name rows (Json times) p e = omega (arith, ap mark p.0, ap mark e)
+no_encode name rows (Json times safe) p e = omega (arith, ap mark p.0, ap mark e)
 no_encode name rows Check p e = omega (arith, marked name rows Check p, ap mark e)
 no_encode name rows (Swap order form) p e = omega (arith, ap mark p.0, ap mark e)
 no_encode name rows (Filter selection form) p e = omega (arith, ap mark p.0, ap mark e)
@@ -420,7 +422,7 @@ selection_lacks a b h =
 -- the same commands lack them
 pub same_lacks : (a b : Command) → AreSameCommand a b → lacks_owner a ≡ lacks_owner b
 same_lacks (Show a x) (Show b y) h = refl
-same_lacks (Json a) (Json b) h = refl
+same_lacks (Json a x) (Json b y) h = refl
 same_lacks Check Check h = refl
 same_lacks (Swap a f) (Swap b g) h = refl
 same_lacks (Filter a f) (Filter b g) h = selection_lacks a b h.0

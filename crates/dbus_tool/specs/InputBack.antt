@@ -20,18 +20,21 @@ use Rattle.cli_encode_laws.specs.InputBack.{AreShort, IsDoneWith}
 use Rattle.dbus_tool.specs.Handshaking.{ahead}
 use Rattle.dbus_tool.specs.Words.{RunsWords}
 
--- The first words name `json`, with no options but limits and whether times are written, and the
--- others `encode`, with the same limits and no other byte order.
+-- The first words name `json`, with no options but limits, whether times are written and whether
+-- integers are safe, and the others `encode`, with the same limits, integers safe or not as in the
+-- first, and no other byte order.
 pub record NameInverses (words others : List Text) : Type 0 where
   pub times : Bool
+  pub safe : Bool
   pub settings : Settings
-  pub json : IsNamedBy words (Messages (Json times) settings)
+  pub json : IsNamedBy words (Messages (Json times safe) settings)
   pub no_more : ask_more settings ≡ false
   pub no_handshake : settings.handshake ≡ None
   pub wanted : WantedEncoding
   pub encode : IsNamedBy others (Encode wanted)
   pub no_order : wanted.order ≡ None
   pub same_limits : wanted.limits ≡ settings.limits
+  pub same_integers : wanted.safe_integers ≡ safe
   pub faultless : fault_of wire_app words ≡ []
   pub others_faultless : fault_of wire_app others ≡ []
 

@@ -76,7 +76,7 @@ calls_wanted as_json wanted = record { form = if as_json then InJson else InWord
 
 -- how lines are encoded, as `encode` asks for it
 abbrev pub encoding_wanted : WantedEncoding → Encoding
-encoding_wanted wanted = record { limits = wanted.limits; order = wanted.order; keeps_going = wanted.keeps_going; most = wanted.max_line }
+encoding_wanted wanted = record { limits = wanted.limits; order = wanted.order; safe_integers = wanted.safe_integers; explains = wanted.explains; keeps_going = wanted.keeps_going; most = wanted.max_line }
 
 -- calls are summed up by their members, or listed
 abbrev pub DoesCalls : {R W E : Type 0} → Reading R → Writing W → Writing E → Settings → (by_member : Bool) → Wanted → ExitStatus → Type 0

@@ -24,9 +24,9 @@ pub fn one_program<R, S, W, V, E, F>()
 
 /// What `dbus-wire json` writes of an input in which it refuses nothing, `dbus-wire encode` writes
 /// as that input, byte for byte, and is `Done`, if it does not fail: by words that name both with
-/// the same limits, and no other option but whether times are written, how long a line may be and
-/// whether `encode` goes on. The input has fewer than 2^64 bytes, and no line is longer than one
-/// may be.
+/// the same limits, both with safe integers or both without, and with no other option but whether
+/// times are written, how long a line may be, and whether `encode` explains and goes on. The input
+/// has fewer than 2^64 bytes, and no line is longer than one may be.
 pub fn input_back<R, S, W, V, E, F>()
     ensures { ProgramBack R S W V E F }
 {}

@@ -262,6 +262,8 @@ fn encoding_wanted(wanted: WantedEncoding) -> Encoding
     Encoding {
         limits: wanted.limits,
         order: wanted.order,
+        safe_integers: wanted.safe_integers,
+        explains: wanted.explains,
         keeps_going: wanted.keeps_going,
         most: wanted.max_line as usize,
     }

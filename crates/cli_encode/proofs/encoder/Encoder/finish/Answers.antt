@@ -1,7 +1,9 @@
 use Rattle.std.proofs.Common.{List, ℕ, refl, subst, inr, ◌∙◌}
+use Rattle.std.specs.Prelude.{string_bytes}
 use Rattle.cli_report.specs.Gathering.{Breaks, Passes, gathered_bytes}
 use Rattle.cli_report.specs.PageLaws.{passes_none}
-use Rattle.cli_encode.specs.Outcomes.{IsOutcome, Passed, Written}
+use Rattle.cli_encode.specs.Outcomes.{IsOutcome, Passed, Written, refused_text}
+use Rattle.cli_encode.specs.Running.{TellsLine}
 use Rattle.cli_encode.specs.Steps.{outcome_of}
 use Rattle.cli_encode.specs.declared.encoder.Made.{Made}
 use Rattle.cli_encode.proofs.GoSteps.{wrote_nothing}
@@ -13,7 +15,7 @@ returns-in-Passed g c = λ line is.
     let now = c.args.self.now in (
       Passed,
       record {
-        is = subst (λ (m : Made). IsOutcome now.encoding now.serial line (outcome_of m now.spare.items)) c.in-Passed.is is;
+        is = subst (λ (m : Made g.row.A.Denot). IsOutcome now.encoding now.serial line (outcome_of m now.spare.items)) c.in-Passed.is is;
         encoding = refl;
         number = refl;
         serial = refl;
@@ -29,7 +31,7 @@ returns-in-Ok g c = λ line is.
     let now = c.args.self.now in (
       Written now.spare.items,
       record {
-        is = subst (λ (m : Made). IsOutcome now.encoding now.serial line (outcome_of m now.spare.items)) c.in-Written.is is;
+        is = subst (λ (m : Made g.row.A.Denot). IsOutcome now.encoding now.serial line (outcome_of m now.spare.items)) c.in-Written.is is;
         encoding = refl;
         number = refl;
         serial = c.next_serial-self.ensures;
@@ -40,21 +42,11 @@ returns-in-Ok g c = λ line is.
       },
     )
 
-pub returns-in-Err : goal.returns-in-Err
-returns-in-Err g c = λ line is.
-    let now = c.args.self.now in (
-      refl,
-      inr (
-        now.spare.items,
-        subst (λ (m : Made). IsOutcome now.encoding now.serial line (outcome_of m now.spare.items)) c.in-Written.is is,
-        subst (λ (l : List ℕ). Breaks g.W.Sink.held g.W.Sink.failures l (gathered_bytes now.gathered) c.args.first.now c.write_bytes.new.first) c.as_slice.ensures.value c.in-Err.ensures,
-      ),
-    )
-
 pub returns-in-Ok-settle : goal.returns-in-Ok-settle
 returns-in-Ok-settle g c = λ line is.
     let now = c.args.self.now in
     let same = c.settle.ensures.same in
-    takes_refused g.W.Sink.held g.W.Sink.failures g.E.Sink.held g.E.Sink.failures line c.in-Refused.refusal now c.settle.new.self c.args.first.now c.settle.new.first c.args.second.now c.tell_refused.new.second
-    c.tell_refused.result (subst (λ (m : Made). IsOutcome now.encoding now.serial line (outcome_of m now.spare.items)) c.in-Refused.is is) same.encoding same.number
-    (same.serial ∙ c.next_serial-self-in-Refused.ensures) same.refused c.in-Ok-settle.ensures.gathers c.settle.ensures.settled c.tell_refused.ensures
+    takes_refused g.W.Sink.held g.W.Sink.failures g.E.Sink.held g.E.Sink.failures line c.in-Refused.refusal (string_bytes c.in-Refused.explained) now c.settle.new.self c.args.first.now c.settle.new.first c.args.second.now c.tell_refused.new.second
+    c.tell_refused.result (subst (λ (m : Made g.row.A.Denot). IsOutcome now.encoding now.serial line (outcome_of m now.spare.items)) c.in-Refused.is is) same.encoding same.number
+    (same.serial ∙ c.next_serial-self-in-Refused.ensures) same.refused c.in-Ok-settle.ensures.gathers c.settle.ensures.settled
+    (subst (λ (text : List ℕ). TellsLine g.E.Sink.held g.E.Sink.failures (refused_text c.settle.new.self.number c.in-Refused.refusal text) c.args.second.now c.tell_refused.new.second c.tell_refused.result) c.as_str.ensures.value c.tell_refused.ensures)
