@@ -1,8 +1,6 @@
-//! Values of any type, along the bytes of their signature, handed to a visitor in place.
-//!
-//! A value is there, so nothing is validated: each call hands what begins at its spot to the
-//! visitor, which adds to what it gathered before. A visitor that stops ends the walk. D-Bus
-//! Specification, "Marshaling (Wire Format)".
+//! Values of any type, handed to a visitor in place, along their signature. They are there: nothing
+//! is validated. Each call hands on what begins at its spot, which the visitor adds to what it
+//! gathered; one that stops ends the walk. D-Bus Specification, "Marshaling (Wire Format)".
 #![tactic(auto)]
 
 ghost use Rattle.std.specs.Prelude.{◌≡◌, ℕ, ◌+◌, ◌<◌, ◌≤◌, ◌⊎◌, List, length, IfOk};
