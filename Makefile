@@ -1,4 +1,4 @@
-# make run         checks a sample capture by what make build made, or else builds dbus-wire without its proofs, in 40 seconds;
+# make run         checks a sample capture by what make build made, or else builds dbus-wire without its proofs, in about three processor minutes;
 #                  ARGS='show' FILE=my.dbus for another command and capture
 # make quick-test  the tests, the cases and the examples of doc comments, without proofs: some minutes
 #                  It also holds the manual page and the completions against the texts of help
@@ -11,6 +11,8 @@
 #                  those of docs/RECIPES.md too, if make build made dbus-wire
 # make build       proves dbus-wire and all below it, on all processors, and builds it: half an hour on four
 # make test        the gate: every proof, the wrong bodies that are due, the tests and the programs' stored runs
+# make weight      prints what the product weighs beside its budgets in bench/weight.txt; with ROWS=--all each number
+# make lint        has pyflakes, shellcheck and eslint read the scripts, as far as Debian's packages of these are there
 # make gate-times  the gate, and the processor minutes of each of its steps
 # make library     proves and builds the library for C, static and shared. TARGET=aarch64-linux-gnu does it for that system, in out/aarch64-linux-gnu, by
 #                  Debian's gcc-aarch64-linux-gnu and libc6-dev-arm64-cross; make install-c takes TARGET too
@@ -42,6 +44,8 @@
 # make test-root   installs the release in a fresh Debian, which debootstrap makes, and builds and runs the examples for C, Rust and
 #                  Python there; as root, over the network
 # make wrong-bodies prints the wrong bodies that the prover refuses, and what refuses each; bench/wrong_bodies.py tries those that are due, or all
+# make promises    writes bench/promises.txt, a checksum of what each public call and law promises; the gate checks it (docs/CHANGING.md)
+# make promises-diff prints which of them differ from those of a commit, REV=HEAD, and the definitions by which they do
 # make instructions prints the instructions per byte of each command, by valgrind, of libdbus if its headers are there, and of calls of the library for C
 # make bench       MB/s of each command on several streams, by user and system time, and of decoding and encoding
 # make bench-c     nanoseconds of calls of the library for C, and of a set of 100,000 match rules; MB/s of a checker of pieces
@@ -104,7 +108,7 @@ INSTALLED = $(BINDIR)/dbus-wire $(MANDIR)/man1/dbus-wire.1 $(addprefix $(DATADIR
 ARGS = check
 FILE = samples/session.dbus
 
-.PHONY: kit run quick-test build library test test-c test-python page test-page test-memory gate-times wrong-bodies api graph definitions definitions-check \
+.PHONY: kit run quick-test build library test weight lint test-c test-python page test-page test-memory gate-times wrong-bodies promises promises-diff api graph definitions definitions-check \
 	doc-examples readme-test peers export-cases instructions bench bench-c install install-program install-c install-shared install-dev install-python install-notices uninstall deb tarball wheel test-wheel crate test-crate test-completions release test-release test-packages test-root
 
 # What rt try builds is gone when it ends. What make build made runs at once, and needs no kit.
@@ -142,6 +146,12 @@ library: kit
 
 test: kit
 	.ci/run
+
+weight:
+	bench/weight.py $(ROWS)
+
+lint:
+	bench/lint.py
 
 test-c: build library
 	CC="$(CC)" examples/test.sh $(PROGRAM) $(ARCHIVE) $(SHARED) $(RUN_BY)
@@ -198,6 +208,12 @@ gate-times: kit
 
 wrong-bodies:
 	bench/wrong_bodies.py
+
+promises:
+	bench/promises.py
+
+promises-diff:
+	bench/promises.py --diff $(or $(REV),HEAD)
 
 api:
 	bench/api.py

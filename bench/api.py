@@ -8,57 +8,21 @@ or a law has no doc comment.
 
 import collections
 import re
-import sys
 
 from crate_list import ROOT, read_crates
+from pages import write_or_check
 from sources import TYPES, all_items, all_types, cases, exports, methods
 
 PAGE = ROOT / "docs" / "API.md"
 
-# What a program names in its line of crates.txt. A call is listed under the first of them that has it.
-CALLERS = """dbus_c dbus_page dbus_value dbus_message dbus_compose dbus_body dbus_typed dbus_validate dbus_resync dbus_swap dbus_stream dbus_device dbus_lines dbus_capture dbus_pcap dbus_match dbus_rule_set dbus_calls dbus_names dbus_auth dbus_handshake_input
-    dbus_auth_lines dbus_count dbus_call_lines dbus_list dbus_show dbus_room dbus_show_handshake dbus_show_view dbus_display dbus_json dbus_explain dbus_types dbus_texts dbus_json_lines dbus_tool cli_run cli_encode
-    cli_options cli_report""".split()
-
+# What a program names in its line of crates.txt, and each heading with the crates, and the files of crates, whose calls
+# stand below it in this order.
+LISTED = re.findall(r"^([^#\n].*?): (.*)", (ROOT / "bench" / "api.txt").read_text(), re.M)
+(_, CALLERS), *HEADINGS = ((heading, places.split()) for heading, places in LISTED)
 # What tests are made of.
 NOT_CALLED = ("_tests", "case_questions", "refusing_alloc")
-
-# Each heading, with the crates, and the files of crates, whose calls stand below it in this order.
-HEADINGS = {
-    "Read a message": "dbus_decode dbus_message_model dbus_header",
-    "Look at a message without a tree": "dbus_view/view.rt dbus_view dbus_values/values.rt dbus_values dbus_typed dbus_unmarshal/copying.rt dbus_count",
-    "Check bytes": "dbus_check dbus_validate/validating.rt dbus_validate dbus_resync",
-    "Make a message and encode it": "dbus_compose dbus_build dbus_encode dbus_body dbus_swap",
-    "Values alone": "dbus_unmarshal dbus_marshal dbus_value_model",
-    "Read and write streams": """dbus_stream/cutter.rt dbus_stream/message_reader.rt dbus_stream/raw_reader.rt dbus_stream/going_on.rt dbus_stream/check_reader.rt
-        dbus_stream/writing.rt dbus_device dbus_lines dbus_capture/capture.rt dbus_capture dbus_pcap dbus_stream""",
-    "Match rules": "dbus_rule/parse.rt dbus_rule/to_text.rt dbus_match dbus_rule dbus_rule_set",
-    "Calls and replies": "dbus_calls dbus_names dbus_call_lines",
-    "The handshake": "dbus_auth/server_end.rt dbus_auth/client_end.rt dbus_auth dbus_handshake_input dbus_auth_lines",
-    "Print": "dbus_show_view dbus_display dbus_json dbus_json_lines dbus_list dbus_show_handshake dbus_explain dbus_show dbus_room",
-    "Texts and types": "dbus_types dbus_texts",
-    "Limits": "dbus_value_model/limits.rt dbus_value_model/fd_rule.rt",
-    "From C": "dbus_c",
-    "From a page in a browser": "dbus_page",
-    "The program": "dbus_tool cli_run cli_encode cli_options cli_report",
-}
-
 # What no crate of CALLERS has, which our crates call of one another.
 OWN = "Between the crates"
-
-HEAD = """\
-# The calls of the libraries
-
-`make api` prints this page out of the sources, and `make quick-test` fails if it is not current. A
-row has a call, the first sentence of its doc comment, its error type and the cases of that, what is
-proved of it, and the crate to add to `crates.txt`. The doc comment, in the file of the row, says
-the rest: what is promised, when each error occurs, and what state it leaves.
-
-What is proved are the clauses of the call's contract, each by its name, or by the definition that
-it states if it is the only one; then, after "needs", what its caller has to know. A method of a
-trait has the trait's clauses, if it has none of its own. docs/DEFINITIONS.md says where definitions
-are, docs/PROVED.md what clauses do not say, and docs/LIBRARY.md how a program uses a library.
-"""
 
 # Of an error type with more cases the row has the name alone: "Errors" lists them.
 CASES_IN_A_ROW = 6
@@ -113,9 +77,9 @@ def cases_of(name):
 def place_of(caller, item):
     """The heading of a call, by its file, else by its crate, and the number of that below the heading."""
     for key in (f"{item.crate}/{item.file}", item.crate):
-        for heading, places in HEADINGS.items():
-            if caller in CALLERS and key in places.split():
-                return heading, places.split().index(key)
+        for heading, places in HEADINGS:
+            if caller in CALLERS and key in places:
+                return heading, places.index(key)
     return OWN, [*read_crates()].index(item.crate)
 
 
@@ -189,27 +153,17 @@ def page(listed):
     for call in sorted(listed, key=lambda it: (place_of(it[0], it[2]), files.index((it[2].crate, it[2].file)), it[2].line)):
         found[place_of(call[0], call[2])[0]].append(row(*call))
     lines = []
-    for heading in (*HEADINGS, OWN):
+    for heading in (*dict(HEADINGS), OWN):
         if found[heading]:
             lines += table(heading, ("call", "what it does", "errors", "proved", "crate", "file"), found[heading])
     lines += table("Laws", ("law", "what it says", "proved", "file"), map(law_row, laws()))
     lines += table("Errors", ("error", "when it comes", "file"), error_rows(listed))
-    return HEAD + "\n".join(lines) + "\n"
-
-
-def main(*words):
-    listed = list(calls())
-    told = [*((name, it) for caller, name, it in listed if caller in CALLERS), *((it.name, it) for it in laws())]
-    faults = [f"{it.crate}/src/{it.file}: {name} has no doc comment" for name, it in told if not it.doc]
-    text = page(listed)
-    if words != ("--check",):
-        PAGE.write_text(text)
-    elif not PAGE.exists() or PAGE.read_text() != text:
-        faults.append("docs/API.md is not current: make api prints it")
-    for fault in faults:
-        print(fault, file=sys.stderr)
-    return 1 if faults else 0
+    # What stands before the first heading is written by hand.
+    return PAGE.read_text().partition("\n## ")[0] + "\n".join(lines) + "\n"
 
 
 if __name__ == "__main__":
-    sys.exit(main(*sys.argv[1:]))
+    listed = list(calls())
+    told = [*((name, it) for caller, name, it in listed if caller in CALLERS), *((it.name, it) for it in laws())]
+    faults = [f"{it.crate}/src/{it.file}: {name} has no doc comment" for name, it in told if not it.doc]
+    write_or_check({PAGE: page(listed)}, "docs/API.md is not current: make api prints it", faults)

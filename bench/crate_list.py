@@ -1,5 +1,6 @@
 """What the scripts share: the crates of crates.txt, which has a line `NAME: LIBRARY ..` for each, lowest first, and the machine."""
 
+import functools
 import os
 import pathlib
 import shutil
@@ -11,12 +12,14 @@ GIGABYTES_A_CHECK = 2
 PARTS = ("src", "specs", "proofs")
 
 
+@functools.cache
 def read_lines():
     """The line of each crate, in the order of the list."""
     lines = [it for it in (ROOT / "crates.txt").read_text().splitlines() if ":" in it and it[0] != "#"]
     return {line.split(":")[0].split()[0]: line for line in lines}
 
 
+@functools.cache
 def read_crates():
     """Of each crate, the libraries of this repository that its line names."""
     lines = read_lines()
@@ -35,6 +38,11 @@ def asked_programs():
 
 def folder_of(name):
     return ROOT / "crates" / name
+
+
+def text_of(file):
+    """The text of a file of crates/."""
+    return (ROOT / "crates" / file).read_text()
 
 
 def copy_parts(name, to, parts=PARTS, **how):

@@ -7,20 +7,16 @@ the page or a mark is not current.
 """
 
 import re
-import sys
 
-from crate_list import ROOT
+from crate_list import ROOT, text_of
+from pages import write_or_check
 
 PAGE = ROOT / "docs" / "DEFINITIONS.md"
 START = "dbus_stream/specs/Headline.antt"
 MARK = "-- Trusted by the headline.\n"
 USE = re.compile(r"^\s*(?:pub )?use Rattle\.(\w+)\.specs\.(\w+)", re.M)
-TABLE = re.compile(r"(\| file \| what it defines \|\n\| --- \| --- \|\n)(\|.*\n)*")
+TABLE = re.compile(r"(\| file \| what it defines \|\n\| --- \| --- \|\n)(?:\|.*\n)*")
 COUNT = re.compile(r"these \d+ files, about [\d,]+ lines")
-
-
-def text_of(file):
-    return (ROOT / "crates" / file).read_text()
 
 
 def reach(file, found):
@@ -44,33 +40,17 @@ def row(file):
     return f"| `{file}` | {re.match(r'.*?(?=[.]( |$)|$)', said)[0]} |\n"
 
 
-def is_mark_wrong(path, found):
-    """Whether the file lacks the mark though the headline rests on it, or has it though not."""
-    return path.read_text().startswith(MARK) != (path.relative_to(ROOT / "crates").as_posix() in found)
-
-
-def turn_mark(path):
-    text = path.read_text()
-    path.write_text(text.removeprefix(MARK) if text.startswith(MARK) else MARK + text)
-
-
-def main(*words):
+def texts():
+    """The page, and each file of specs/ with the mark if the headline rests on it."""
     found = {}
     reach(START, found)
     lines = sum(count_lines(it) for it in found)
-    old = PAGE.read_text()
-    new = TABLE.sub(lambda it: it[1] + "".join(row(file) for file in found), old)
-    new = COUNT.sub(f"these {len(found)} files, about {round(lines, -1)} lines", new)
-    wrong = [path for path in (ROOT / "crates").glob("*/specs/*.antt") if is_mark_wrong(path, found)]
-    if words != ("--check",):
-        PAGE.write_text(new)
-        for path in wrong:
-            turn_mark(path)
-    elif new != old or wrong:
-        print("docs/DEFINITIONS.md or a file's mark is not current: make definitions writes both", file=sys.stderr)
-        return 1
-    return 0
+    page = TABLE.sub(lambda it: it[1] + "".join(row(file) for file in found), PAGE.read_text())
+    page = COUNT.sub(f"these {len(found)} files, about {round(lines, -1)} lines", page)
+    named = {it: it.relative_to(ROOT / "crates").as_posix() for it in (ROOT / "crates").glob("*/specs/*.antt")}
+    bare = {path: text_of(name).removeprefix(MARK) for path, name in named.items()}
+    return {PAGE: page} | {it: (MARK if named[it] in found else "") + text for it, text in bare.items()}
 
 
 if __name__ == "__main__":
-    sys.exit(main(*sys.argv[1:]))
+    write_or_check(texts(), "docs/DEFINITIONS.md or a file's mark is not current: make definitions writes both")

@@ -14,39 +14,14 @@ import subprocess
 import sys
 import textwrap
 
-from crate_list import ROOT, folder_of, read_crates, read_lines
+from crate_list import ROOT, copy_parts, folder_of, read_crates, read_lines
 
 NAME = "doc_examples"
 APART = ROOT / "out" / NAME
 SECONDS = "120"
 
-EXAMPLE = """\
-//! The example at {place}.
-{uses}
-
-pub(crate) fn example(rt: &HostRuntime, alloc: Global, bytes: &[u8]) -> Result<()> {{
-{body}
-    Ok(())
-}}
-"""
-
-MAIN = """\
-//! The examples of doc comments, each run with the message that standard input has.
-#![tactic(auto)]
-
-{modules}
-
-use anyhow::Result;
-use std::io::Read;
-
-fn main(rt: HostRuntime) -> Result<()> {{
-    let alloc = rt.alloc();
-    let mut bytes = Vec::new(alloc);
-    rt.stdin().read_to_end(&mut bytes)?;
-{calls}
-    Ok(())
-}}
-"""
+# The module of an example, and the program that calls all of them.
+EXAMPLE, MAIN = ((ROOT / "bench" / it).read_text() for it in ("doc_example.rt.in", "doc_examples.rt.in"))
 
 
 def comment_of(line):
@@ -90,9 +65,7 @@ def write_program():
     shutil.rmtree(APART, ignore_errors=True)
     libraries = [it for it in read_crates() if (folder_of(it) / "src" / "lib.rt").exists() and "staticlib" not in read_lines()[it].split(":")[0]]
     for name in libraries:
-        for part in ("src", "specs", "proofs"):
-            if (folder_of(name) / part).is_dir():
-                shutil.copytree(folder_of(name) / part, APART / "crates" / name / part, copy_function=os.link)
+        copy_parts(name, APART / "crates" / name, copy_function=os.link)
     (APART / "crates" / NAME / "src").mkdir(parents=True)
     lines = [read_lines()[it] for it in libraries]
     (APART / "crates.txt").write_text("\n".join([*lines, f"{NAME}: {' '.join(libraries)} anyhow"]) + "\n")

@@ -1,11 +1,14 @@
 #!/usr/bin/env python3
-"""gate.py [--all]: the gate. Runs `rt ci` over a copy of the repository. Over what that builds it meanwhile tries the wrong bodies of the crates that
-are due and those that are always tried; with --all, all of them (bench/trying.py). Then it asks the programs that answer questions on the cases, makes
-the runs that are stored in runs/ of programs, and has dbus-wire read captures, list messages, refuse lines and pass over damaged messages, as each of two
-compilers built these (cases/README.md).
+"""gate.py [--all]: the gate. Runs `rt ci` over a copy of the repository. Over what that builds it meanwhile tries the
+wrong bodies of the crates that are due, those that are always tried and those that the tree draws; with --all, all of
+them (bench/trying.py). Before that it checks the blocks of these, and the pages that scripts write. Then it asks the
+programs that answer questions on the cases, makes the runs that are stored in runs/ of programs, and has dbus-wire read
+captures, list messages, refuse lines and pass over damaged messages, as each of two compilers built these
+(cases/README.md). Last it reads the scripts (bench/lint.py) and weighs the product (bench/weight.py).
 
-The last line says how many crates, programs of questions, stored runs, programs of these three and wrong bodies passed, and how many failed; the exit status
-is 1 if one did.
+Before all that it looks at what is promised (bench/promises.py). The last line says how many crates,
+programs of questions, stored runs, programs of these four, wrong bodies, tools that read scripts, and of the budgets and
+their raises passed, and how many failed; the exit status is 1 if one did.
 """
 
 import contextlib
@@ -16,12 +19,18 @@ import subprocess
 import sys
 import tempfile
 
-from crate_list import ROOT, asked_programs
+import weight
+from crate_list import ROOT, asked_programs, folder_of, read_crates
 from edits import all_edits, find_faults
-from stored_runs import is_right, stored_runs
+from lint import lint
+from promises import promise_faults, told_of_promises
 from trying import Rounds, due_edits
 
 NOT_COPIED = shutil.ignore_patterns(".git", "out", "target", "__pycache__")
+# What compares dbus-wire with the cases: of captures, listed messages, refused lines and damaged messages.
+READERS = ("captures", "lines", "refused_lines", "damaged")
+# What says whether the pages that scripts write are current, and the pages of options.
+PAGES = ("graph.py", "definitions.py", "worked_examples.py", "rules.py", "api.py", "options_check.py")
 COUNT = re.compile(r"(\d+) passed, (\d+) failed")
 
 
@@ -53,11 +62,27 @@ def built(copy, name):
     return [copy / "crates" / name / "out" / it for it in (name, f"{name}.by-rattle")]
 
 
-def ask(copy, name, program):
-    """Whether all answers of a program that answers questions are right."""
-    is_well = program.exists() and run_in(copy, "cases/run.py", "--ask", name, "--", str(program))[0] == 0
-    print(f"{program.name}: {'all answers right' if is_well else 'answered wrongly, or is not there'}", flush=True)
+def finds_right(copy, *words):
+    """Whether a script of the cases finds the program right that is its last word."""
+    program = words[-1]
+    is_well = program.exists() and run_in(copy, *words)[0] == 0
+    print(f"{program.name}: {words[0]} finds it {'right' if is_well else 'wrong, or not there'}", flush=True)
     return is_well
+
+
+def stored_runs():
+    """Each run that is stored in runs/ beside a program's src/, as `rt try --cases` has it, with the program's name."""
+    found = {name: sorted(folder_of(name).glob("runs/*.stdout")) for name in read_crates()}
+    return [(name, it.with_suffix("")) for name, runs in found.items() for it in runs]
+
+
+def is_right(program, run):
+    """Whether a program ends well on a run, and writes what it has to. Of the run NAME is the input, and NAME.args has
+    the arguments, a word a line."""
+    words = [program, *run.with_suffix(".args").read_text().splitlines()]
+    with run.open("rb") as given:
+        ran = subprocess.run(words, stdin=given, stdout=subprocess.PIPE, stderr=subprocess.DEVNULL)
+    return ran.returncode == 0 and ran.stdout == run.with_suffix(".stdout").read_bytes()
 
 
 def make(program, run):
@@ -67,55 +92,30 @@ def make(program, run):
     return is_well
 
 
-def read_captures(copy, program):
-    """Whether the program reads all captures as the cases have them."""
-    is_well = program.exists() and run_in(copy, "cases/captures.py", str(program))[0] == 0
-    print(f"{program.name}: {'all captures read' if is_well else 'captures read wrongly, or it is not there'}", flush=True)
-    return is_well
-
-
-def compare_lines(copy, program):
-    """Whether the program lists all messages as a second writer does."""
-    is_well = program.exists() and run_in(copy, "cases/lines.py", str(program))[0] == 0
-    print(f"{program.name}: {'all lines right' if is_well else 'lines wrong, or it is not there'}", flush=True)
-    return is_well
-
-
-def compare_refusals(copy, program):
-    """Whether the program tells of refused lines what a second reader does."""
-    is_well = program.exists() and run_in(copy, "cases/refused_lines.py", str(program))[0] == 0
-    print(f"{program.name}: {'all refused lines right' if is_well else 'refused lines wrong, or it is not there'}", flush=True)
-    return is_well
-
-
-def save_messages(copy, program):
-    """Whether a changed byte of a message loses that message at most."""
-    is_well = program.exists() and run_in(copy, "cases/damaged.py", str(program))[0] == 0
-    print(f"{program.name}: {'no other message lost' if is_well else 'messages lost, or it is not there'}", flush=True)
-    return is_well
+def find_old_pages():
+    return [f"bench/{it} --check fails" for it in PAGES if subprocess.run([ROOT / "bench" / it, "--check"]).returncode]
 
 
 def main(*words):
     if words not in ((), ("--all",)):
         print(__doc__, file=sys.stderr)
         return 2
-    if broken := find_faults(all_edits()):
+    if broken := find_faults(all_edits()) + find_old_pages() + promise_faults():
         print(*broken, f"0 passed, {len(broken)} failed", sep="\n")
         return 1
     edits = all_edits() if words else due_edits()
     with copied() as copy:
         rounds = Rounds(edits, copy / "crates")
         status, (passed, failed) = run_in(copy, "rt", "ci", note=rounds.note)
-        answered = [ask(copy, name, program) for name in asked_programs() for program in built(copy, name)]
+        asked = [("cases/run.py", "--ask", name, "--", program) for name in asked_programs() for program in built(copy, name)]
+        read = [(f"cases/{it}.py", program) for it in READERS for program in built(copy, "dbus_wire")]
+        answered = [finds_right(copy, *it) for it in asked + read]
         answered += [make(program, run) for name, run in stored_runs() for program in built(copy, name)]
-        answered += [read_captures(copy, program) for program in built(copy, "dbus_wire")]
-        answered += [compare_lines(copy, program) for program in built(copy, "dbus_wire")]
-        answered += [compare_refusals(copy, program) for program in built(copy, "dbus_wire")]
-        answered += [save_messages(copy, program) for program in built(copy, "dbus_wire")]
         missed = rounds.missed()
+    answered += [*lint(), *weight.check()]
     passed += answered.count(True) + len(edits) - missed
     failed += answered.count(False) + missed
-    print(f"{passed} passed, {failed} failed")
+    print(told_of_promises(), f"{passed} passed, {failed} failed", sep="\n")
     return 1 if status or failed else 0
 
 

@@ -97,13 +97,10 @@ def print_table(minutes, runs, total, began):
 
 def waits_of(steps):
     """What each step waits for: a crate's proof and tests for the proofs below it, its edits for its own too."""
-    uses = read_crates()
-
-    def needed(crate, step):
-        return [*uses.get(crate, []), *([crate] if step == "edits" else [])]
-
+    below = {crate: read_crates().get(crate, []) for crate, _ in steps}
+    needed = {(crate, step): [*below[crate], *([crate] if step == "edits" else [])] for crate, step in steps}
     # A proof that was kept is no step.
-    return {(crate, step): [it for it in steps if it[1] == "proof" and it[0] in needed(crate, step)] for crate, step in steps}
+    return {it: [(crate, "proof") for crate in needed[it] if (crate, "proof") in steps] for it in steps}
 
 
 def simulate(minutes, processors):

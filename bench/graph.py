@@ -6,7 +6,6 @@ status is 1 if the page is not current.
 """
 
 import re
-import sys
 
 from crate_list import ROOT, libraries_below, read_crates
 from pages import write_or_check
@@ -44,10 +43,6 @@ def picture():
     return "\n".join(lines[1:]) + "\n"
 
 
-def main(*words):
-    new = PICTURE.sub(lambda it: it[1] + picture() + it[2], PAGE.read_text())
-    return write_or_check(PAGE, new, words, "docs/ARCHITECTURE.md is not current: make graph writes which crate uses which")
-
-
 if __name__ == "__main__":
-    sys.exit(main(*sys.argv[1:]))
+    page = PICTURE.sub(lambda it: it[1] + picture() + it[2], PAGE.read_text())
+    write_or_check({PAGE: page}, "docs/ARCHITECTURE.md is not current: make graph writes which crate uses which")

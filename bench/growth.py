@@ -8,22 +8,24 @@ learned, owned: N rules, each of the well-known sender of its own, whose names h
 `--owner`; the owners are N connections. Over 4,000 signals of the last of them. alone: the same if one connection owns all names, over
 1,000 of its signals. others: N rules, each of the sender alone, which is another name; over 4,000 signals of one connection that owns
 N names.
+flood: `check --resync` over N messages of 56 bytes, each of which states all that follows and fails at its end, with a whole one behind each.
 keys: 100 rules of N keys `argN`, of which the last does not hold. reach: 100 rules of the one key `argN` behind N values. Both over
 2,000 signals of 64 texts.
 """
 
-import os
 import subprocess
 import sys
 import tempfile
+from pathlib import Path
 
 from shapes import FIELDS, signal
-from speed import seconds
+from speed import HERE, seconds
 
 BUS = "org.freedesktop.DBus"
 CHANGED = [(1, ("o", "/org/freedesktop/DBus")), (2, ("s", BUS)), (3, ("s", "NameOwnerChanged")), (7, ("s", BUS))]
 OWNERS = (100, 200, 400, 800)
 KEYS = (8, 16, 32, 64)
+FLOODS = (1_000, 2_000, 4_000, 8_000)
 RUNS = 3
 NOTHING = ("filter", "member='Nothing'")
 
@@ -81,31 +83,26 @@ def reach(count):
     return ("filter", *[f"arg{count - 1}='b'"] * 100), sent(2_000, "s" * 64, ("a",) * 64, ":1.7")
 
 
+STATED, WHOLE = 56, bytes.fromhex("6c02000100000000070000000800000005017500") + b"\t\0\0\0"
+STATED_FIELDS = bytes.fromhex("050175000100000008016700") + b"\x0ba(yyyyyyyy)\0"
+
+
+def stating(size):
+    """The first bytes of a message that states this size: an array of structs that ends before its body does."""
+    body = size - STATED + 8
+    head = b"l\2\0\1" + b"".join(it.to_bytes(4, "little") for it in (body, 1, len(STATED_FIELDS)))
+    return (head + STATED_FIELDS).ljust(STATED - 8, b"\0") + ((body - 9) // 8 * 8).to_bytes(4, "little") + bytes(4)
+
+
+def flood(count):
+    size = (STATED + len(WHOLE)) * count
+    return ("check", "--resync"), b"".join(stating(size - at - 1) + WHOLE for at in range(0, size - 2 * STATED, STATED + len(WHOLE)))
+
+
 NAME = "org.example.Name"
 SETS = (12_500, 25_000, 50_000, 100_000)
 MESSAGE = signal(1, "sss", ("org.example.Name.A", "text", "/org/example/a/b"), [*FIELDS[:-1], (6, ("s", ":1.9")), FIELDS[-1]])
-# what ten rules ask for, and what the others do, with a number in place of %ld
-SETS_BY_KEY = {
-    "type": ("type='signal'", "type='method_call'"),
-    "sender": ("sender=':1.7'", "sender=':1.%ld'"),
-    "sender, owned": (f"sender='{NAME}'", "sender='org.example.N%ld'"),
-    "interface": ("interface='org.freedesktop.DBus.Properties'", "interface='org.example.N%ld'"),
-    "member": ("member='PropertiesChanged'", "member='N%ld'"),
-    "path": ("path='/org/freedesktop/NetworkManager/Devices/2'", "path='/org/freedesktop/NetworkManager/Devices/%ld'"),
-    "path_namespace": ("path_namespace='/org/freedesktop'", "path_namespace='/org/freedesktop/N%ld'"),
-    "destination": ("destination=':1.9'", "destination=':1.%ld'"),
-    "arg0": ("arg0='org.example.Name.A'", "arg0='org.example.Name.N%ld'"),
-    "arg1": ("arg1='text'", "arg1='text%ld'"),
-    "arg0, arg1": ("arg0='org.example.Name.A',arg1='text'", "arg0='org.example.Name.A',arg1='text%ld'"),
-    "arg2path": ("arg2path='/org/example/a/b'", "arg2path='/org/example/a/%ld'"),
-    "arg2path, '/'": ("arg2path='/org/example/'", "arg2path='/org/example/%ld/'"),
-    "arg0namespace": (f"arg0namespace='{NAME}'", "arg0namespace='org.example.Name.N%ld'"),
-    "all of one": (
-        "sender='org.example.Name',interface='org.freedesktop.DBus.Properties',path='/org/freedesktop/NetworkManager/Devices/2',arg0='org.example.Name.A'",
-        "sender='org.example.Name',interface='org.freedesktop.DBus.Properties',path='/org/freedesktop/NetworkManager/Devices/%ld',arg0='org.example.Name.A'",
-    ),
-}
-ROWS = {many: OWNERS, learned: OWNERS, owned: OWNERS, alone: OWNERS, others: OWNERS, keys: KEYS, reach: KEYS}
+ROWS = {many: OWNERS, learned: OWNERS, owned: OWNERS, alone: OWNERS, others: OWNERS, keys: KEYS, reach: KEYS, flood: FLOODS}
 
 
 def least(command_line, path):
@@ -114,8 +111,7 @@ def least(command_line, path):
 
 def measured(program, row, count, path):
     words, stream = row(count)
-    with open(path, "wb") as file:
-        file.write(stream)
+    path.write_bytes(stream)
     return least((program, *words), path) - least((program, *NOTHING), path)
 
 
@@ -126,7 +122,8 @@ def found_in(rules_program, count, texts):
 
 
 def print_sets(rules_program):
-    for key, texts in SETS_BY_KEY.items():
+    rows = (line.split(" | ") for line in (HERE / "rule_sets.txt").read_text().splitlines() if line[0] != "#")
+    for key, *texts in rows:
         times = [found_in(rules_program, count, texts) for count in SETS]
         cells = "".join(f"{count:>8} {found / 1000:7.2f}" for count, (_, found) in zip(SETS, times))
         print(f"{key:15}{cells}   added {times[-1][0] / 1000:.2f}", flush=True)
@@ -137,7 +134,7 @@ def main():
     for rules_program in sys.argv[2:]:
         print_sets(rules_program)
     with tempfile.TemporaryDirectory() as folder:
-        path = os.path.join(folder, "stream")
+        path = Path(folder) / "stream"
         for row, counts in ROWS.items():
             times = [measured(program, row, count, path) for count in counts]
             cells = "".join(f"{count:>6} {time:7.3f}" for count, time in zip(counts, times))

@@ -4,12 +4,12 @@
 The texts of help are cases/data/*.help, which the program prints, as the cases there say.
 """
 
-import pathlib
 import re
 import sys
 
-HERE = pathlib.Path(__file__).resolve().parent.parent
-DATA = HERE / "cases/data"
+from crate_list import ROOT
+
+DATA = ROOT / "cases/data"
 PROGRAM = "dbus-wire"
 OPTION = re.compile(r"(?<![\w-])(--[a-z]+(?:-[a-z]+)*)")
 # A line of help for an option, with its letter if it has one.
@@ -19,55 +19,56 @@ COMMAND_LINE = re.compile(r"^  ([a-z]+)  ", re.M)
 
 
 def text_of(path):
-    return (HERE / path).read_text(encoding="utf-8")
+    return (ROOT / path).read_text(encoding="utf-8")
 
 
-def help_of(name):
-    return (DATA / f"{name}.help").read_text(encoding="utf-8")
+def manual():
+    """The parts of the manual page, by their headings."""
+    parts = re.split(r"^\.SH (.*)\n", text_of("man/dbus-wire.1").replace("\\-", "-"), flags=re.M)
+    return dict(zip(parts[1::2], parts[2::2]))
+
+
+def heads_of(part):
+    """What the manual page describes in a part of it."""
+    return re.findall(r"^\.TP\n(.*)", manual()[part], re.M)
 
 
 def commands():
     """The commands that the help of the program names."""
-    _, _, after = help_of(PROGRAM).partition("\nCommands:\n")
+    _, _, after = text_of(DATA / f"{PROGRAM}.help").partition("\nCommands:\n")
     return set(COMMAND_LINE.findall(after.partition("\n\n")[0]))
 
 
 def options():
     """The options of each command that has any, by the texts of help, and those of the program."""
-    return {path.stem: set(HELP_LINE.findall(path.read_text(encoding="utf-8"))) for path in DATA.glob("*.help")}
-
-
-def manual():
-    """The commands and the options that the manual page describes."""
-    page = text_of("man/dbus-wire.1").replace("\\-", "-")
-    described, shown = page.split(".SH OPTIONS\n")[1].split(".SH MATCH RULES\n")[0], page.split(".SH COMMANDS\n")[1].split(".SH OPTIONS\n")[0]
-    heads = re.findall(r"^\.TP\n(.*)", described, re.M)
-    names = {it for head in heads for it in OPTION.findall(head.replace("\\fI", " "))}
-    return {it.split()[1] for it in re.findall(r"^\.TP\n(.*)", shown, re.M)}, names
+    return {path.stem: set(HELP_LINE.findall(text_of(path))) for path in DATA.glob("*.help")}
 
 
 def synopsis(command):
     """The options that the manual page's synopsis gives a command."""
-    page = text_of("man/dbus-wire.1").replace("\\-", "-").split(".SH DESCRIPTION")[0]
-    lines = [it for it in page.split("\n.br\n") if re.search(rf"^\.B dbus-wire {command}\b", it, re.M)]
+    lines = [it for it in manual()["SYNOPSIS"].split("\n.br\n") if re.search(rf"^\.B dbus-wire {command}\b", it, re.M)]
     named = {option for line in lines for option in OPTION.findall(line)}
     return named | ({"--max-message", "--max-array", "--max-depth", "--fds"} if any("LIMITS" in it for it in lines) else set())
+
+
+def case_of(command, text):
+    """What a shell does for a command."""
+    body = re.search(rf"^        (?:\w+ \| )*{command}(?: \| \w+)*\)\n(.*?);;", text, re.M | re.S)
+    return body[1] if body else ""
 
 
 def bash(command):
     """The options that bash completes for a command."""
     text = text_of("completions/dbus-wire.bash")
     shared = re.search(r"local options='([^']*)'", text)[1]
-    body = re.search(rf"^        (?:\w+ \| )*{command}(?: \| \w+)*\)\n(.*?);;", text, re.M | re.S)
-    return set(OPTION.findall(body[1].replace("$options", shared))) if body else set()
+    return set(OPTION.findall(case_of(command, text).replace("$options", shared)))
 
 
 def zsh(command):
     """The options that zsh completes for a command."""
     text = text_of("completions/_dbus-wire")
     lists = {name: body for name, body in re.findall(r"local -a (\w+)=\(\n(.*?)\n    \)", text, re.S)}
-    body = re.search(rf"^        (?:\w+ \| )*{command}(?: \| \w+)*\)\n(.*?);;", text, re.M | re.S)
-    whole = body[1] if body else ""
+    whole = case_of(command, text)
     # A list may name another one.
     for _ in range(2):
         whole = re.sub(r"\$(options|limits|window|going|selection)", lambda it: lists[it[1]], whole)
@@ -87,8 +88,8 @@ def fish(command):
 
 def cases(command):
     """The options that the cases of a command give it, those of help in `words.txt`."""
-    rows = [line.split(" | ")[1] for name in (command, "words") for line in (DATA / f"{name}.txt").read_text(encoding="utf-8").splitlines()
-            if line[:1] not in ("", "#")]
+    lines = "\n".join(text_of(DATA / f"{it}.txt") for it in (command, "words"))
+    rows = re.findall(r"^[^#\n].*? \| (.*?)(?: \| |$)", lines, re.M)
     return {option for row in rows if row.split(" ")[0] == command for option in OPTION.findall(row)}
 
 
@@ -101,9 +102,9 @@ def main():
         wrong.extend(f"{where}: {it} is in no text of help" for it in sorted(found - wanted))
 
     options_of, all_commands = options(), commands()
-    described, named = manual()
-    hold("the manual page's commands", all_commands, described)
-    hold("the manual page's options", set().union(*options_of.values()), named)
+    described = " ".join(heads_of("OPTIONS")).replace("\\fI", " ")
+    hold("the manual page's commands", all_commands, {it.split()[1] for it in heads_of("COMMANDS")})
+    hold("the manual page's options", set().union(*options_of.values()), set(OPTION.findall(described)))
     hold("the files of help", all_commands - {"help"}, set(options_of) - {PROGRAM})
     for path in ("completions/dbus-wire.bash", "completions/_dbus-wire", "completions/dbus-wire.fish"):
         words = set(re.findall(r"[a-z]+", text_of(path)))

@@ -1,13 +1,15 @@
-"""Pages that scripts write parts of."""
+"""Files that scripts write, or parts of them."""
 
 import sys
 
 
-def write_or_check(page, new, words, what):
-    """Writes this text of a page; or, if --check is the only word, writes nothing and says `what` if it is not the page's. The exit status is 1 then."""
-    if words != ("--check",):
-        page.write_text(new)
-    elif new != page.read_text():
-        print(what, file=sys.stderr)
-        return 1
-    return 0
+def write_or_check(texts, what, faults=()):
+    """Writes the texts of these files; or, if --check is the only word of the command, says `what` if one has another.
+    Ends with the status 1 if it said something, or told of a fault."""
+    is_check = sys.argv[1:] == ["--check"]
+    is_current = all(path.exists() and path.read_text() == text for path, text in texts.items())
+    for path, text in () if is_check else texts.items():
+        path.write_text(text)
+    told = [*faults, *([what] if is_check and not is_current else [])]
+    print(*told, sep="\n", end="\n" if told else "", file=sys.stderr)
+    sys.exit(1 if told else 0)

@@ -4,7 +4,7 @@
 A crate with tests is run by `rt try --test`. A program beside whose src/ is a file stdout is run by `rt try` with its files args and stdin
 and the files of its folder data/, and has to write what stdout has and to end with the status of its file status. A program that answers
 questions is asked on some of the cases (cases/run.py), which the commit's hash draws, since unproved programs run some 300 times slower; with
---all on all of them, which takes an hour. What is stored in a program's runs/ is run too (stored_runs.py). As many runs go side by side as there are
+--all on all of them, which takes an hour. What is stored in a program's runs/ is run too. As many runs go side by side as there are
 processors. The exit status is 1 if one failed, or did not end within the time limit: the last line names those, and says how many questions were asked.
 """
 

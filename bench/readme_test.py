@@ -20,17 +20,7 @@ from crate_list import ROOT, folder_of
 
 README, CASES = ROOT / "README.md", ROOT / "cases" / "README.md"
 RECIPES, EXAMPLES = ROOT / "docs" / "RECIPES.md", ROOT / "docs" / "EXAMPLES.md"
-BUILT = folder_of("dbus_wire") / "out" / "dbus_wire"
-
-# `rt try` does not wait for input that comes late, and what it says itself, and empty lines, come on standard error too.
-TRIED = f"""\
-#!/bin/bash
-input=$(mktemp)
-trap 'rm -f "$input"' EXIT
-cat > "$input"
-cd {folder_of("dbus_wire")}
-rt try -- "$@" < "$input" 2> >(grep -v -E '^((interpreter|checked|races|run)[:=].*)?$' >&2)
-"""
+BUILT, TRIED = folder_of("dbus_wire") / "out" / "dbus_wire", ROOT / "bench" / "try_dbus_wire.sh"
 
 
 def shown(text):
@@ -58,26 +48,9 @@ def misquoted(text):
 
 
 def written(command, folder):
-    ran = subprocess.run(
-        ["bash", "-c", command],
-        cwd=ROOT,
-        env={**os.environ, "PATH": f"{folder}:{os.environ['PATH']}"},
-        stdin=subprocess.DEVNULL,
-        stdout=subprocess.PIPE,
-        stderr=subprocess.STDOUT,
-        text=True,
-        errors="replace",
-    )
-    return ran.stdout.splitlines()
-
-
-def make_program(folder):
-    program = pathlib.Path(folder) / "dbus-wire"
-    if BUILT.exists():
-        program.symlink_to(BUILT)
-    else:
-        program.write_text(TRIED)
-        program.chmod(0o755)
+    environment = os.environ | {"PATH": f"{folder}:{os.environ['PATH']}"}
+    how = {"stdin": subprocess.DEVNULL, "stdout": subprocess.PIPE, "stderr": subprocess.STDOUT, "errors": "replace"}
+    return subprocess.run(["bash", "-c", command], cwd=ROOT, env=environment, **how).stdout.splitlines()
 
 
 def is_as_shown(command, wanted, folder):
@@ -97,7 +70,7 @@ def main():
     for crate in misquotes:
         print(f"the code from {crate} is not there")
     with tempfile.TemporaryDirectory() as folder:
-        make_program(folder)
+        (pathlib.Path(folder) / "dbus-wire").symlink_to(BUILT if BUILT.exists() else TRIED)
         right = [is_as_shown(command, wanted, folder) for command, wanted in shown(text)]
     return 0 if all(right) and not misquotes else 1
 

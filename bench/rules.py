@@ -10,7 +10,7 @@ import re
 import sys
 import textwrap
 
-from crate_list import ROOT
+from crate_list import ROOT, text_of
 from pages import write_or_check
 
 PAGE = ROOT / "man" / "dbus-wire.1"
@@ -30,33 +30,8 @@ FRONT = re.compile(r"begins bytes \((.*?)\)(?= \|\||$)")
 # No input is refused for it.
 RESERVED = "NotYet"
 WIDTH = 98
-HEAD = """.SS Rules
-What has to be there, as
-.B \\-\\-explain
-and
-.B rule
-of
-.B \\-\\-json
-have it for each reason:
-.nh
-"""
-LINES_HEAD = """.SS Rules of lines
-What has to be there, as
-.B \\-\\-explain
-of
-.B encode
-has it for each reason:
-.nh
-"""
-LOOKS_HEAD = """.PP
-If the very first byte of the input is refused,
-.B \\-\\-explain
-has behind that, with no space, what the input looks like by its first bytes:
-"""
-
-
-def text_of(file):
-    return (ROOT / "crates" / file).read_text()
+# The tables of these parts. What stands before them is written by hand.
+TABLES = re.compile(r"(?<=\n)\.TP\n(?:(?!\.hy|\.PP).*\n)*")
 
 
 def rules():
@@ -125,23 +100,19 @@ def table(rows):
     return "".join(f".TP\n.B {name}\n{filled(rule)}" for name, rule in rows)
 
 
-def part():
-    ruled = table((name, worded(*pair)) for name, pair in rules())
-    looked = table(looks())
-    return HEAD + ruled + LOOKS_HEAD + looked + ".hy\n"
+def with_tables(page, part, *tables):
+    """The page with these tables in the part of it."""
+    found, left = part.findall(page), iter(tables)
+    if len(found) != 1 or len(TABLES.findall(found[0])) != len(tables):
+        sys.exit(f"{PAGE} has not one part Rules and one part Rules of lines, each with its tables")
+    return page.replace(found[0], TABLES.sub(lambda _: table(next(left)), found[0]))
 
 
-def lines_part():
-    return f"{LINES_HEAD}{table(line_rules())}.hy\n"
-
-
-def main(*words):
-    new, count = PART.subn(lambda _: part(), PAGE.read_text())
-    new, lines_count = LINES_PART.subn(lambda _: lines_part(), new)
-    if (count, lines_count) != (1, 1):
-        sys.exit(f"{PAGE} has not one part Rules and one part Rules of lines")
-    return write_or_check(PAGE, new, words, "man/dbus-wire.1 has other rules than the definitions: make definitions writes them")
+def page():
+    with_rules = with_tables(PAGE.read_text(), PART, [(name, worded(*pair)) for name, pair in rules()], looks())
+    return with_tables(with_rules, LINES_PART, line_rules())
 
 
 if __name__ == "__main__":
-    sys.exit(main(*sys.argv[1:]))
+    what = "man/dbus-wire.1 has other rules than the definitions: make definitions writes them"
+    write_or_check({PAGE: page()}, what)

@@ -1,6 +1,7 @@
 #!/usr/bin/env python3
 """bench/shapes.py FOLDER: writes streams of messages, each of one shape, for measuring: FOLDER/NAME.dbus, of about 2 MB.
 bench/shapes.py --search PROGRAM [COUNT [SEED]]: tries shapes that nobody thought of, as below.
+bench/shapes.py --lost [COUNT [WINDOW]]: writes the input that costs `--resync` most, as below.
 
 dictionaries: a signal PropertiesChanged with twelve properties; objects: 16 to 100 KB of these, as the answer of GetManagedObjects has
 them, so that many messages are cut by the end of a reader's buffer; texts: an array of 200 texts; structs: an array of 100 structs
@@ -13,6 +14,12 @@ small, or nested, or wide; `fields` has header fields of no meaning in its place
 
 The search makes COUNT random types (200), of at most six kinds within structs, arrays, dictionaries and variants. Of each it fills an array
 with least values, counts by valgrind the instructions per byte of PROGRAM's `check`, and prints the dearest ten, the dearest first.
+
+What is lost is a byte that is no message, and then, every 56 bytes of a window of 1 MiB or so many bytes, a message
+that states all that is left of it: a reply whose body is an array of structs. Each of them is such a message without
+its body, and the last one is cut, so each message fails at its end. With COUNT it is so many messages of a wrong
+version, each a byte larger than the window, with such a body: all of the window is searched for each of them, and then
+it is passed over by its size.
 """
 
 import random
@@ -20,6 +27,7 @@ import re
 import struct
 import subprocess
 import sys
+from pathlib import Path
 
 ALIGNMENTS = {**dict.fromkeys("ygv", 1), **dict.fromkeys("nq", 2), **dict.fromkeys("iubsoa", 4), **dict.fromkeys("xtd({", 8)}
 FORMATS = {"y": "<B", "n": "<h", "q": "<H", "i": "<i", "u": "<I", "b": "<I", "x": "<q", "t": "<Q", "d": "<d"}
@@ -84,10 +92,7 @@ def put(out, one, value):
 def signal(serial, types, values, fields=FIELDS):
     body = bytearray()
     put_all(body, types, values)
-    out = bytearray(struct.pack("<cBBBII", b"l", 4, 0, 1, len(body), serial))
-    put(out, "a(yv)", [*fields, (8, ("g", types))])
-    align(out, 8)
-    return bytes(out + body)
+    return header(types, len(body), b"", serial, fields) + bytes(body)
 
 
 def properties():
@@ -131,9 +136,9 @@ def array_message(types, alignment, unit, last=b""):
     return header("u" + types, len(body)) + bytes(body)
 
 
-def header(types, length, more=b""):
-    out = bytearray(struct.pack("<cBBBII", b"l", 4, 0, 1, length, 1))
-    put(out, "a(yv)", [*FIELDS, (8, ("g", types))])
+def header(types, length, more=b"", serial=1, fields=FIELDS):
+    out = bytearray(struct.pack("<cBBBII", b"l", 4, 0, 1, length, serial))
+    put(out, "a(yv)", [*fields, (8, ("g", types))])
     if more:
         align(out, 8)
         out.extend(more)
@@ -198,8 +203,6 @@ WORST = {
     "booleans": lambda: array_message("ab", 4, bytes(4)),
     "fields": field_message,
 }
-
-
 
 
 def text_message(code, text):
@@ -272,14 +275,34 @@ def search(program, count=200, seed=7):
         print(f"{cost:8.1f} {one}")
 
 
+WINDOW = 1 << 20
+LOST_FIELDS = bytes.fromhex("0501750001000000") + b"\x08\x01g\0\x10a(yyyyuua(yv)uu)\0"
+
+
+def lost(room):
+    """Messages within so many bytes that fail at their end."""
+    end, head = (room - 55) // 56 * 56 + 4, len(LOST_FIELDS) + 18
+    for at in range(0, end - 56, 56):
+        body = end - at - head
+        front = struct.pack("<4sIII", b"l\2\0\1", body, 1, len(LOST_FIELDS))
+        yield front + LOST_FIELDS + b"\0\0" + struct.pack("<II", body - 8, 0)
+    yield b"\0" * 60
+
+
+def write_lost(count=None, window=WINDOW):
+    """What is lost, or so many refused messages that are larger than the window."""
+    body = b"".join(lost(int(window) - (1 if count is None else 20)))
+    past = struct.pack("<4sIII", b"l\2\0\2", int(window) - 15, 1, 0) + body.ljust(int(window) - 15, b"\0")
+    sys.stdout.buffer.write(b"X" + body if count is None else int(count) * past)
+
+
 def main():
-    if sys.argv[1] == "--search":
-        return search(*sys.argv[2:])
+    if sys.argv[1] in ("--search", "--lost"):
+        return (search if sys.argv[1] == "--search" else write_lost)(*sys.argv[2:])
     random.seed(7)
     for ending, shapes in (("worst", WORST), ("long", LONG)):
         for name, shape in shapes.items():
-            with open(f"{sys.argv[1]}/{name}.{ending}", "wb") as file:
-                file.write(shape())
+            Path(sys.argv[1], f"{name}.{ending}").write_bytes(shape())
     for name, shape in SHAPES.items():
         with open(f"{sys.argv[1]}/{name}.dbus", "wb") as file:
             written = serial = 0

@@ -7,13 +7,15 @@ import re
 from crate_list import folder_of, read_crates
 
 # `kind` is the word that declares it, `doc` the lines of its comment, `line` its line in the file, from 1. `owner` is the head of the impl or the trait
-# that it stands in. `clauses` are what a function ensures, and `premises` what it requires, each as its name, if it has one, and its text.
-Item = collections.namedtuple("Item", "kind name crate file line signature doc owner clauses premises")
+# that it stands in. `clauses` are what a function ensures, and `premises` what it requires, each as its name, if it has one, and its text; `ghosts` are
+# its ghost lines.
+Item = collections.namedtuple("Item", "kind name crate file line signature doc owner clauses premises ghosts")
 
-DECLARES = re.compile(r"( *)(pub )?(?:const |unsafe |extern \"C\" )*(fn|struct|enum|trait|type|impl)\b")
+DECLARES = re.compile(r"( *)(pub )?(?:pub\(\w+\) )?(?:const |unsafe |extern \"C\" )*(fn|struct|enum|trait|type|impl)\b")
 CLAUSE = re.compile(r"(?:\n\s*//.*)*\n\s+(ghost|requires|ensures)\*?(?: (\w+):?)? \{")
 HEAD_ENDS = re.compile(r"\n\s+(?:ghost|requires|ensures)\*?(?: \w+:?)? \{|[{;}]$", re.M)
 ENDS = re.compile(r"^\s*(ensures|requires|ghost|\{|//)|\{$|;$")
+BRACKET = re.compile(r'"(?:\\.|[^"\\])*"|[{}]')
 NAME = re.compile(r"\w+")
 TYPES = ("struct", "enum", "type", "trait")
 
@@ -32,21 +34,22 @@ def declaration(lines):
 
 
 def clauses(lines):
-    """What a function that begins on the first line ensures, and what it requires."""
+    """What a function that begins on the first line ensures, what it requires, and its ghost lines."""
     text, found = "\n".join(lines), {"ensures": [], "requires": [], "ghost": []}
     at = HEAD_ENDS.search(text).start()
     while clause := CLAUSE.match(text, at):
-        depth, at = 1, clause.end()
+        depth, brackets = 1, BRACKET.finditer(text, clause.end())
         while depth:
-            depth += {"{": 1, "}": -1}.get(text[at], 0)
-            at += 1
+            bracket = next(brackets)
+            depth += {"{": 1, "}": -1}.get(bracket[0], 0)
+        at = bracket.end()
         found[clause[1]].append((clause[2] or "", text[clause.end() : at - 1].strip()))
-    return tuple(found["ensures"]), tuple(found["requires"])
+    return tuple(found["ensures"]), tuple(found["requires"]), tuple(found["ghost"])
 
 
 @functools.cache
-def read_file(crate, file):
-    """The public items of a file and all methods that callers may call by them, in their order."""
+def read_file(crate, file, also_private=False):
+    """The public items of a file and all methods that callers may call by them, in their order; or also those that are private."""
     lines = (folder_of(crate) / "src" / file).read_text().splitlines()
     items, doc, owner = [], [], ""
     for at, line in enumerate(lines):
@@ -61,8 +64,8 @@ def read_file(crate, file):
                 owner = text if kind in ("impl", "trait") else ""
             # A method of a trait is as public as the trait.
             called = kind == "fn" and len(indent) == 4 and owner and (public or " for " in owner or owner.startswith("trait"))
-            if called or (public and not indent):
-                said = clauses(lines[at:]) if kind == "fn" else ((), ())
+            if called or (public and not indent) or (also_private and kind == "fn"):
+                said = clauses(lines[at:]) if kind == "fn" else ((), (), ())
                 items.append(Item(kind, name, crate, file, at + 1, text, tuple(doc), owner if indent else "", *said))
         if not stripped.startswith(("///", "#[")):
             doc = []
@@ -111,6 +114,12 @@ def impl_of(owner):
 
 def plain(kind):
     return kind.split("<")[0]
+
+
+def owner_of(item):
+    """The type or the trait of a method, or nothing."""
+    is_impl = item.owner.startswith(("impl", "unsafe impl"))
+    return plain(impl_of(item.owner)[0]) if is_impl else "".join(re.findall(r"trait (\w+)", item.owner))
 
 
 def methods(item):

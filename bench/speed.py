@@ -12,9 +12,12 @@ import statistics
 import subprocess
 import sys
 import tempfile
+from pathlib import Path
 
-HERE = os.path.dirname(os.path.abspath(__file__))
-SAMPLES = os.path.join(HERE, "..", "samples")
+from crate_list import ROOT
+
+HERE = ROOT / "bench"
+SAMPLES = ROOT / "samples"
 SHAPES = ("dictionaries", "objects", "texts", "structs", "bytes", "doubles")
 SIZE = 32_000_000
 RUNS = 5
@@ -37,31 +40,18 @@ LONG_HEADER = (
 )
 
 
-def write_repeated(path, source):
-    """The bytes of a file, again and again."""
-    with open(source, "rb") as file:
-        once = file.read()
-    with open(path, "wb") as file:
-        for _ in range(SIZE // len(once)):
-            file.write(once)
-
-
 def write_streams(folder):
     """The paths of the streams, by name."""
-    once = os.path.join(folder, "once")
-    os.mkdir(once)
-    subprocess.run([os.path.join(HERE, "shapes.py"), once], check=True)
-    sources = {name: os.path.join(SAMPLES, f"{name}.dbus") for name in ("session", "big-endian")}
-    sources.update({name: os.path.join(once, f"{name}.dbus") for name in SHAPES})
-    paths = {}
+    once = folder / "once"
+    once.mkdir()
+    subprocess.run([HERE / "shapes.py", once], check=True)
+    samples = {it: SAMPLES / f"{it}.dbus" for it in ("session", "big-endian")}
+    sources = samples | {it: once / f"{it}.dbus" for it in SHAPES}
     for name, source in sources.items():
-        paths[name] = os.path.join(folder, name)
-        write_repeated(paths[name], source)
-    paths["one message"] = os.path.join(folder, "long")
-    with open(paths["one message"], "wb") as file:
-        file.write(LONG_HEADER)
-        file.write(bytes(64_000_000))
-    return paths
+        stream = source.read_bytes()
+        (folder / name).write_bytes(stream * (SIZE // len(stream)))
+    (folder / "one message").write_bytes(LONG_HEADER + bytes(64_000_000))
+    return {name: folder / name for name in (*sources, "one message")}
 
 
 def seconds(command_line, path):
@@ -84,13 +74,13 @@ def speed(command_line, path):
 def main():
     program, *peers = sys.argv[1:]
     command_lines = {name: (program, *words) for name, words in COMMANDS.items()}
-    with tempfile.TemporaryDirectory() as folder:
-        plain = os.path.join(folder, "plain")
-        subprocess.run(["cc", "-O2", os.path.join(HERE, "plain_check.c"), "-o", plain], check=True)
+    with tempfile.TemporaryDirectory() as room:
+        plain = f"{room}/plain"
+        subprocess.run(["cc", "-O2", HERE / "plain_check.c", "-o", plain], check=True)
         command_lines["plain C"] = (plain,)
         command_lines.update({os.path.basename(peer): (peer,) for peer in peers})
         print(f"{'MB/s':14}" + "".join(f"{name:>14}" for name in command_lines))
-        for name, path in write_streams(folder).items():
+        for name, path in write_streams(Path(room)).items():
             print(f"{name:14}" + "".join(f"{speed(line, path):>14}" for line in command_lines.values()), flush=True)
 
 

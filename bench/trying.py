@@ -1,17 +1,20 @@
 """Tries wrong bodies in rounds. A round is one check of a copy of a crate with at most one wrong body of each function. A function is proved by its
 own body and the contracts of what it calls, so a wrong body leaves goals open in its own function alone, and the check names all of them. It is
-refused if the goal that its line `left:` names is among them. One of which a round does not show that is tried once more, alone."""
+refused if the goals that its lines `left:` and `also:` name are among them. One of which a round does not show that is tried once more, alone. Twins, which are right
+bodies, are in rounds of their own, which have to leave no goal open."""
 
-import collections
 import concurrent.futures as futures
+import functools
+import hashlib
+import itertools
 import pathlib
 import re
 import subprocess
 import tempfile
 
-from crate_list import copy_parts, folder_of, lanes, libraries_below, read_crates, read_lines
-from edits import all_edits, edited, edits_in, function_at, functions_changed, text_of
-from interfaces import checksums
+from crate_list import ROOT, copy_parts, folder_of, lanes, libraries_below, read_crates, read_lines
+from edits import all_edits, edited, edits_in, file_of, function_at, functions_changed, goals_of, is_twin, text_of, twin_of
+from interfaces import state
 
 # How the name of a folder begins in which a round is checked. bench/gate_times.py knows rounds by it.
 ROOM = "wrong-bodies-"
@@ -22,22 +25,44 @@ ANSWER = re.compile(r"\./proofs/(\S*?)(?:/Answers|/Invariants|/Proof)?\.antt:\d+
 NAMES = re.compile(r"has no field|is not in scope|has no `|was not admitted")
 # The last line of a check that came to its end and did not prove all.
 ENDED = re.compile(r"logic=not-proved|only=\d+ proved=\d+")
+# That of one that did.
+ALL_PROVED = re.compile(r"logic=proved|only=(\d+) proved=\1\b")
 # What `rt ci` says of a crate that is proved.
 PROVED = re.compile(r"rt: (\w+) (?:proved|is kept)\b")
 # How much is told of what a check says.
 MOST_TOLD = 400
+# How many each run of the gate draws.
+DRAWN = 20
 
 
-def is_due(crate):
-    """Whether the crate, or what it sees of the libraries below, differs from what its wrong bodies were last tried on."""
-    tried = folder_of(crate) / "wrong" / "TRIED"
-    return not tried.exists() or tried.read_text().split()[:2] != checksums(crate)
+@functools.cache
+def kit():
+    return subprocess.run(["rt", "version"], capture_output=True, text=True, check=True).stdout.split()[0]
+
+
+def state_of(crate):
+    """The first line of the file: the crate, what it sees of the libraries below, the kit, and the number of blocks."""
+    return " ".join(["TRIED:", *state(crate), kit(), str(len(edits_in(crate)))])
+
+
+def note_tried(crate):
+    """Writes that all wrong bodies of the crate were refused."""
+    text = file_of(crate).read_text()
+    file_of(crate).write_text(f"{state_of(crate)}\n\n{re.sub('^TRIED:.*', '', text).lstrip()}")
+
+
+def tree():
+    """What names the tree of the commit, or else the contents of the crates."""
+    ran = subprocess.run("git rev-parse HEAD^{tree}", shell=True, cwd=ROOT, capture_output=True, text=True)
+    return ran.stdout or repr([state(it) for it in read_crates()])
 
 
 def due_edits():
-    """Those of the crates that are due, and those that are always tried."""
-    due = {crate for crate in read_crates() if edits_in(crate) and is_due(crate)}
-    return [it for it in all_edits() if it.crate in due or it.always]
+    """Those of crates whose first line is not current, those that are always tried, and those that the tree draws."""
+    due = {it for it in read_crates() if edits_in(it) and file_of(it).read_text().partition("\n")[0] != state_of(it)}
+    edits, drawn_by = all_edits(), tree()
+    drawn = sorted(edits, key=lambda it: hashlib.sha256((drawn_by + it.name).encode()).digest())[:DRAWN]
+    return [it for it in edits if it.crate in due or it.always or it in drawn]
 
 
 def check_words(crate, crates):
@@ -137,35 +162,40 @@ def rounds_of(edits):
 
 
 def missed_in(edits, crates):
-    """Those of the edits of a round that are not refused where they should be, each with what is left open or else with what the check says."""
+    """Those of the edits of a round that are not refused where they should be, or not proved if they are twins, each with
+    what is left open or else with what the check says."""
     goals, lines = check(edits, crates)
     elsewhere = {re.split("::| ", it)[-2] for it in goals} - {name for it in edits for name in functions_of(it)}
     told = sorted(goals) or [it for it in lines if "error" in it] or lines[-1:]
-    return [(it, "; ".join(told)[:MOST_TOLD]) for it in edits if it.left not in goals or elsewhere and len(edits) > 1]
+    if is_twin(edits[0]):
+        missed = [] if lines and ALL_PROVED.match(lines[-1]) else edits
+    else:
+        missed = [it for it in edits if not goals_of(it) <= goals or elsewhere and len(edits) > 1]
+    return [(it, "; ".join(told)[:MOST_TOLD]) for it in missed]
 
 
 def try_crate(edits, crates):
-    """Tries edits of one crate, and returns those that are not refused where they should be."""
-    crate, faults, rounds = edits[0].crate, [], rounds_of(edits)
+    """Tries edits of one crate. Returns those that are not refused where they should be, or whose twins are not proved."""
+    crate, faults, twins = edits[0].crate, {}, [twin_of(it) for it in edits if it.twin]
+    rounds = rounds_of(edits) + rounds_of(twins)
     # They become more meanwhile.
     for tried in rounds:
         missed = missed_in(tried, crates)
         if len(tried) > 1:
             rounds += [[it] for it, _ in missed]
         else:
-            faults += [f"{it.name}: not refused where it should be; left open: {told}" for it, told in missed]
-    print(*faults, f"{crate}: {len(edits) - len(faults)} of {len(edits)} wrong bodies refused where they should be", sep="\n", flush=True)
+            for it, told in missed:
+                how = "its twin is not proved" if is_twin(it) else "not refused where it should be"
+                faults[it.name] = f"{it.name}: {how}; left open: {told}"
+    print(*faults.values(), f"{crate}: {len(edits) - len(faults)} of {len(edits)} wrong bodies refused where they should be", sep="\n", flush=True)
     if not faults and len(edits) == len(edits_in(crate)):
-        (folder_of(crate) / "wrong" / "TRIED").write_text(f"{' '.join(checksums(crate))} {len(edits)}\n")
+        note_tried(crate)
     return faults
 
 
 def of_crates(edits):
-    """The edits of each crate."""
-    found = collections.defaultdict(list)
-    for edit in edits:
-        found[edit.crate].append(edit)
-    return found
+    """The edits of each crate, which stand together."""
+    return {crate: [*its] for crate, its in itertools.groupby(edits, lambda it: it.crate)}
 
 
 def try_edits(edits, crates):

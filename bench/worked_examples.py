@@ -6,9 +6,8 @@ them. With --check nothing is written, and the exit status is 1 if the page is n
 """
 
 import re
-import sys
 
-from crate_list import ROOT
+from crate_list import ROOT, text_of
 from pages import write_or_check
 
 PAGE = ROOT / "docs" / "WORKED-EXAMPLES.md"
@@ -38,8 +37,8 @@ def answer(text):
 
 def examples(file):
     """The examples of the file, each comment joined to one line."""
-    text = (ROOT / "crates" / file).read_text()
-    return EXAMPLE.findall(COMMENT.sub(lambda it: "    -- " + " ".join(line[7:] for line in it[0].splitlines()) + "\n", text))
+    joined = COMMENT.sub(lambda it: "    -- " + " ".join(line[7:] for line in it[0].splitlines()) + "\n", text_of(file))
+    return EXAMPLE.findall(joined)
 
 
 def value_row(said, section, pair):
@@ -56,13 +55,12 @@ def table(head, rows):
     return f"{head}\n|{' --- |' * columns}\n" + "".join(rows)
 
 
-def main(*words):
+def page():
     front, _, _ = PAGE.read_text().partition("\n| value")
     values = table("| value | its bytes | section |", (value_row(*it) for it in examples(VALUES)))
     messages = table("| what | bytes | what the definitions say | section |", (message_row(*it) for it in examples(MESSAGES)))
-    new = f"{front}\n{values}\n{messages}"
-    return write_or_check(PAGE, new, words, "docs/WORKED-EXAMPLES.md is not current: make definitions writes it")
+    return f"{front}\n{values}\n{messages}"
 
 
 if __name__ == "__main__":
-    sys.exit(main(*sys.argv[1:]))
+    write_or_check({PAGE: page()}, "docs/WORKED-EXAMPLES.md is not current: make definitions writes it")

@@ -2,11 +2,11 @@
 """wrong_bodies.py [--due | --all] [NAME..]: prints or tries the wrong bodies that the prover has to refuse (bench/edits.py, bench/trying.py).
 
 Without an option it prints them, crate by crate, with what refuses each. With --due it tries those that the gate would try: of each crate that has
-changed since they were tried, or of which what it sees of the crates below has, and those that are always tried. With --all it tries all of them.
-With names, only of these crates. A crate's file wrong/TRIED then has on what all of them were refused.
+changed since they were tried, or of which what it sees of the crates below has, or the kit; those that are always tried;
+and those that the tree draws. With --all it tries all of them.
+With names, only of these crates. The first line of a crate's file then says on what all of them were refused.
 
-The exit status is 1 if the file of one lacks a line, names a call that is not there or cannot be applied, or if one that was tried was not refused
-at the goal that it names.
+The exit status is 1 if a block has a fault (bench/edits.py), or if one that was tried was not refused at the goal that it names.
 """
 
 import argparse
@@ -41,7 +41,7 @@ def main():
         is_well = not faults and build_below({it.crate for it in edits}) and not try_edits(edits, ROOT / "crates")
         return 0 if is_well else 1
     for edit in edits:
-        print(f"{edit.name}\n{textwrap.indent(edit.path.read_text(), '    ')}")
+        print(f"{edit.name}\n{textwrap.indent(edit.text.partition(chr(10))[2], '    ')}\n")
     print(f"{len(edits)} wrong bodies")
     return 1 if faults else 0
 

@@ -14,7 +14,9 @@ MESSAGE = bytes.fromhex("6c02010100000000010000000800000005017500010000 00")
 # A line without its CR LF.
 LINE = re.compile(rb"[\x01-\x09\x0b\x0c\x0e-\x7f]{0,16382}")
 # A word of what a server is made of.
-OF_SERVER = re.compile("guid=[0-9a-f]{32}|user=[0-9]+|anonymous=yes|agrees=yes")
+OF_SERVER = re.compile("guid=[0-9a-f]{32}|user=[0-9]+|anonymous=yes|agrees=yes|rejections=[0-9]+|errors=[0-9]+")
+# A word of what a client is made of that is none of its mechanisms.
+OF_CLIENT = re.compile("asks=yes|rejections=[0-9]+|errors=[0-9]+")
 # What ends a state: the server's GUID that a client has, and that both agreed.
 KNOWN = re.compile("( [0-9a-f]{32})?( agreed)?$")
 # Bytes that are as many are only split near their ends.
@@ -87,8 +89,8 @@ def settings_of(column):
     """The settings that say an end."""
     side, *words = column.split(" ")
     if side == "client":
-        mechanisms = [mechanism_of(it) for it in words if it != "asks=yes"]
-        return words_of(f"mechanisms={','.join(mechanisms)}" if mechanisms else "", "asks=yes" if "asks=yes" in words else "")
+        mechanisms = [mechanism_of(it) for it in words if not OF_CLIENT.fullmatch(it)]
+        return words_of(f"mechanisms={','.join(mechanisms)}" if mechanisms else "", *filter(OF_CLIENT.fullmatch, words))
     assert side == "server" and all(map(OF_SERVER.fullmatch, words)), column
     return words_of(*words, "" if "guid=" in column else f"guid={GUID}")
 
@@ -133,6 +135,9 @@ def ask_dialogue(case, _):
         yield Question(f"by {way}", words_of(about, WAYS[way], taken), f"0 {did}")
     for first, last in splits_of(data):
         yield Question(f"in two from {first} on", words_of(about, taken, f"from={first} to={last}"), f"{first} {did}")
+    # A machine has no bounds.
+    if "errors=" in end:
+        return
     lines = ",".join(line.hex() for line in lines_in(side, data))
     words = words_of(f"{side}-machine", settings, f"lines={lines}" if lines_in(side, data) else "")
     acts = acts_of(side, sent, "talking" if is_faulty else status)

@@ -40,7 +40,7 @@ def answers_of(reader, calls, data):
         if answer.isdigit():
             message = data[at : at + int(answer)]
             at += len(message)
-            yield answer if reader == "lengths" else f"{answer} {hexed(message)}" if is_lending else hexed(message)
+            yield answer if reader in ("lengths", "file") else f"{answer} {hexed(message)}" if is_lending else hexed(message)
             continue
         if answer.startswith("passed "):
             at += int(answer.removeprefix("passed "))

@@ -53,6 +53,8 @@ for name in list json encode swap rules build signal room habits texts lines wat
 	"$CC" -std=c99 -O2 -g $flags -pthread -o "$built/plain_$name" "$here/c/$name.c" -L"$built" -ldbus_wire
 done
 for sample in session big-endian; do
+	# The quotes are those of match rules.
+	# shellcheck disable=SC2089,SC2090
 	for name in room threads "sharing type='signal' member='NameAcquired' sender='org.a.B'"; do $run "$built/"$name < "$here/../samples/$sample.dbus"; done
 	for length in 1 64 4096; do $run "$built/pieces" $length < "$here/../samples/$sample.dbus"; done
 done
@@ -122,7 +124,7 @@ try_echo() {
 	bus=$(dbus-daemon --session --fork --print-pid --address="unix:path=$sockets/bus")
 	"$@" "$sockets/bus" & echo=$!
 	trap 'kill "$bus" "$echo"' EXIT
-	for round in $(seq 100); do
+	for _ in $(seq 100); do
 		if $run "$built/descriptors" call "$sockets/bus" "$here/test.sh" > "$built/said" 2> "$built/told"; then break; fi
 		sleep 0.1
 	done
@@ -140,7 +142,9 @@ try_echo() {
 	rm -rf "$sockets"
 }
 if command -v dbus-daemon > /dev/null; then try_echo $run "$built/descriptors" serve; fi
-# A service of few lines at a bus says the load of this machine to gdbus in this form, and tells it of a method that is not there.
+# A service of few lines at a bus says the load of this machine to gdbus in this form, and tells it of a method that is not there. The command in
+# `between` is given the bus in between.
+between=true
 try_load() {
 	if ! command -v dbus-daemon > /dev/null || ! command -v gdbus > /dev/null; then return; fi
 	form=$1
@@ -150,11 +154,12 @@ try_load() {
 	"$@" "$sockets/bus" & service=$!
 	trap 'kill "$bus" "$service"' EXIT
 	ask="gdbus call --address unix:path=$sockets/bus --dest org.example.Load --object-path / --method org.example.Load"
-	for round in $(seq 100); do
+	for _ in $(seq 100); do
 		if $ask.Get > "$built/said" 2> "$built/told"; then break; fi
 		sleep 0.1
 	done
 	grep -qx "$form" "$built/said"
+	$between "$sockets/bus"
 	must_fail $ask.Set 2> "$built/told"
 	grep -q 'UnknownMethod: try Get' "$built/told"
 	kill "$bus" "$service"
@@ -162,7 +167,15 @@ try_load() {
 	rm -rf "$sockets"
 }
 "$CC" $sanitized -D_GNU_SOURCE -o "$built/service" "$here/c/service.c" -L"$built" -ldbus_wire
+# A call that is longer than its room does not end it.
+call_long() {
+	if [ -n "$target" ]; then return; fi
+	said=$(DBUS_WIRE_LIBRARY=$(realpath "$shared") PYTHONPATH=$here/../python "$here/long_call.py" "$1")
+	test "$said" = org.freedesktop.DBus.Error.LimitsExceeded
+}
+between=call_long
 try_load '([0-9.]*,)' $run "$built/service"
+between=true
 # A checker for which there is no memory is not made.
 for nth in 1 2; do
 	status=0
@@ -181,6 +194,8 @@ if [ -z "$target" ] && command -v valgrind > /dev/null; then
 	under_valgrind() { valgrind --quiet --leak-check=full --error-exitcode=9 "$@"; }
 	under_valgrind "$built/plain_signal" Name "a b" Number 7 > "$built/one"
 	under_valgrind "$built/plain_room" < "$built/one"
+	# The quotes are those of match rules.
+	# shellcheck disable=SC2089,SC2090
 	for words in list json "swap B" "rules member='NameAcquired'" "build again" habits "pieces 64" threads "sharing type='signal'"; do
 		under_valgrind "$built/plain_"$words < "$here/../samples/session.dbus" > "$built/said"
 	done
@@ -211,23 +226,30 @@ looks_on() {
 guid=0123456789abcdef0123456789abcdef
 auth='\0AUTH EXTERNAL 31303030\r\n'
 test "$(looks_on "${auth}NEGOTIATE_UNIX_FD\r\nBEGIN\r\nl" "OK $guid\r\nAGREE_UNIX_FD\r\nl")" = "client 1 client 24 client 19 server 37 server 15 client 7 messages "
+for answer in REJECTED DATA "OK fedcba9876543210fedcba9876543210"; do
+	test "$(looks_on "${auth}NEGOTIATE_UNIX_FD\r\nBEGIN\r\nl" "OK $guid\r\n$answer\r\n")" = "client 1 client 24 client 19 server 37 refused "
+done
 test "$(looks_on "${auth}BEGIN \r\nl\r\nBEGIN\r\nl" "OK $guid\r\n")" = "client 1 client 24 refused "
 test "$(looks_on "${auth}" "OK $guid\r\nOK $guid\r\n")" = "client 1 client 24 server 37 refused "
 test "$(looks_on "${auth}BEGIN\r\nl" "REJECTED EXTERNAL\r\n")" = "client 1 client 24 server 19 refused "
 test "$(looks_on "${auth}BEGIN\r\nl" "OK $guid\r")" = "client 1 client 24 8 and 36 bytes left "
 # The fuzz target finds nothing, and finds a parser that takes everything for a message.
 try_fuzz() {
+	changes=$1
+	shift
 	"$CC" $sanitized -I"$here/fuzz" -o "$built/fuzz" "$here/fuzz/fuzz.c" "$here/fuzz/files.c" "$@" -L"$built" -ldbus_wire
 	$run "$built/fuzz" "$changes" "$here/../samples/session.dbus" "$here/../samples/big-endian.dbus"
 }
-changes=100 try_fuzz
+try_fuzz 100
 printf '#include "fuzz.h"\nuint32_t their_check(const uint8_t *bytes, size_t length) { return bytes == NULL && length > 0; }\n' > "$built/all.c"
-if (changes=1 try_fuzz "$built/all.c") 2> /dev/null; then
+if (try_fuzz 1 "$built/all.c") 2> /dev/null; then
 	echo "the fuzz target does not find a parser that takes everything"
 	exit 1
 fi
 if [ -z "$target" ] && pkg-config --exists dbus-1; then
-	changes=0 try_fuzz "$here/fuzz/peer.c" "$here/../cases/peers/libdbus.c" $(pkg-config --cflags --libs dbus-1)
+	# The words of pkg-config are apart.
+	# shellcheck disable=SC2046
+	try_fuzz 0 "$here/fuzz/peer.c" "$here/../cases/peers/libdbus.c" $(pkg-config --cflags --libs dbus-1)
 fi
 
 listers=$built/list liners=$built/json swappers=$built/swap filters=$built/rules explainers=$built/explain

@@ -30,9 +30,12 @@ build() {
     shift
     mkdir "$to"
     for example in "$root"/usr/share/doc/libdbus-wire-dev/examples/*.c; do
+        # The words of pkg-config are apart, here and below.
+        # shellcheck disable=SC2046
         "${CC:-cc}" -std=c99 -D_GNU_SOURCE -O2 -Wall -Werror -pthread $(pkg-config --cflags dbus-wire) -o "$to/$(basename "$example" .c)" "$example" "$@"
     done
 }
+# shellcheck disable=SC2046
 build "$room/shared" $(pkg-config --libs dbus-wire)
 build "$room/static" "$libraries/libdbus_wire.a"
 ldd "$room/shared/check" | grep -q "=> $root/.*/libdbus_wire.so.0"
@@ -51,6 +54,8 @@ for built in shared static; do
     "$bin/build" again < swapped | cmp - swapped
     "$bin/rules" "member='PropertiesChanged'" < two | cmp - two
     "$bin/rules" "member='Other'" < two | cmp - /dev/null
+    # The quotes are those of a match rule.
+    # shellcheck disable=SC2089,SC2090
     for words in room threads "sharing type='signal'" habits "handshake pieces 7"; do
         "$bin/"$words < two > said
     done

@@ -10,6 +10,10 @@ if [ -n "$(git status --porcelain)" ]; then
     git status --short >&2
     exit 1
 fi
+if grep ' back to ' bench/weight.txt >&2; then
+    echo "before a release these numbers have to come back to what bench/weight.txt says" >&2
+    exit 1
+fi
 room=out/release
 rm -rf "$room"
 mkdir -p "$room"

@@ -1,6 +1,9 @@
 # Sourced: what packaging/deb.sh, packaging/tarball.sh and packaging/release.sh share.
+# shellcheck shell=bash
 set -euo pipefail
 cd "$(dirname "$0")/.."
+# Those use it.
+# shellcheck disable=SC2034
 version=$1
 # One date for all files, so that the same files make the same package.
 export SOURCE_DATE_EPOCH=${SOURCE_DATE_EPOCH:-$(git log -1 --format=%ct)} TZ=UTC LC_ALL=C.UTF-8

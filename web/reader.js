@@ -1,7 +1,7 @@
 "use strict";
 // Calls the module of WebAssembly that reads captures: crates/dbus_page says what each call promises. Here are only addresses and numbers.
 
-const WHOLE = 0, PARTIAL = 1, REFUSED = 2, NO_ROOM = 3;
+const WHOLE = 0, PARTIAL = 1, NO_ROOM = 3;
 const PAGE_BYTES = 65536;
 // The bytes of `Unpacked`, `Next`, `PagePlace`, a count, `PageBeside`, `PageEvent` and a call's member with two names, one after another; and of a `PagePart`.
 const UNPACKED = 0, NEXT = 32, PLACE = 48, COUNT = 80, BESIDE = 88, EVENT = 144, TEXTS = 216, TOLD_BYTES = 1024, PART_BYTES = 24;

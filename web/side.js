@@ -12,6 +12,8 @@ const FIRST_BYTES = "\0ADEOR";
 function lineAt(bytes, start) {
   const end = bytes.subarray(start, start + MOST_LINE_BYTES).indexOf(LF) + 1;
   const line = String.fromCharCode(...bytes.subarray(start, start + end));
+  // The bytes of a line are all but NUL, CR and LF.
+  // eslint-disable-next-line no-control-regex
   return /^[\x01-\x09\x0b\x0c\x0e-\x7f]*\r\n$/.test(line) ? line : null;
 }
 

@@ -147,6 +147,7 @@ static void open_bus(struct bus *bus, const char *path) {
     bus->socket = socket(AF_UNIX, SOCK_STREAM, 0);
     if (bus->socket < 0 || connect(bus->socket, (struct sockaddr *)&address, sizeof address) != 0) fail("connect");
     if (dbus_wire_client_new(&mechanisms, NULL, 0, &client) != DBUS_WIRE_OK) fail("no client");
+    if (dbus_wire_handshake_bound(&client, 6, 6) != DBUS_WIRE_OK) fail("no bounds");
     while ((answer = dbus_wire_handshake_take(&client, &byte, length, reply, sizeof reply, &step)) == DBUS_WIRE_PARTIAL) {
         write_all(bus->socket, reply, (size_t)step.reply);
         if (read(bus->socket, &byte, 1) != 1) fail("the bus closed");

@@ -57,11 +57,13 @@ static uint32_t take(struct dbus_wire_handshake *end, struct pipe *in, size_t mo
 static void make_server(struct dbus_wire_handshake *server, uint32_t user, uint32_t descriptors) {
     struct dbus_wire_mechanisms mechanisms = {DBUS_WIRE_EXTERNAL_AS_USER, user, 0, descriptors};
     if (dbus_wire_server_new(guid, strlen(guid), &mechanisms, server) != DBUS_WIRE_OK) fail("no server");
+    if (dbus_wire_handshake_bound(server, 6, 6) != DBUS_WIRE_OK) fail("no bounds");
 }
 
 static void make_client(struct dbus_wire_handshake *client, uint32_t external, uint32_t descriptors) {
     struct dbus_wire_mechanisms mechanisms = {external, (uint32_t)getuid(), 1, descriptors};
     if (dbus_wire_client_new(&mechanisms, NULL, 0, client) != DBUS_WIRE_OK) fail("no client");
+    if (dbus_wire_handshake_bound(client, 6, 6) != DBUS_WIRE_OK) fail("no bounds");
 }
 
 static void print_guid(struct dbus_wire_handshake *client) {
@@ -94,6 +96,24 @@ static void shake_in_pieces(size_t most, uint32_t external, uint32_t asks, uint3
     dbus_wire_handshake_free(&server);
     if (dbus_wire_handshake_take(&server, NULL, 0, to_client.bytes, sizeof to_client.bytes, &step) != DBUS_WIRE_NO_HANDSHAKE)
         fail("there is an end after its end was freed");
+}
+
+/* A server rejects a client six times and then closes, and so it does at the seventh line that makes
+ * no sense. */
+static void reject_too_often(const char *line) {
+    struct dbus_wire_handshake server = {0};
+    struct pipe to_client = {{0}, 0}, to_server = {{0}, 0};
+    uint32_t answer = DBUS_WIRE_PARTIAL;
+    int round;
+    make_server(&server, (uint32_t)getuid(), 0);
+    append(&to_server, (const uint8_t *)"", 1);
+    for (round = 0; answer == DBUS_WIRE_PARTIAL && round < 100; round++) {
+        append(&to_server, (const uint8_t *)line, strlen(line));
+        answer = take(&server, &to_server, sizeof to_server.bytes, &to_client);
+    }
+    if (answer != DBUS_WIRE_REFUSED || round != 7 || to_server.length != strlen(line)) fail("not closed after six");
+    dbus_wire_handshake_free(&server);
+    if (dbus_wire_handshake_bound(&server, 6, 6) != DBUS_WIRE_NO_HANDSHAKE) fail("bounds without an end");
 }
 
 /* The end's handshake over a socket. What is left of the bytes that came is in `in`. */
@@ -174,6 +194,8 @@ int main(int argc, char **argv) {
             shake_in_pieces((size_t)atol(argv[2]), DBUS_WIRE_EXTERNAL_AS_USER, ends & 1, ends >> 1);
             shake_in_pieces((size_t)atol(argv[2]), DBUS_WIRE_EXTERNAL_AS_REPORTED, ends & 1, ends >> 1);
         }
+        reject_too_often("AUTH\r\n");
+        reject_too_often("HELLO\r\n");
     } else if (argc == 3 && strcmp(argv[1], "client") == 0) {
         be_client(argv[2]);
     } else if (argc == 3 && strcmp(argv[1], "server") == 0) {

@@ -4,7 +4,9 @@
  * both directions, each validated. What a client sends that one of the match rules matches does not
  * get through: a call is answered by the error org.freedesktop.DBus.Error.AccessDenied. Bytes that
  * are no message end the connection. Messages have at most 1 MiB, and no file descriptors, which
- * the handshake refuses. Writes block, so a peer that does not read stops the other one. */
+ * the handshake refuses. Writes block, so a peer that does not read stops the other one. Rules keep
+ * no client out that wants in: a call needs no INTERFACE, and may have a unique name as its
+ * DESTINATION. */
 #include <dbus_wire.h>
 
 #include <poll.h>
@@ -131,7 +133,9 @@ static void serve(int socket_of_client, const char *path) {
     if (getsockopt(client.socket, SOL_SOCKET, SO_PEERCRED, &caller, &size) != 0 || caller.uid != getuid()) fail("another user");
     if (bus.socket < 0 || connect(bus.socket, (struct sockaddr *)&address, sizeof address) != 0) fail("no bus");
     if (dbus_wire_server_new(guid, strlen(guid), &own_user, &server) != DBUS_WIRE_OK) fail("no server");
+    if (dbus_wire_handshake_bound(&server, 6, 6) != DBUS_WIRE_OK) fail("no bounds");
     if (dbus_wire_client_new(&own_user, NULL, 0, &asking) != DBUS_WIRE_OK) fail("no client");
+    if (dbus_wire_handshake_bound(&asking, 6, 6) != DBUS_WIRE_OK) fail("no bounds");
     shake(&asking, &bus);
     shake(&server, &client);
     for (;;) {

@@ -1,6 +1,7 @@
 /* Is the service org.example.Load on the bus at a Unix socket, `service SOCKET`: its method Get
- * returns the load of this machine, and any other is an error. It ends if a step fails. Of the
- * handshake it reads a byte at a time, since messages follow it. */
+ * returns the load of this machine, and any other is an error. So is a call that is longer than its
+ * room, which is passed over. It ends if a step fails. Of the handshake it reads a byte at a time,
+ * since messages follow it. */
 #include <dbus_wire.h>
 #include <stdlib.h>
 #include <sys/socket.h>
@@ -36,6 +37,33 @@ static void answer(const struct dbus_wire_parts *call, uint32_t serial) {
     must(dbus_wire_reply_to(in, call->length, NULL, &reply, out, sizeof out, &told) == DBUS_WIRE_OK), send_out(told.length);
 }
 
+static uint32_t number_at(size_t at) {
+    uint32_t number = 0;
+    for (size_t i = 0; i < 4; i++) number = number << 8 | in[at + (in[0] == 'B' ? i : 3 - i)];
+    return number;
+}
+
+/* Passes over the message whose first 16 bytes are there, and answers it if it is a call: by its
+ * header fields, which are whole before its fault if it has no body. */
+static void refuse(uint64_t length, uint32_t serial) {
+    static struct dbus_wire_flat_item fields[256];
+    struct dbus_wire_whole_count count = {0, 0};
+    uint64_t header = 16 + (number_at(12) + UINT64_C(7)) / 8 * 8;
+    struct dbus_wire_draft error = {.order = in[0], .kind = DBUS_WIRE_TYPE_ERROR, .serial = serial, .reply_serial = number_at(8),
+                                    .error_name = TEXT(BUS ".Error.LimitsExceeded")};
+    int is_asked = header <= sizeof in && in[1] == DBUS_WIRE_TYPE_METHOD_CALL && !(in[2] & DBUS_WIRE_FLAG_NO_REPLY_EXPECTED);
+    if (is_asked) receive(16, header);
+    for (uint64_t left = length - (is_asked ? header : 16), part; left > 0; left -= part)
+        part = left < sizeof out ? left : sizeof out, must(recv(bus, out, part, MSG_WAITALL) == (ssize_t)part);
+    if (!is_asked) return;
+    memset(in + 4, 0, 4);
+    if (dbus_wire_flatten_whole(in, header, NULL, 0, fields, 256, &count, &told) > DBUS_WIRE_NO_ROOM) return;
+    for (uint64_t at = 0; at < count.fields && at + 3 < 256; at += fields[at].number + 1)
+        if (fields[at + 1].number == DBUS_WIRE_FIELD_SENDER)
+            error.destination = (struct dbus_wire_draft_text){(const char *)in + fields[at + 3].offset, fields[at + 3].length, 1};
+    must(dbus_wire_build(&error, NULL, out, sizeof out, &told) == DBUS_WIRE_OK), send_out(told.length);
+}
+
 int main(int count, char **words) {
     struct sockaddr_un address = {.sun_family = AF_UNIX};
     struct dbus_wire_mechanisms mechanisms = {DBUS_WIRE_EXTERNAL_AS_REPORTED, 0, 0, 0};
@@ -44,7 +72,8 @@ int main(int count, char **words) {
     struct dbus_wire_parts call;
     must(count == 2 && strlen(words[1]) < sizeof address.sun_path && (bus = socket(AF_UNIX, SOCK_STREAM, 0)) >= 0);
     strcpy(address.sun_path, words[1]);
-    must(connect(bus, (struct sockaddr *)&address, sizeof address) == 0 && dbus_wire_client_new(&mechanisms, NULL, 0, &client) == DBUS_WIRE_OK);
+    must(connect(bus, (struct sockaddr *)&address, sizeof address) == 0);
+    must(dbus_wire_client_new(&mechanisms, NULL, 0, &client) == DBUS_WIRE_OK && dbus_wire_handshake_bound(&client, 6, 6) == DBUS_WIRE_OK);
     for (uint32_t length = 0, found = DBUS_WIRE_PARTIAL; found == DBUS_WIRE_PARTIAL; length = 1) {
         receive(0, length);
         must((found = dbus_wire_handshake_take(&client, in, length, out, sizeof out, &step)) <= DBUS_WIRE_PARTIAL);
@@ -55,7 +84,13 @@ int main(int count, char **words) {
     PUT(text, "org.example.Load", 16), PUT(number, 4, 0);
     call_bus(2, "RequestName", "su");
     for (uint32_t serial = 3;; serial++) {
-        receive(0, 16), receive(16, dbus_wire_wanted(in, 16, NULL));
+        receive(0, 16);
+        uint64_t wanted = dbus_wire_wanted(in, 16, NULL);
+        if (wanted > sizeof in) {
+            refuse(wanted, serial);
+            continue;
+        }
+        receive(16, wanted);
         must(dbus_wire_parts_of(in, sizeof in, NULL, &call, NULL) == DBUS_WIRE_WHOLE);
         if (call.kind == DBUS_WIRE_TYPE_METHOD_CALL && !(call.flags & DBUS_WIRE_FLAG_NO_REPLY_EXPECTED)) answer(&call, serial);
     }

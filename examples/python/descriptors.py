@@ -8,7 +8,7 @@ import os
 import socket
 import sys
 
-from dbus_wire import Client, MessageType, build, messages, reply_to
+from dbus_wire import Bounds, Client, MessageType, build, messages, reply_to
 
 BUS = "org.freedesktop.DBus"
 TO_BUS = {"destination": BUS, "path": "/org/freedesktop/DBus", "interface": BUS}
@@ -26,7 +26,7 @@ class Incoming:
         return data
 
 
-client, serial = Client(user=os.getuid(), descriptors=True), itertools.count(1)
+client, serial = Client(user=os.getuid(), descriptors=True, bounds=Bounds(6, 6)), itertools.count(1)
 bus = client.connect(sys.argv[1])
 if not client.agreed:
     sys.exit("the bus passes no descriptors")

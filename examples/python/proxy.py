@@ -3,7 +3,8 @@
 the Unix socket DOOR, connects each to the bus at the Unix socket BUS, and passes messages on, in
 both directions, each validated. What a client sends that one of the match rules matches does not
 get through: a call is answered by the error org.freedesktop.DBus.Error.AccessDenied. Bytes that are
-no message end the connection, and so does a message of over 1 MiB."""
+no message end the connection, and so does a message of over 1 MiB. Rules keep no client out that
+wants in: a call needs no INTERFACE, and may have a unique name as its DESTINATION."""
 
 import os
 import select
@@ -12,7 +13,7 @@ import socketserver
 import struct
 import sys
 
-from dbus_wire import Client, Limits, Rule, Server, error_to, messages
+from dbus_wire import Bounds, Client, Limits, Rule, Server, error_to, messages
 
 DENIED = "org.freedesktop.DBus.Error.AccessDenied"
 LIMITS = Limits(message=1 << 20)
@@ -24,8 +25,8 @@ def shake_hands(client, bus):
     if (user := struct.unpack("3i", peer)[1]) != os.getuid():
         raise PermissionError(f"a client of the user {user}")
     bus.connect(sys.argv[2])
-    Client(user=user).shake_hands(bus)
-    Server(os.urandom(16).hex(), user).shake_hands(client)
+    Client(user=user, bounds=Bounds(6, 6)).shake_hands(bus)
+    Server(os.urandom(16).hex(), user, bounds=Bounds(6, 6)).shake_hands(client)
 
 
 def pass_messages(client, bus):

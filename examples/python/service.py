@@ -4,11 +4,11 @@
 import os
 import sys
 
-from dbus_wire import Client, MessageType, Variant, build, error_to, messages, reply_to
+from dbus_wire import Bounds, Client, MessageType, Variant, build, error_to, messages, reply_to
 
 BUS = "org.freedesktop.DBus"
 TO_BUS = {"destination": BUS, "path": "/org/freedesktop/DBus", "interface": BUS}
-bus = Client(user=os.getuid()).connect(sys.argv[1])
+bus = Client(user=os.getuid(), bounds=Bounds(6, 6)).connect(sys.argv[1])
 bus.sendall(bytes(build(MessageType.METHOD_CALL, 1, member="Hello", **TO_BUS)))
 bus.sendall(bytes(build(MessageType.METHOD_CALL, 2, "su", "org.example.Load", 0, member="RequestName", **TO_BUS)))
 for serial, call in enumerate(messages(bus.makefile("rb")), 3):

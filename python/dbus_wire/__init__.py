@@ -26,7 +26,7 @@ from ._building import build, error_to, rebuild, reply_to
 from ._checker import Checker
 from ._errors import BadJson, BadValue, HeaderField, NotAMessage, Refused, Truncated
 from ._explaining import Explanation, StatedText, WholeParts, explain, whole_parts
-from ._handshake import Client, Server, Status, Step
+from ._handshake import Bounds, Client, Server, Status, Step
 from ._library import LIBRARY_VERSION
 from ._limits import Limits
 from ._lines import BadLine, Line, LineCommand, NotPassed, Watch, client_line, server_line
@@ -42,6 +42,7 @@ __all__ = [
     "BadLine",
     "BadRule",
     "BadValue",
+    "Bounds",
     "Checker",
     "Client",
     "Explanation",

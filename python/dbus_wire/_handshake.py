@@ -37,13 +37,25 @@ class Step(NamedTuple):
     status: Status
 
 
+class Bounds(NamedTuple):
+    """How many lines an end sends at most: of REJECTED, which only a server sends, and of those that
+    leave it in its state, which are ERROR, and AGREE_UNIX_FD of a server. The handshake fails at the
+    line that it would answer by one more."""
+
+    rejections: int
+    errors: int
+
+
 class _Handshake:
     __slots__ = ("_handle", "_lock", "_free", "__weakref__")
 
-    def _keep(self, handle: _library.Handshake) -> None:
+    def _keep(self, handle: _library.Handshake, bounds: Bounds | None) -> None:
         self._handle = handle
         self._lock = threading.Lock()
         self._free = weakref.finalize(self, library.dbus_wire_handshake_free, byref(handle))
+        if bounds is not None:
+            numbers = uint32_of("rejections", bounds.rejections), uint32_of("errors", bounds.errors)
+            library.dbus_wire_handshake_bound(byref(handle), *numbers)
 
     def take(self, piece: Bytes = b"") -> Step:
         """Takes at most one line of the piece, which follows what was taken, and answers it. A
@@ -112,18 +124,21 @@ class Server(_Handshake):
 
     __slots__ = ()
 
-    def __init__(self, guid: str, user: int | None = None, *, anonymous: bool = False, descriptors: bool = False) -> None:
+    def __init__(
+        self, guid: str, user: int | None = None, *, anonymous: bool = False, descriptors: bool = False, bounds: Bounds | None = None
+    ) -> None:
         """Makes the end of a server of this GUID, which offers EXTERNAL if it has a user, and
         ANONYMOUS, which lets everybody in, if `anonymous` is true. If `descriptors` is true, it
-        agrees to pass Unix file descriptors, which is for Unix sockets. Raises ValueError if the
-        GUID is not 32 hexadecimal digits, and MemoryError."""
+        agrees to pass Unix file descriptors, which is for Unix sockets. Without bounds it answers
+        for as long as its client asks. Raises ValueError if the GUID is not 32 hexadecimal digits,
+        and MemoryError."""
         handle, text = _library.Handshake(), text_of("guid", guid)
         mechanisms = _mechanisms(0 if user is None else EXTERNAL_AS_USER, user, anonymous, descriptors)
         answer = library.dbus_wire_server_new(text, len(text), byref(mechanisms), byref(handle))
         _raise_if_failed(answer)
         if answer == REFUSED:
             raise ValueError(f"{guid!r} is not 32 hexadecimal digits")
-        self._keep(handle)
+        self._keep(handle, bounds)
 
 
 class Client(_Handshake):
@@ -135,7 +150,15 @@ class Client(_Handshake):
 
     __slots__ = ()
 
-    def __init__(self, *, user: int | None = None, reported: bool = False, trace: Bytes | None = None, descriptors: bool = False) -> None:
+    def __init__(
+        self,
+        *,
+        user: int | None = None,
+        reported: bool = False,
+        trace: Bytes | None = None,
+        descriptors: bool = False,
+        bounds: Bounds | None = None,
+    ) -> None:
         """Makes the end of a client that asks for EXTERNAL, as the user of this number or as the
         one that the transport reports to the server, and then for ANONYMOUS if there is a trace,
         which may be empty. If `descriptors` is true, it asks to pass Unix file descriptors, which
@@ -150,7 +173,7 @@ class Client(_Handshake):
         _raise_if_failed(answer)
         if answer == REFUSED:
             raise ValueError("the trace has more than 255 bytes")
-        self._keep(handle)
+        self._keep(handle, bounds)
 
     def connect(self, path: str) -> socket.socket:
         """A connection to the Unix socket at this path, on which the client shook hands. Raises what

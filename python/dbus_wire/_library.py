@@ -143,7 +143,7 @@ class Line(ctypes.Structure):
 
 
 class Watch(ctypes.Structure):
-    _fields_ = [(name, c_uint32) for name in ("server", "unanswered", "started", "reserved")]
+    _fields_ = [(name, c_uint32) for name in ("server", "unanswered", "started", "asked")]
 
 
 # Of each call its result, and then its arguments. Python's bytes do not change and are never null,
@@ -187,6 +187,7 @@ _CALLS = {
     "rule_reason_name": (c_size_t, c_uint32, c_char_p, c_size_t),
     "server_new": (c_uint32, c_char_p, c_size_t, POINTER(Mechanisms), POINTER(Handshake)),
     "client_new": (c_uint32, POINTER(Mechanisms), c_char_p, c_size_t, POINTER(Handshake)),
+    "handshake_bound": (c_uint32, POINTER(Handshake), c_uint32, c_uint32),
     "handshake_take": (c_uint32, POINTER(Handshake), c_char_p, c_size_t, c_char_p, c_size_t, POINTER(HandshakeStep)),
     "handshake_guid": (c_uint32, POINTER(Handshake), c_char_p, c_size_t),
     "handshake_agreed": (c_uint32, POINTER(Handshake)),

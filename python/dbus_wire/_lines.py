@@ -4,6 +4,7 @@ from __future__ import annotations
 
 import ctypes
 import enum
+import threading
 from ctypes import byref
 from typing import NamedTuple
 
@@ -85,10 +86,14 @@ class Watch:
     `length` bytes are to be passed on; the byte 0 before a client's first line as one of its own.
     It returns None if nothing is to be passed on yet: more bytes are needed, the server has lines
     to answer before BEGIN, or messages have begun, which `has_begun` says. It passes exact lines
-    alone, and BEGIN if the server accepted the client. Raises NotPassed, now and from then on."""
+    alone, AGREE_UNIX_FD or ERROR alone to answer NEGOTIATE_UNIX_FD, and BEGIN if the server accepted
+    the client. Raises NotPassed, now and from then on.
+
+    It may be shared by threads, as by one for each side, whose calls wait for each other."""
 
     def __init__(self) -> None:
         self._watch = _library.Watch()
+        self._lock = threading.Lock()
 
     def client(self, data: Bytes) -> Line | None:
         return self._look(library.dbus_wire_watch_client, as_bytes(data))
@@ -99,11 +104,13 @@ class Watch:
     @property
     def has_begun(self) -> bool:
         """Whether BEGIN was passed on: what both sides send after it are messages."""
-        return int(self._watch.server) == 3
+        with self._lock:
+            return int(self._watch.server) == 3
 
     def _look(self, call: ctypes._NamedFuncPointer, data: bytes) -> Line | None:
         told = _library.Line()
-        answer = call(byref(self._watch), data, len(data), byref(told))
+        with self._lock:
+            answer = call(byref(self._watch), data, len(data), byref(told))
         if answer == REFUSED:
             raise NotPassed(_told(data, told) if told.length else None)
         return _told(data, told) if answer == WHOLE else None

@@ -4,12 +4,15 @@ runs them.
 What the module makes of the cases is compared with the answers in them (cases/README.md).
 """
 
+import contextlib
 import io
 import os
 import pickle
+import queue
 import re
 import socket
 import tempfile
+import time
 import unittest
 from concurrent.futures import ThreadPoolExecutor
 from unittest import mock
@@ -21,6 +24,7 @@ import dbus_wire
 from dbus_wire import (
     BadLine,
     BadRule,
+    Bounds,
     Checker,
     Client,
     HeaderField,
@@ -515,14 +519,15 @@ class Handshakes(unittest.TestCase):
         kind, *words = re.findall(r'\w+(?:=(?:\d+\*)?"[^"]*"|=\S+)?', setup)
         given = dict(word.split("=", 1) if "=" in word else (word, "") for word in words)
         user = int(given.get("user") or given.get("external") or 0)
+        bounds = Bounds(int(given["rejections"]), int(given["errors"])) if "errors" in given else None
         if kind == "server":
             user = user if "user" in given else None
-            return Server(given.get("guid", self.GUID), user, anonymous="anonymous" in given, descriptors="agrees" in given)
-        if [it for it in (word.split("=")[0] for word in words) if it != "asks"] not in ([], ["external"], ["anonymous"], ["external", "anonymous"]):
+            return Server(given.get("guid", self.GUID), user, anonymous="anonymous" in given, descriptors="agrees" in given, bounds=bounds)
+        if [it for it in (word.split("=")[0] for word in words) if it not in ("asks", "rejections", "errors")] not in ([], ["external"], ["anonymous"], ["external", "anonymous"]):
             return None
         trace = read_bytes(given["anonymous"]) if "anonymous" in given else None
         user, reported = user if given.get("external") else None, given.get("external") == ""
-        return Client(user=user, reported=reported, trace=trace, descriptors="asks" in given)
+        return Client(user=user, reported=reported, trace=trace, descriptors="asks" in given, bounds=bounds)
 
     def test_each_case_of_an_end(self):
         tried = 0
@@ -577,6 +582,14 @@ class Handshakes(unittest.TestCase):
                 with self.assertRaises(NotPassed) as caught:
                     watch.client(data)
                 self.assertEqual(caught.exception.line and caught.exception.line.command, command if data is sent else None)
+        for answer, passes in ((b"AGREE_UNIX_FD", True), (b"ERROR", True), (b"REJECTED", False), (b"DATA", False), (b"OK " + b"0" * 32, False)):
+            watch = Watch()
+            for data in (b"\0", b"AUTH\r\n", b"NEGOTIATE_UNIX_FD\r\n"):
+                watch.client(data)
+            watch.server(b"OK " + b"f" * 32 + b"\r\n")
+            with self.subTest(answer):
+                with contextlib.nullcontext() if passes else self.assertRaises(NotPassed):
+                    watch.server(answer + b"\r\n")
         self.assertRaises(NotPassed, Watch().client, b"AUTH\r\n")
         self.assertRaises(NotPassed, Watch().server, b"OK\r\n")
 
@@ -717,6 +730,32 @@ class Threads(unittest.TestCase):
                     zeros += taken.count(0)
                     self.assertEqual(body, [":1.2"])
         self.assertEqual(zeros, 2000)
+
+    def test_one_watch_with_a_thread_for_each_side(self):
+        # BEGIN waits for the answers to all lines before it, however the two threads run.
+        lines, answers = [b"AUTH EXTERNAL 37\r\n", *[b"DATA\r\n"] * 2000], [b"OK " + b"0" * 32 + b"\r\n", *[b"ERROR\r\n"] * 2000]
+
+        def ask(watch, asked, answered):
+            for line in lines:
+                asked.put(watch.client(line))
+            end = time.monotonic() + 20
+            while not (begin := watch.client(b"BEGIN\r\n")) and time.monotonic() < end:
+                pass
+            return begin and begin.command, len(answered)
+
+        def answer(watch, asked, answered):
+            for line in answers:
+                asked.get(timeout=20)
+                answered.append(line)
+                watch.server(line)
+
+        for _ in range(8):
+            watch, asked, answered = Watch(), queue.SimpleQueue(), []
+            watch.client(b"\0")
+            with ThreadPoolExecutor(2) as pool:
+                sides = [pool.submit(side, watch, asked, answered) for side in (ask, answer)]
+                self.assertEqual([side.result(60) for side in sides], [(LineCommand.BEGIN, len(answers)), None])
+            self.assertTrue(watch.has_begun)
 
     def test_rules_that_threads_ask_at_once(self):
         rules = RuleSet()

@@ -10,7 +10,9 @@ use std::os::fd::{AsRawFd, FromRawFd, OwnedFd, RawFd};
 use std::os::unix::net::UnixStream;
 use std::ptr;
 
-use dbus_wire::{build, reply_to, wanted, Body, Client, Descriptors, External, Kind, Limits, Message, Order, Parts, Status};
+use dbus_wire::{
+    build, reply_to, wanted, Body, Bounds, Client, Descriptors, External, Kind, Limits, Message, Order, Parts, Status,
+};
 
 // As the C library has them on Linux, on 64-bit processors.
 #[repr(C)]
@@ -94,6 +96,7 @@ fn receive(bus: &UnixStream, bytes: &mut Vec<u8>, fds: &mut Vec<OwnedFd>) -> io:
 fn shake_hands(mut bus: &UnixStream) -> Result<(), Box<dyn Error>> {
     // SAFETY: it takes nothing.
     let mut client = Client::with_descriptors(Some(External::AsUser(unsafe { getuid() })), None)?;
+    client.set_bounds(Bounds { rejections: 6, errors: 6 });
     let (mut byte, mut piece) = ([0], 0);
     loop {
         let step = client.take(&byte[..piece])?;

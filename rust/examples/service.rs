@@ -2,11 +2,13 @@
 
 use std::{collections::HashMap, error::Error, fs, io::Write, os::unix::net::UnixStream};
 
-use dbus_wire::{messages, Client, External, Kind, Parts, Value};
+use dbus_wire::{messages, Bounds, Client, External, Kind, Parts, Value};
 
 fn main() -> Result<(), Box<dyn Error>> {
     let mut bus = UnixStream::connect(std::env::args().nth(1).ok_or("usage: service SOCKET")?)?;
-    Client::new(Some(External::AsReported), None)?.shake_hands(&bus)?;
+    let mut client = Client::new(Some(External::AsReported), None)?;
+    client.set_bounds(Bounds { rejections: 6, errors: 6 });
+    client.shake_hands(&bus)?;
     let (name, path) = (Some("org.freedesktop.DBus"), Some("/org/freedesktop/DBus"));
     let to_bus = Parts { path, interface: name, destination: name, ..Parts::new(Kind::MethodCall, 1) };
     bus.write_all(&Parts { member: Some("Hello"), ..to_bus }.build(())?)?;

@@ -34,6 +34,16 @@ pub struct Step<'a> {
     pub status: Status,
 }
 
+/// How many lines of two kinds an end sends at most. The handshake fails at the line that it would
+/// answer by one more.
+#[derive(Clone, Copy, Debug, PartialEq, Eq, Hash)]
+pub struct Bounds {
+    /// How many lines of REJECTED. A client sends none.
+    pub rejections: u32,
+    /// How many lines that leave it in its state: ERROR, and AGREE_UNIX_FD of a server.
+    pub errors: u32,
+}
+
 /// Why an end is not made.
 #[derive(Clone, Copy, Debug, PartialEq, Eq, Hash)]
 pub enum HandshakeError {
@@ -108,6 +118,11 @@ impl Handshake {
         }
     }
 
+    fn set_bounds(&mut self, Bounds { rejections, errors }: Bounds) {
+        // SAFETY: a reference, as `sys` says; only calls write `raw`.
+        unsafe { sys::dbus_wire_handshake_bound(&mut self.raw, rejections, errors) };
+    }
+
     fn agreed(&mut self) -> bool {
         // SAFETY: a reference, as `sys` says; only calls write `raw`.
         unsafe { sys::dbus_wire_handshake_agreed(&mut self.raw) == sys::DBUS_WIRE_OK }
@@ -179,6 +194,21 @@ impl Server {
             sys::DBUS_WIRE_REFUSED => Err(HandshakeError::BadGuid),
             _ => Err(HandshakeError::OutOfMemory),
         }
+    }
+
+    /// Bounds what the end sends, from here on. A server for anybody needs bounds.
+    ///
+    /// ```
+    /// use dbus_wire::{Bounds, Server, Status};
+    ///
+    /// let mut server = Server::new("0123456789abcdef0123456789abcdef", Some(0), false)?;
+    /// server.set_bounds(Bounds { rejections: 1, errors: 6 });
+    /// assert_eq!(server.take(b"\0AUTH\r\n")?.reply, b"REJECTED EXTERNAL\r\n");
+    /// assert_eq!(server.take(b"AUTH\r\n")?.status, Status::Closed);
+    /// # Ok::<(), Box<dyn std::error::Error>>(())
+    /// ```
+    pub fn set_bounds(&mut self, bounds: Bounds) {
+        self.0.set_bounds(bounds);
     }
 
     /// Takes at most one line of the piece, with the byte 0 before the first, and answers it. Once
@@ -267,6 +297,11 @@ impl Client {
             sys::DBUS_WIRE_REFUSED => Err(HandshakeError::LongTrace),
             _ => Err(HandshakeError::OutOfMemory),
         }
+    }
+
+    /// Bounds what the end sends, from here on.
+    pub fn set_bounds(&mut self, bounds: Bounds) {
+        self.0.set_bounds(bounds);
     }
 
     /// The first call starts the handshake: it takes nothing, and its reply is the byte 0 and the

@@ -83,7 +83,7 @@ pub use check::{check, wanted, Answer, Order};
 pub use checker::{Checker, OutOfMemory, Taken};
 pub use explain::{explain, whole_parts, Explanation, InputPlace, StatedText};
 pub use fault::{Fault, ParseError, Reason, RuleReason};
-pub use handshake::{Client, External, HandshakeError, Server, Status, Step};
+pub use handshake::{Bounds, Client, External, HandshakeError, Server, Status, Step};
 pub use json::LinePlace;
 pub use limits::{Descriptors, Limits};
 pub use line::{client_line, server_line, Command, Line, LineFault};

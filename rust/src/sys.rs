@@ -342,7 +342,7 @@ pub struct dbus_wire_watch {
     pub server: u32,
     pub unanswered: u32,
     pub started: u32,
-    pub reserved: u32,
+    pub asked: u32,
 }
 
 #[repr(C)]
@@ -577,6 +577,7 @@ extern "C" {
         length: usize,
         handshake: *mut dbus_wire_handshake,
     ) -> u32;
+    pub fn dbus_wire_handshake_bound(handshake: *mut dbus_wire_handshake, rejections: u32, errors: u32) -> u32;
     pub fn dbus_wire_handshake_take(
         handshake: *mut dbus_wire_handshake,
         piece: *const u8,

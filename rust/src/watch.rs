@@ -22,7 +22,8 @@ pub enum Passage<'a> {
 }
 
 /// Nothing is to be passed on, now and from then on: the bytes begin with no line or with one that is
-/// not exact, the server did not accept the client before BEGIN, or it answers no line.
+/// not exact, the server did not accept the client before BEGIN, it answers no line, or it answers
+/// NEGOTIATE_UNIX_FD by neither AGREE_UNIX_FD nor ERROR.
 #[derive(Clone, Copy, Debug, PartialEq, Eq, Hash)]
 pub struct NotPassed;
 

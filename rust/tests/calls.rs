@@ -4,8 +4,8 @@ use std::num::NonZeroU32;
 use std::thread;
 
 use dbus_wire::{
-    build, byteswap, check, check_text, client_line, explain, reply_to, server_line, wanted, Answer, BuildError, Checker, Client,
-    Command, Descriptors, External, Fault, HandshakeError, InputPlace, Kind, Limits, Line, LineFault, LinePlace, Message,
+    build, byteswap, check, check_text, client_line, explain, reply_to, server_line, wanted, Answer, Bounds, BuildError, Checker,
+    Client, Command, Descriptors, External, Fault, HandshakeError, InputPlace, Kind, Limits, Line, LineFault, LinePlace, Message,
     NotPassed, Order, OwnerError, ParseError, Parts, Passage, Reason, Rule, RuleError, RuleReason, RuleSet, Server, SharedRules,
     StatedText, Status, SwapError, Taken, TextFault, TextKind, Value, Values, Watch,
 };
@@ -588,6 +588,42 @@ fn a_watch_passes_lines_on() {
     assert_eq!((watch.client(b"l"), watch.server(b"l")), (Ok(Passage::Messages), Ok(Passage::Messages)));
     let mut watch = Watch::new();
     assert_eq!((watch.server(ok), watch.client(b"\0")), (Err(NotPassed), Err(NotPassed)));
+    // NEGOTIATE_UNIX_FD is answered by AGREE_UNIX_FD or ERROR.
+    for (answer, passes) in [
+        (b"AGREE_UNIX_FD\r\n".as_slice(), true),
+        (b"ERROR\r\n", true),
+        (b"REJECTED\r\n", false),
+        (b"DATA\r\n", false),
+        (ok, false),
+    ] {
+        let mut watch = Watch::new();
+        watch.client(b"\0").unwrap();
+        watch.client(b"AUTH\r\n").unwrap();
+        watch.client(b"NEGOTIATE_UNIX_FD\r\n").unwrap();
+        watch.server(ok).unwrap();
+        assert_eq!(watch.server(answer).is_ok(), passes);
+    }
+}
+
+#[test]
+fn a_server_rejects_no_more_than_its_bounds() {
+    for (line, bounds) in
+        [(b"AUTH\r\n".as_slice(), Bounds { rejections: 6, errors: 0 }), (b"HELLO\r\n", Bounds { rejections: 0, errors: 6 })]
+    {
+        let mut server = Server::new(&"0".repeat(32), Some(7), false).unwrap();
+        server.set_bounds(bounds);
+        server.take(b"\0").unwrap();
+        for _ in 0..6 {
+            assert_eq!(server.take(line).unwrap().status, Status::Talking);
+        }
+        let step = server.take(line).unwrap();
+        assert_eq!((step.count, step.reply, step.status), (0, b"".as_slice(), Status::Closed));
+    }
+    let mut client = Client::new(Some(External::AsUser(7)), None).unwrap();
+    client.set_bounds(Bounds { rejections: 0, errors: 1 });
+    client.take(b"").unwrap();
+    assert_eq!(client.take(b"X\r\n").unwrap().reply, b"ERROR\r\n");
+    assert_eq!(client.take(b"X\r\n").unwrap().status, Status::Closed);
 }
 
 #[test]

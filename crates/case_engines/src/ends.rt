@@ -4,7 +4,7 @@ ghost use Rattle.std.specs.Prelude.{◌≡◌, true};
 ghost use Rattle.dbus_auth.specs.EndViews.{client_end_state};
 
 use crate::pieces::{Pieces, hand_over};
-use crate::setups::{client_of, server_of};
+use crate::setups::{bounds_of, client_of, server_of};
 use case_questions::{Engine, Memory, Question, Reply, bytes_of, say_places, split};
 use dbus_auth::{ClientEnd, EndStep, ServerEnd, Status};
 use dbus_handshake_input::Side;
@@ -64,14 +64,27 @@ impl<A: Allocator + Copy> Led<A> {
     // The end that a question says.
     fn new(alloc: Global, memory: Memory<A>, question: Question<'_>, side: Side) -> Option<Led<A>> {
         let (end, sent) = end_of(memory, question, side)?;
-        Some(Led {
+        let mut led = Led {
             end,
             message: bytes_of(alloc, question.setting("message").unwrap_or("")),
             sent: Vec::from_slice(alloc, &sent).ok()?,
             taken: 0,
             takes: Reply::new(alloc),
             status: Status::Talking,
-        })
+        };
+        led.bound(question);
+        Some(led)
+    }
+
+    // Bounds the end, if the question says so.
+    fn bound(&mut self, question: Question<'_>) {
+        let Some(bounds) = bounds_of(question) else {
+            return;
+        };
+        match &mut self.end {
+            End::Server(end) => end.set_bounds(bounds),
+            End::Client(client) => client.end.set_bounds(bounds),
+        }
     }
 
     fn take(&mut self, piece: &[u8]) -> Result<EndStep<A>, AllocError> {

@@ -5,6 +5,7 @@ ghost use Rattle.std.specs.Prelude.{◌≤◌, ◌^◌};
 use crate::devices::Device;
 use crate::streams::OUT_OF_MEMORY;
 use case_questions::{Memory, Question, Reply, named};
+use dbus_capture::Capture;
 use dbus_device::Source;
 use dbus_handshake_input::{ReadAhead, Side, pass_handshake};
 use dbus_message::encode;
@@ -154,6 +155,10 @@ pub(crate) fn say_read<A: Allocator + Copy>(
         }
         "lengths" => {
             let mut reader = CheckReader::within(&mut source, reads, limits);
+            ask(reply, spare, question, &mut reader)?;
+        }
+        "file" => {
+            let mut reader = CheckReader::new(Capture::new(&mut source, false));
             ask(reply, spare, question, &mut reader)?;
         }
         _ => {

@@ -8,7 +8,7 @@ ghost use Rattle.dbus_auth.specs.declared.states.ServerState.TheVariants as at;
 
 use crate::lines::guid_of;
 use case_questions::{Question, bytes_of};
-use dbus_auth::{Client, Mechanism, Server};
+use dbus_auth::{Bounds, Client, Mechanism, Server};
 use std::alloc::Allocator;
 
 /// The server of `guid=`, `user=`, `anonymous=yes` and `agrees=yes`, of which the last three may be
@@ -28,6 +28,14 @@ pub(crate) fn client_of<A: Allocator + Copy>(alloc: A, question: Question<'_>) -
 {
     let client = Client::new(mechanisms_of(alloc, question)?).ok()?;
     Some(client.with_descriptors(question.setting("asks").is_some()))
+}
+
+/// The bounds of `rejections=` and `errors=`, which are both there or neither.
+pub(crate) fn bounds_of(question: Question<'_>) -> Option<Bounds> {
+    Some(Bounds {
+        rejections: question.uint32("rejections")?,
+        errors: question.uint32("errors")?,
+    })
 }
 
 // The mechanisms of a client that `mechanisms=` says, with a comma between any two: `external:`,

@@ -3,9 +3,10 @@ use Rattle.std.proofs.Common.{◌≡◌, ◌⊎◌, ℕ, suc, ◌+◌, ◌*◌, 
 use Rattle.std.specs.Prelude.{◌||◌}
 use Rattle.std.specs.Io.KnownBytes.{Consumes, IsAtEnd, Appends}
 use Rattle.std.proofs.KnownBytes.{Appends-nil, Appends-trans, Consumes-nil, Consumes-trans}
-use Rattle.std.proofs.lemmas.List.{nil_from_length}
 use Rattle.dbus_device.specs.Device.{RisesBy, Stopped, Wrote, one_more}
+use Rattle.dbus_device.specs.Calls.{joined}
 use Rattle.dbus_device.specs.Packets.{Packets}
+use Rattle.dbus_device.proofs.CallLaws.{pieces_consumed, pieces_counted, pieces_few}
 use Rattle.cli_report.specs.Devices.{reading, taken, writing}
 use Rattle.cli_report.specs.declared.ending.Cause.{Cause}
 use Rattle.cli_report.specs.declared.ending.Cause.TheVariants.{Memory, ReadFailed, WriteFailed, TooManyReads}
@@ -88,17 +89,18 @@ module _ {R A W E : Type 0} (left : R → Option (List ℕ)) (calls failures : R
       none (x ∷ before) last e = cc
 
   -- more was read
-  pub come_on : (kept : List ℕ) (now new : LineReader R A) (outcomes : List Outcome) → HasCome kept now outcomes → (r : Reads left calls kept now new) → HasCome (kept ++ r.bytes) new outcomes
+  pub come_on : (kept : List ℕ) (now new : LineReader R A) (outcomes : List Outcome) → HasCome kept now outcomes → (r : Reads left calls failures kept now new) → HasCome (kept ++ r.bytes) new outcomes
   come_on kept now new outcomes h r = record {
     bytes = h.bytes ++ r.bytes;
     lines = h.lines;
-    count = h.count + r.count;
-    consumed = Consumes-trans _ _ _ _ _ h.consumed r.consumed;
-    called = let a = h.called in let b = r.called in omega (arith, a, b);
-    reads = r.reads ∙ ap (λ k. k + r.count) h.reads;
+    count = h.count + length r.pieces;
+    consumed = Consumes-trans _ _ _ _ _ h.consumed
+        (subst (Consumes (left (source_of now)) (left (source_of new))) (sym r.joined_are) (pieces_consumed left calls (source_of now) (source_of new) r.pieces r.called));
+    called = let a = h.called in let b = pieces_counted left calls (source_of now) (source_of new) r.pieces r.called in omega (arith, a, b);
+    reads = r.reads ∙ ap (λ k. k + length r.pieces) h.reads;
     most_reads = r.most_reads ∙ h.most_reads;
     most = r.most ∙ h.most;
-    all_few = let a = h.all_few in let b = r.all_few in let all = length-append h.bytes r.bytes in omega (arith, a, b, all);
+    all_few = let a = h.all_few in let b = pieces_few 65536 r.pieces r.few in let same = ap length r.joined_are in let all = length-append h.bytes r.bytes in omega (arith, a, b, same, all);
     at_end = λ e. r.at_end h.at_end e;
     cut = subst (λ (ls : List (List ℕ)). AreLines (is_ended new) (h.bytes ++ r.bytes) ls (kept ++ r.bytes)) (append-nil h.lines)
         (lines_go_on (is_ended now) (is_ended new) h.bytes kept r.bytes (kept ++ r.bytes) h.lines [] over h.cut refl);
@@ -107,12 +109,7 @@ module _ {R A W E : Type 0} (left : R → Option (List ℕ)) (calls failures : R
   }
     where
       over : is_ended now ≡ true → (r.bytes ≡ []) × (is_ended new ≡ true)
-      over e =
-          let s = r.settled e in
-          let none = s.0 in
-          let few = r.all_few in
-          let zero : length r.bytes ≡ 0 = omega (arith, none, few) in
-          (nil_from_length r.bytes zero, s.1)
+      over e = let s = r.settled e in (r.joined_are ∙ ap joined s.0, s.1)
 
   -- one line more
   pub come_more : (all : List ℕ) (now : LineReader R A) (outcomes : List Outcome) (h : HasCome all now outcomes) (l : GivesLine (is_ended now) all now) (done : Outcome)
@@ -188,7 +185,7 @@ module _ {R A W E : Type 0} (left : R → Option (List ℕ)) (calls failures : R
     }
 
     -- more was read, and what was gathered may have been written
-    pub reads_on : (kept : List ℕ) (now new : LineReader R A) (encoder after : Encoder A) (w1 w2 : W) (e1 : E) → HasEncoded kept now encoder w1 e1 → (r : Reads left calls kept now new)
+    pub reads_on : (kept : List ℕ) (now new : LineReader R A) (encoder after : Encoder A) (w1 w2 : W) (e1 : E) → HasEncoded kept now encoder w1 e1 → (r : Reads left calls failures kept now new)
         → SameState encoder after → Passes held write_failures [] (gathered_bytes encoder.gathered) (gathered_bytes after.gathered) w1 w2 → failures (source_of new) ≡ failures (source_of now)
         → HasEncoded (kept ++ r.bytes) new after w2 e1
     reads_on kept now new encoder after w1 w2 e1 h r same p f = record {
@@ -249,7 +246,7 @@ module _ {R A W E : Type 0} (left : R → Option (List ℕ)) (calls failures : R
 
     -- no line came, for this cause
     pub stops_reading : (cause : Cause) (kept : List ℕ) (now new : LineReader R A) (encoder after : Encoder A) (w1 w2 : W) (e1 : E) (h : HasEncoded kept now encoder w1 e1)
-        (r : Reads left calls kept now new) → LineAnswers (kept ++ r.bytes) new (Err cause) → Settles held write_failures (gathered_bytes encoder.gathered) (gathered_bytes after.gathered) w1 w2 (Err cause)
+        (r : Reads left calls failures kept now new) → LineAnswers (kept ++ r.bytes) new (Err cause) → Settles held write_failures (gathered_bytes encoder.gathered) (gathered_bytes after.gathered) w1 w2 (Err cause)
         → ReadFails (failures (source_of now)) (failures (source_of new)) (Err cause) → Came_some new w2 e1 (ByCause cause)
     stops_reading Memory kept now new encoder after w1 w2 e1 h r a s f = record {
       outcomes = h.outcomes;

@@ -24,7 +24,7 @@ within most bytes line there e h = subst (λ (l : Option (Bor (List ℕ))). IsWi
 
 -- where it is refused
 pub place_of : (line : List ℕ) (f : LineFault) → IsPlaceOf line f → IsPlaceOf line (record { reason = f.reason; at = f.at })
-place_of line f h = record { within = h.within; not_utf8 = h.not_utf8; not_json = h.not_json; token = h.token }
+place_of line f h = record { within = h.within; not_utf8 = h.not_utf8; only_not_utf8 = h.only_not_utf8; not_json = h.not_json; only_not_json = h.only_not_json; token = h.token }
 
 -- it is not blank
 pub not_blank : (blank : Bool) (line bytes : List ℕ) → line ≡ bytes → blank ≡ false → IsTrue blank ↔ IsBlank line → IsBlank bytes → ⊥

@@ -55,7 +55,7 @@ fn next_line<R: Source, A: Allocator + Copy, W: Sink>(
     first: &mut W,
 ) -> Result<bool, Cause>
     ensures reads { (w : List ℕ) → Keeps lines.old w →
-        (r : Reads R.left R.calls w lines.old lines.new) ×
+        (r : Reads R.left R.calls R.failures w lines.old lines.new) ×
         LineAnswers (w ++ r.bytes) lines.new result }
     ensures settles { Settles W.held W.failures (gathered_bytes encoder.old.gathered)
         (gathered_bytes encoder.new.gathered) first.old first.new result }

@@ -43,9 +43,8 @@ pub record AreSameSelection (a b : Selection) : Type 0 where
 -- When two commands are the same: their names are, and so is what belongs to them.
 
 -- both are `Show`, with times or without, and with escapes or without; or both `Json`, with times
--- or without, and with safe integers or without; or both are `Check`; or `List` by the same
--- selection, of one width; or `Swap` to one order, or `Filter` by the same selection, in the same
--- form
+-- or without, and with safe integers or without; or both are `Check`; or `Swap` to one order, or
+-- `Filter` by the same selection, in the same form
 abbrev pub AreSameCommand : Command → Command → Type 0
 AreSameCommand (Show a x) (Show b y) = (a ≡ b) × (x ≡ y)
 AreSameCommand (Json a x) (Json b y) = (a ≡ b) × (x ≡ y)

@@ -32,7 +32,7 @@ use Rattle.cli_run.specs.ByName.{IsUnwritten, LeavesCounted, Tallies, CountsMess
 use Rattle.cli_run.specs.Going.{Covers, Goes, GoesThrough, IsMore, IsStopOf, IsToldIn, IsToldLast, StopsWithin}
 use Rattle.cli_run.specs.Onward.{HasPacketsIf, HasRead, HandsAllOn, HandsOn, HandsSomeOn}
 use Rattle.cli_run.specs.Refusals.{IsFaultIn, IsRefusedIn, number_of}
-use Rattle.cli_run.specs.Inputs.{Placed, sizes_of, wholes}
+use Rattle.cli_run.specs.Inputs.{Placed, looked_in, sizes_of, wholes}
 use Rattle.cli_run.specs.Output.{fault_line}
 use Rattle.cli_run.specs.Told.{GotSecond}
 use Rattle.cli_run.specs.Visiting.{AddsUp, FillsBy, WantsAll}
@@ -125,7 +125,7 @@ module _ {R : Type 0} (left : R → Option (List ℕ)) (calls failures : R → �
     called = (h.count, omega (arith, h.reads, h.most_reads, is.reads, new.few_reads), h.called);
     begin = parts_of settings.limits h.bytes items rest h.messages;
     ends = λ reached. absurd (false≢true (sym (reach_wholes items) ∙ reached));
-    tells = told_of (packets (source_of old)) settings 1 0 items;
+    tells = told_of (packets (source_of old)) settings 1 0 0 items;
   }
 
   abbrev HandsSome : Cause → Type 0
@@ -167,7 +167,7 @@ module _ {R : Type 0} (left : R → Option (List ℕ)) (calls failures : R → �
           fault_is = a.fault_is;
           told = subst (λ n. IsToldLast (packets (source_of old)) settings (length (wholes a.items) + 1) n a.rest counted.fault (fault_line counted.size counted.fault packet_last)) (size ∙ sym (sizes-wholes a.items)) told;
         };
-        last = is_last (packets (source_of old)) settings settings.limits (sizes_of (wholes a.items)) a.rest a.outcome (IsAtEnd (left (source_of new))) plain_told.1
+        last = is_last (packets (source_of old)) settings settings.limits (sizes_of (wholes a.items)) (looked_in (wholes a.items)) a.rest a.outcome (IsAtEnd (left (source_of new))) plain_told.1
             (λ none. a.read.at_end (λ e. absurd (both_ways _ e is.ended)) (a.ended none));
         read_failed = a.failed;
       }

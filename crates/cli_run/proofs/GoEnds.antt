@@ -17,16 +17,17 @@ use Rattle.dbus_device.specs.Packets.{Packets}
 use Rattle.dbus_device.specs.declared.packet.Packet.{Packet}
 use Rattle.dbus_resync.specs.declared.found.Found.{Found}
 use Rattle.dbus_resync.specs.declared.found.Found.TheVariants.{At, Nowhere, Spent}
+use Rattle.dbus_resync.specs.declared.found.Searched.{Searched}
 use Rattle.dbus_stream.specs.Cut.{CutOutcome, Ended, Unfinished, Refused, IsOutcome}
 use Rattle.dbus_stream.specs.CutEnds.{fault_at_end, truncated}
-use Rattle.dbus_stream.specs.GoingOn.{IsFoundIn, ReadsToGoOn, Resyncs, StaysThere, ahead_of}
+use Rattle.dbus_stream.specs.GoingOn.{FindsIn, IsFoundIn, ReadsToGoOn, Resyncs, StaysThere, ahead_of, checked, counted as count_looked, effort_in, effort_of}
 use Rattle.dbus_stream.specs.Gathering.{gathering, under_way}
 use Rattle.dbus_stream.specs.Lasting.{is_truncated}
 use Rattle.dbus_stream.specs.Next.{DeviceCounts, IsCutShort}
 use Rattle.dbus_stream.specs.Packed.{number_of as packed_number}
 use Rattle.dbus_stream.specs.Passing.{IsRefusal, PassAnswers, Passing}
 use Rattle.dbus_stream.specs.PassingPackets.{DropsAll, IsBeforeOther, PacketAnswers, PassesPacket, ReadsOnward}
-use Rattle.dbus_stream.specs.RawReading.{done_of, is_ended, kept, limits_of, most_reads_of, read_of, reads_of, source_of, stopped_of}
+use Rattle.dbus_stream.specs.RawReading.{done_of, is_ended, kept, limits_of, looked_of, most_reads_of, read_of, reads_of, source_of, stopped_of}
 use Rattle.dbus_stream.specs.Reading.{part_of}
 use Rattle.dbus_stream.specs.StatedSizes.{StatesNone, StatesSize, WantsMore}
 use Rattle.dbus_stream.specs.declared.passed.Passed.{Passed}
@@ -39,7 +40,7 @@ use Rattle.dbus_stream.proofs.SizeSteps.{size_once, sizes_tell}
 use Rattle.cli_options.specs.declared.resync.Resync.{Resync}
 use Rattle.cli_options.specs.declared.resync.Resync.TheVariants.{Off, Within as Sought}
 use Rattle.cli_run.specs.Going.{IsAllOf, IsSought, cause_of, AreTold, IsTold, IsToldRefused, cut_tally, passed_count, passed_sizes, tally_with}
-use Rattle.cli_run.specs.Inputs.{AreInPacket, BeginNowhere, BeginWithParts, By, GoesPast, InPacket, IsCutOff, IsCutUnpassed, IsFaultOf, IsInOther, IsLast, IsPart, IsPassedBy, IsLarger, IsTellable, IsUnpassed, PassedOver, PastWindow, Placed, ResumeIn, Resumed, Stated, WantsMoreBy, effort_of, is_there, is_to_end, reach_end, sizes_of}
+use Rattle.cli_run.specs.Inputs.{AreInPacket, BeginNowhere, BeginWithParts, By, GoesPast, InPacket, IsCutOff, IsCutUnpassed, IsFaultOf, IsInOther, IsLast, IsPart, IsPassedBy, IsLarger, IsTellable, IsUnpassed, PassedOver, PastWindow, Placed, ResumeIn, Resumed, Seek, Stated, WantsMoreBy, is_there, is_to_end, looked_for, looked_in, reach_end, seek_of, sizes_of}
 use Rattle.cli_run.specs.Onward.{HasKnownPackets, HasRead, stop_of}
 use Rattle.cli_run.specs.PassingOn.{BySize, PassesBy, PassesInPacket, PassesLarger, PassesOn, ToNext, ToPacket, Way, way_of}
 use Rattle.cli_run.specs.Refusals.{IsRefusedIn, number_of}
@@ -51,7 +52,7 @@ use Rattle.cli_run.specs.declared.counted.Counted.{Counted}
 use Rattle.cli_run.specs.declared.tally.Tally.{Tally}
 use Rattle.cli_run.specs.declared.visitor.RunStop.{RunStop}
 use Rattle.cli_run.specs.declared.visitor.RunStop.TheVariants.{Cause as ByCause, Untold}
-use Rattle.cli_run.proofs.PartLaws.{is_fault_of, larger_more, nowhere_more, part_some, parts_more, placed_past, sizes-both, passed-both, passed_sizes-both}
+use Rattle.cli_run.proofs.PartLaws.{StayNowhere, is_fault_of, larger_more, looked-both, nowhere_more, part_some, parts_more, placed_past, sizes-both, passed-both, passed_sizes-both}
 use Rattle.cli_run.proofs.ReadSteps.{read_none, read_on}
 use Rattle.cli_run.proofs.Ways.{way_cut, way_next, way_packet, way_size}
 use Rattle.cli_run.proofs.GoSteps.{fresh, Begun, Fills, HasCovered, HasEnded, HasGone, HasReached, refused_is, none_is, covers_read, covers, packets_of, Took, Within, Through, Stopped, More, stops_plain, all_called}
@@ -89,7 +90,7 @@ module _ {R A S : Type 0} {takes : S → S → List Placed → (told : List ℕ)
           tally_is = g.tally_is;
           kept = kept mid;
           tells = record { outcome = h.outcome; outcome_is = h.outcome_is; fault_is = no_fault; told = refl };
-          last = subst (λ o. IsLast (packets_of run) None run.settings run.settings.limits (sizes_of g.parts) (kept mid) (kept mid) o (IsAtEnd (run.left (source_of mid)))) (sym ended) (refl, at_end);
+          last = subst (λ o. IsLast (packets_of run) None run.settings run.settings.limits (sizes_of g.parts) (looked_in g.parts) (kept mid) (kept mid) o (IsAtEnd (run.left (source_of mid)))) (sym ended) (refl, at_end);
           read_failed = g.failed;
         };
         messages = items;
@@ -129,7 +130,7 @@ module _ {R A S : Type 0} {takes : S → S → List Placed → (told : List ℕ)
     -- all was read up to the rest
     abbrev through : (new : RawReader R A) (cut : Option (Option ℕ)) (ended : Tally) (text rest : List ℕ) (outcome : CutOutcome) → ended ≡ tally_with cut h.gone.parts rest → Due text → IsOutcome run.settings.limits (kept mid) outcome
         → Some fault ≡ fault_at_end (kept mid) outcome → HasCovered run new h.gone.parts rest h.gone.told
-        → IsLast (packets_of run) cut run.settings run.settings.limits (sizes_of h.gone.parts) (kept mid) rest outcome (IsAtEnd (run.left (source_of new)))
+        → IsLast (packets_of run) cut run.settings run.settings.limits (sizes_of h.gone.parts) (looked_in h.gone.parts) (kept mid) rest outcome (IsAtEnd (run.left (source_of new)))
         → run.failures (source_of new) ≡ run.failures (source_of mid) → Through run new ended (Some fault) h.gone.told text
     through new cut ended text rest outcome tally_is told outcome_is fault_is covered last same = record {
       parts = h.gone.parts;
@@ -153,6 +154,19 @@ module _ {R A S : Type 0} {takes : S → S → List Placed → (told : List ℕ)
     abbrev way : Way
     way = way_of refusal run.settings.resync
 
+    -- how messages are looked for behind it
+    abbrev effort : (window : ℕ) → ℕ
+    effort window = effort_of window (sizes_of h.gone.parts) (looked_in h.gone.parts + fault.at)
+
+    abbrev seek_by : Resync → Seek
+    seek_by r = seek_of r (sizes_of h.gone.parts) (looked_in h.gone.parts + fault.at)
+
+    abbrev seek : Seek
+    seek = seek_by run.settings.resync
+
+    effort_is : (window : ℕ) → effort_in window mid ≡ effort window
+    effort_is window = λ i. effort_of window (h.gone.done i) (h.gone.looked i + checked (stopped_last i))
+
     -- it could not be passed over by a size, since it states none
     abbrev IsUnsized : Type 0
     IsUnsized = (way ≡ BySize) × ((other : Fault) → IsRefusal (stopped_of mid) other → StatesNone (limits_of mid) (kept mid))
@@ -162,26 +176,36 @@ module _ {R A S : Type 0} {takes : S → S → List Placed → (told : List ℕ)
     refused_by by is = subst (λ (p : Option ℕ). IsRefusedIn (packets_of run) run.settings.limits (sizes_of h.gone.parts) (kept mid) p) is refused_at
 
     -- why it was not passed over then
-    cut_unsized : (at_end : Type 0) (r : Resync) → run.settings.resync ≡ r → IsUnsized → IsCutUnpassed (packets_of run) r run.settings.limits (sizes_of h.gone.parts) (kept mid) (kept mid) at_end
+    cut_unsized : (at_end : Type 0) (r : Resync) → run.settings.resync ≡ r → IsUnsized → IsCutUnpassed (packets_of run) (seek_by r) run.settings.limits (sizes_of h.gone.parts) (kept mid) (kept mid) at_end
     cut_unsized at_end Off is unsized = tt
     cut_unsized at_end (Sought w) is unsized = (packet, refused_at, λ none. absurd (way_cut packet (is_truncated fault.reason) w (subst (λ (r : Resync). way_of refusal r ≡ BySize) is unsized.0) none))
 
-    unsized_is : (at_end : Type 0) → IsUnsized → is_truncated fault.reason ≡ false → IsUnpassed (packets_of run) run.settings.resync run.settings.limits (sizes_of h.gone.parts) (kept mid) (kept mid) at_end
+    unsized_is : (at_end : Type 0) → IsUnsized → is_truncated fault.reason ≡ false → IsUnpassed (packets_of run) seek run.settings.limits (sizes_of h.gone.parts) (kept mid) (kept mid) at_end
     unsized_is at_end unsized whole =
         let by = way_size packet (is_truncated fault.reason) run.settings.resync unsized.0 whole in
-        subst (λ (r : Resync). IsUnpassed (packets_of run) r run.settings.limits (sizes_of h.gone.parts) (kept mid) (kept mid) at_end) (sym by.1)
+        subst (λ (r : Resync). IsUnpassed (packets_of run) (seek_by r) run.settings.limits (sizes_of h.gone.parts) (kept mid) (kept mid) at_end) (sym by.1)
         (refused_by None by.0, subst (λ (l : Limits). StatesNone l (kept mid)) limits_are (unsized.1 fault (stopped_last, whole)))
 
     -- why nothing follows if nothing was passed over
     last_is : (outcome : CutOutcome) → Some fault ≡ fault_at_end (kept mid) outcome → (((f : Fault) → outcome ≡ Refused f → ⊥) → IsAtEnd (run.left (source_of mid))) → (run.settings.keeps_going ≡ true → IsUnsized)
-        → IsLast (packets_of run) None run.settings run.settings.limits (sizes_of h.gone.parts) (kept mid) (kept mid) outcome (IsAtEnd (run.left (source_of mid)))
+        → IsLast (packets_of run) None run.settings run.settings.limits (sizes_of h.gone.parts) (looked_in h.gone.parts) (kept mid) (kept mid) outcome (IsAtEnd (run.left (source_of mid)))
     last_is (Refused other) e at_end none =
         let same : fault ≡ other = cc in (
           ([], sym (append-nil (kept mid))),
           λ _. refl,
-          λ goes whole. unsized_is (IsAtEnd (run.left (source_of mid))) (none goes) (subst (λ (f : Fault). is_truncated f.reason ≡ false) (sym same) whole),
+          λ goes whole.
+              subst (λ (f : Fault). IsUnpassed (packets_of run) (seek_of run.settings.resync (sizes_of h.gone.parts) (looked_in h.gone.parts + f.at)) run.settings.limits (sizes_of h.gone.parts) (kept mid) (kept mid) (IsAtEnd (run.left (source_of mid)))) same
+              (unsized_is (IsAtEnd (run.left (source_of mid))) (none goes) (subst (λ (f : Fault). is_truncated f.reason ≡ false) (sym same) whole)),
         )
-    last_is Unfinished e at_end none = (refl, at_end (λ f is. absurd cc), λ goes. cut_unsized (IsAtEnd (run.left (source_of mid))) run.settings.resync refl (none goes))
+    last_is Unfinished e at_end none =
+        let same : fault ≡ truncated (kept mid) = cc in
+        let at : fault.at ≡ length (kept mid) = ap (λ (f : Fault). f.at) same in (
+          refl,
+          at_end (λ f is. absurd cc),
+          λ goes.
+              subst (λ (n : ℕ). IsCutUnpassed (packets_of run) (seek_of run.settings.resync (sizes_of h.gone.parts) (looked_in h.gone.parts + n)) run.settings.limits (sizes_of h.gone.parts) (kept mid) (kept mid) (IsAtEnd (run.left (source_of mid)))) at
+              (cut_unsized (IsAtEnd (run.left (source_of mid))) run.settings.resync refl (none goes)),
+        )
     last_is Ended e at_end none = absurd cc
 
     -- nothing was passed over, if the run is not to go on, or could not
@@ -252,22 +276,23 @@ module _ {R A S : Type 0} {takes : S → S → List Placed → (told : List ℕ)
         by : By
         size : ℕ
         part : IsPart run.settings.limits rest (PassedOver (kept mid) fault by size)
-        passed : IsPassedBy (packets_of run) run.settings.resync run.settings.limits (sizes_of h.gone.parts) (kept mid) by size
+        passed : IsPassedBy (packets_of run) seek run.settings.limits (sizes_of h.gone.parts) (kept mid) by size
         kept_is : kept new ≡ drop size rest
         done_is : done_of new ≡ done_of mid + size
+        looked_is : looked_of new ≡ looked_for by fault.at (sizes_of h.gone.parts) (looked_in h.gone.parts)
         stopped_is : stopped_of new ≡ None
         ends : is_to_end by ≡ true → is_ended new ≡ true
 
       -- not all of it came
       abbrev IsPast : List ℕ → Type 0
-      IsPast rest = IsRefused run.settings.limits (kept mid) fault × GoesPast (packets_of run) run.settings.resync run.settings.limits (sizes_of h.gone.parts) (kept mid) rest packet
+      IsPast rest = IsRefused run.settings.limits (kept mid) fault × GoesPast (packets_of run) seek run.settings.limits (sizes_of h.gone.parts) (kept mid) rest packet
 
       -- it was looked for where messages begin again
       abbrev IsSeeking : Type 0
       IsSeeking = (window : ℕ) × (packet ≡ None) × (run.settings.resync ≡ Sought window)
 
       abbrev IsLost : List ℕ → Type 0
-      IsLost rest = (window : ℕ) × (packet ≡ None) × (run.settings.resync ≡ Sought window) × BeginNowhere run.settings.limits window rest (is_ended new ≡ true)
+      IsLost rest = (window : ℕ) × (packet ≡ None) × (run.settings.resync ≡ Sought window) × BeginNowhere run.settings.limits window (effort window) rest (is_ended new ≡ true)
           × (is_truncated fault.reason ≡ false → IsLarger run.settings.limits window rest → ⊥)
 
       abbrev StatesNoSize : List ℕ → Type 0
@@ -305,34 +330,35 @@ module _ {R A S : Type 0} {takes : S → S → List Placed → (told : List ℕ)
         past_plain rest other refused wants =
             let plain = way_plain other refused in (
               met other refused,
-              subst (λ (p : Option ℕ). GoesPast (packets_of run) run.settings.resync run.settings.limits (sizes_of h.gone.parts) (kept mid) rest p) (sym plain.0)
-                  (subst (λ (r : Resync). WantsMoreBy r run.settings.limits rest) (sym plain.1) (subst (λ (l : Limits). WantsMore l rest) limits_are wants)),
+              subst (λ (p : Option ℕ). GoesPast (packets_of run) seek run.settings.limits (sizes_of h.gone.parts) (kept mid) rest p) (sym plain.0)
+                  (subst (λ (r : Resync). WantsMoreBy (seek_by r) run.settings.limits rest) (sym plain.1) (subst (λ (l : Limits). WantsMore l rest) limits_are wants)),
             )
 
-        came_by_size : (more : List ℕ) (other : Fault) → IsRefusal (stopped_of mid) other → (res : Result Passed ReadFault) → PassAnswers [] (kept mid ++ more) mid new res → CameTo (kept mid ++ more) res
-        came_by_size more other refused (Ok Over) p =
+        came_by_size : looked_of new ≡ looked_of mid → (more : List ℕ) (other : Fault) → IsRefusal (stopped_of mid) other → (res : Result Passed ReadFault) → PassAnswers [] (kept mid ++ more) mid new res → CameTo (kept mid ++ more) res
+        came_by_size looked more other refused (Ok Over) p =
             let done = p.done in
             let plain = way_plain other refused in
             record {
               by = Stated;
               size = p.size;
               part = ((more, refl), met other refused, (subst (λ (l : Limits). StatesSize l (kept mid ++ more) p.size) limits_are p.states, p.there));
-              passed = (plain.1, refused_by None plain.0);
+              passed = (ap seek_by plain.1, refused_by None plain.0);
               kept_is = p.kept;
               done_is = omega (arith, done);
+              looked_is = looked ∙ h.gone.looked;
               stopped_is = p.stopped;
               ends = λ e. absurd (false≢true e);
             }
-        came_by_size more other refused (Ok CutOff) p = let done = p.1.done in (past_plain (kept mid ++ more) other refused p.0, p.2, omega (arith, done))
-        came_by_size more other refused (Ok Not) p =
+        came_by_size looked more other refused (Ok CutOff) p = let done = p.1.done in (past_plain (kept mid ++ more) other refused p.0, p.2, omega (arith, done))
+        came_by_size looked more other refused (Ok Not) p =
             let plain = way_plain other refused in
             inl (met other refused, plain.0, plain.1, subst (λ (l : Limits). StatesNone l (kept mid ++ more)) limits_are p.0)
-        came_by_size more other refused (Err read.Device) p = inl (past_plain (kept mid ++ more) other refused p.0)
-        came_by_size more other refused (Err read.TooManyReads) p = (inl (past_plain (kept mid ++ more) other refused p.0), p.2)
-        came_by_size more other refused res p = absurd p
+        came_by_size looked more other refused (Err read.Device) p = inl (past_plain (kept mid ++ more) other refused p.0)
+        came_by_size looked more other refused (Err read.TooManyReads) p = (inl (past_plain (kept mid ++ more) other refused p.0), p.2)
+        came_by_size looked more other refused res p = absurd p
 
-        by_size : (res : Result Passed ReadFault) → Passing run.left run.calls mid new res → HasOnward res ⊎ ((res ≡ Ok Not) × (new ≡ mid) × IsUnsized)
-        by_size res passing = elim passing [
+        by_size : looked_of new ≡ looked_of mid → (res : Result Passed ReadFault) → Passing run.left run.calls mid new res → HasOnward res ⊎ ((res ≡ Ok Not) × (new ≡ mid) × IsUnsized)
+        by_size looked res passing = elim passing [
           | inl p ↦ (
               let refused = met p.0 p.1 in
               let all = p.2 [] (fresh mid (some_kept refused)) in
@@ -340,7 +366,7 @@ module _ {R A S : Type 0} {takes : S → S → List Placed → (told : List ℕ)
                 rest = kept mid ++ all.0.bytes;
                 reads = read_on gathering run.left run.calls run.settings.limits (kept mid) (λ before. WantsMore (limits_of mid) (kept mid ++ before)) mid.reader mid.reader new.reader [] (kept mid)
                     (read_none gathering run.left run.calls run.settings.limits (kept mid) mid.reader limits_are) all.0;
-                came_to = came_by_size all.0.bytes p.0 p.1 res all.1;
+                came_to = came_by_size looked all.0.bytes p.0 p.1 res all.1;
               })
               )
           | inr none ↦ inr (
@@ -364,37 +390,50 @@ module _ {R A S : Type 0} {takes : S → S → List Placed → (told : List ℕ)
 
         -- for what it was refused
         fault_by : (more : List ℕ) → (is_ended mid ≡ true → more ≡ []) → (is_ended mid ≡ true → is_ended new ≡ true) → (ahead_of window ≤ length (kept mid ++ more)) ⊎ (is_ended new ≡ true)
-            → (end : Bool) × IsFaultOf run.settings.limits (kept mid) (kept mid ++ more) fault (Resumed window end) × (end ≡ false → window ≤ length (kept mid ++ more)) × (end ≡ true → is_ended new ≡ true)
+            → (end : Bool) × ((n : ℕ) → IsFaultOf run.settings.limits (kept mid) (kept mid ++ more) fault (Resumed window (effort window) n end)) × (end ≡ false → window ≤ length (kept mid ++ more)) × (end ≡ true → is_ended new ≡ true)
         fault_by more none still all = elim (either h.outcome h.outcome_is fault_last h.ended) [
-          | inl refused ↦ (let w = wide_or_end (kept mid ++ more) all in (w.0, is_fault_of run.settings.limits (kept mid ++ more) (kept mid) fault (Resumed window w.0) refused, w.1, w.2))
-          | inr cut ↦ (true, inr (sym (append-nil (kept mid)) ∙ ap (λ (l : List ℕ). kept mid ++ l) (sym (none cut.0)), cut.1), (λ e. absurd (false≢true (sym e))), λ _. still cut.0)
+          | inl refused ↦ (let w = wide_or_end (kept mid ++ more) all in (w.0, λ n. is_fault_of run.settings.limits (kept mid ++ more) (kept mid) fault (Resumed window (effort window) n w.0) refused, w.1, w.2))
+          | inr cut ↦ (true, λ n. inr (sym (append-nil (kept mid)) ∙ ap (λ (l : List ℕ). kept mid ++ l) (sym (none cut.0)), cut.1), (λ e. absurd (false≢true (sym e))), λ _. still cut.0)
         ]
 
-        nowhere_is : (more : List ℕ) (found : Found) → is_there found ≡ false → IsFoundIn true (limits_of mid) window (effort_of window) (is_ended new) (kept mid ++ more) found → BeginNowhere run.settings.limits window (kept mid ++ more) (is_ended new ≡ true)
-        nowhere_is more found none f = record {
-          found = found;
-          nowhere = none;
-          resumes = subst (λ (l : Limits). ResumeIn l window (kept mid ++ more) found) limits_are f.1;
-          all = λ short. elim f.0 [ inl wide ↦ absurd (omega (arith, wide, short)) | inr end ↦ end ];
-        }
+        -- what counts as looked at
+        counts_is : (n : ℕ) → looked_of new ≡ count_looked window (done_of mid) (looked_of mid) (checked (stopped_of mid) + n) → looked_of new ≡ count_looked window (sizes_of h.gone.parts) (looked_in h.gone.parts) (fault.at + n)
+        counts_is n counts = counts ∙ (λ i. count_looked window (h.gone.done i) (h.gone.looked i) (checked (stopped_last i) + n))
+
+        resumes_is : (more : List ℕ) (s : Searched) → IsFoundIn true (limits_of mid) window (effort_in window mid) (is_ended new) (kept mid ++ more) s → ResumeIn run.settings.limits window (effort window) (kept mid ++ more) s
+        resumes_is more s f = transport (λ i. ResumeIn (limits_are i) window (effort_is window i) (kept mid ++ more) s) f.1
+
+        nowhere_is : (more : List ℕ) (found : Found) → is_there found ≡ false → FindsIn (kept mid ++ more) mid new true window found
+            → (b : BeginNowhere run.settings.limits window (effort window) (kept mid ++ more) (is_ended new ≡ true)) × (looked_of new ≡ count_looked window (sizes_of h.gone.parts) (looked_in h.gone.parts) (fault.at + b.searched.looked))
+        nowhere_is more found none f = (
+          record {
+            searched = record { found = found; looked = f.looked };
+            nowhere = none;
+            resumes = resumes_is more (record { found = found; looked = f.looked }) f.is_found;
+            all = λ short. elim f.is_found.0 [ inl wide ↦ absurd (omega (arith, wide, short)) | inr end ↦ end ];
+          },
+          counts_is f.looked f.counts,
+        )
 
         -- it is gone on there
-        came_there : (more : List ℕ) → (is_ended mid ≡ true → more ≡ []) → (is_ended mid ≡ true → is_ended new ≡ true) → (size : ℕ) → Resyncs (kept mid ++ more) mid new window (effort_of window) (Ok (At size)) → CameTo (kept mid ++ more) (Ok Over)
+        came_there : (more : List ℕ) → (is_ended mid ≡ true → more ≡ []) → (is_ended mid ≡ true → is_ended new ≡ true) → (size : ℕ) → Resyncs (kept mid ++ more) mid new window (Ok (At size)) → CameTo (kept mid ++ more) (Ok Over)
         came_there more none still size g =
-            let f = fault_by more none still g.0.0 in
+            let n = g.0.looked in
+            let f = fault_by more none still g.0.is_found.0 in
             record {
-              by = Resumed window f.0;
+              by = Resumed window (effort window) n f.0;
               size = size;
-              part = ((more, refl), f.1, (subst (λ (l : Limits). ResumeIn l window (kept mid ++ more) (At size)) limits_are g.0.1, f.2));
-              passed = (way_seeks.1, refused_by None way_seeks.0);
+              part = ((more, refl), f.1 n, (resumes_is more (record { found = At size; looked = n }) g.0.is_found, f.2));
+              passed = (ap seek_by way_seeks.1, refused_by None way_seeks.0);
               kept_is = g.1.kept;
               done_is = g.1.done;
+              looked_is = counts_is n g.0.counts;
               stopped_is = g.1.stopped;
               ends = f.3;
             }
 
         -- or not, since it could not be read so far
-        came_failed : (more : List ℕ) (broken : ReadFault) → Resyncs (kept mid ++ more) mid new window (effort_of window) (Err broken) → CameTo (kept mid ++ more) (Err broken)
+        came_failed : (more : List ℕ) (broken : ReadFault) → Resyncs (kept mid ++ more) mid new window (Err broken) → CameTo (kept mid ++ more) (Err broken)
         came_failed more read.Memory g = (window, way_seeks.0, way_seeks.1)
         came_failed more (read.Format f) g = absurd g
         came_failed more read.Device g = inr (window, way_seeks.0, way_seeks.1)
@@ -409,7 +448,7 @@ module _ {R A S : Type 0} {takes : S → S → List Placed → (told : List ℕ)
         went r res came = record { rest = kept mid ++ r.bytes; reads = reads_ahead r; came_to = came }
 
       -- in a capture up to the next packet
-      module _ (known : HasKnownPackets run.packets run.packet mid (packets_of run)) (packed : way ≡ ToPacket) where
+      module _ (known : HasKnownPackets run.packets run.packet mid (packets_of run)) (packed : way ≡ ToPacket) (looked : looked_of new ≡ looked_of mid) where
         in_known : (all : Option Packets) → HasKnownPackets run.packets run.packet mid all → (number : ℕ) → packed_number (run.packet (source_of mid)) ≡ Some number → (res : Result Passed ReadFault) → PassesInPacket run.packets run.packet mid new res
             → AreInPacket all number (read_of mid) (done_of new) × (res ≡ Ok Over → IsInOther all number (done_of new))
         in_known None has number is res p = (tt, λ _. tt)
@@ -433,7 +472,7 @@ module _ {R A S : Type 0} {takes : S → S → List Placed → (told : List ℕ)
               let long : done_of new ≡ done_of mid + length all_there = omega (arith, done, length-append (kept mid) r.bytes) in
               let place : done_of new ≡ sizes_of h.gone.parts + length all_there = omega (arith, long, h.gone.done) in
               let past = transport (λ i. AreInPacket (packets_of run) number (read_there i) (place i)) (in_known (packets_of run) known number is res p).0 in
-              ((refused_packed, subst (λ (p : Option ℕ). GoesPast (packets_of run) run.settings.resync run.settings.limits (sizes_of h.gone.parts) (kept mid) all_there p) (sym by) past), long)
+              ((refused_packed, subst (λ (p : Option ℕ). GoesPast (packets_of run) seek run.settings.limits (sizes_of h.gone.parts) (kept mid) all_there p) (sym by) past), long)
 
           came_by_packet : (res : Result Passed ReadFault) → PassesInPacket run.packets run.packet mid new res → PacketAnswers run.left run.calls run.packet mid new number r res → CameTo all_there res
           came_by_packet (Ok Over) p g =
@@ -459,6 +498,7 @@ module _ {R A S : Type 0} {takes : S → S → List Placed → (told : List ℕ)
                 );
                 kept_is = g.kept ∙ (sym (drop-append_seam (kept mid ++ r.before) r.last) ∙ ap (λ (l : List ℕ). drop size l) (sym rest));
                 done_is = long;
+                looked_is = looked ∙ h.gone.looked;
                 stopped_is = g.stopped;
                 ends = λ e. absurd (false≢true e);
               }
@@ -484,7 +524,8 @@ module _ {R A S : Type 0} {takes : S → S → List Placed → (told : List ℕ)
 
     -- messages begin again nowhere in the window, and far is the reader that found that
     module _ (window : ℕ) (seeks : way ≡ ToNext window) (far : RawReader R A) (ahead : ReadsToGoOn window run.left run.calls mid far) (stays : StaysThere (kept mid ++ ahead.bytes) mid far)
-        (nowhere : BeginNowhere run.settings.limits window (kept mid ++ ahead.bytes) (is_ended far ≡ true)) where
+        (nowhere : BeginNowhere run.settings.limits window (effort window) (kept mid ++ ahead.bytes) (is_ended far ≡ true))
+        (counts : looked_of far ≡ count_looked window (sizes_of h.gone.parts) (looked_in h.gone.parts) (fault.at + nowhere.searched.looked)) where
       abbrev found_none : List ℕ
       found_none = kept mid ++ ahead.bytes
 
@@ -506,8 +547,8 @@ module _ {R A S : Type 0} {takes : S → S → List Placed → (told : List ℕ)
         abbrev all_read : List ℕ
         all_read = found_none ++ more
 
-        nowhere_all : BeginNowhere run.settings.limits window all_read (Unit {0})
-        nowhere_all = nowhere_more run.settings.limits window found_none more (is_ended far ≡ true) none nowhere
+        nowhere_all : StayNowhere run.settings.limits window (effort window) nowhere.searched all_read
+        nowhere_all = nowhere_more run.settings.limits window (effort window) found_none more (is_ended far ≡ true) none nowhere
 
         larger_all : IsLarger run.settings.limits window all_read
         larger_all = larger_more run.settings.limits window found_none more larger
@@ -516,34 +557,35 @@ module _ {R A S : Type 0} {takes : S → S → List Placed → (told : List ℕ)
         past_larger wants =
             let by = way_seeks far window seeks in (
               met other refused,
-              subst (λ (p : Option ℕ). GoesPast (packets_of run) run.settings.resync run.settings.limits (sizes_of h.gone.parts) (kept mid) all_read p) (sym by.0)
-                  (subst (λ (r : Resync). WantsMoreBy r run.settings.limits all_read) (sym by.1) (nowhere_all, larger_all, subst (λ (l : Limits). WantsMore l all_read) limits_far wants)),
+              subst (λ (p : Option ℕ). GoesPast (packets_of run) seek run.settings.limits (sizes_of h.gone.parts) (kept mid) all_read p) (sym by.0)
+                  (subst (λ (r : Resync). WantsMoreBy (seek_by r) run.settings.limits all_read) (sym by.1) (nowhere_all.0, larger_all, subst (λ (l : Limits). WantsMore l all_read) limits_far wants)),
             )
 
-        came_larger : (res : Result Passed ReadFault) → PassAnswers [] all_read far new res → CameTo new all_read res
-        came_larger (Ok Over) p =
+        came_larger : looked_of new ≡ looked_of far → (res : Result Passed ReadFault) → PassAnswers [] all_read far new res → CameTo new all_read res
+        came_larger looked (Ok Over) p =
             let by = way_seeks far window seeks in
             let done = p.done in
             let states = subst (λ (l : Limits). StatesSize l all_read p.size) limits_far p.states in
             let same = size_once run.settings.limits all_read larger_all.0 p.size larger_all.1 states in
             record {
-              by = PastWindow window;
+              by = PastWindow window (effort window) nowhere.searched.looked;
               size = p.size;
-              part = ((ahead.bytes ++ more, append_assoc (kept mid) ahead.bytes more), met other refused, (nowhere_all, states, omega (arith, same, larger_all.2), p.there));
-              passed = (by.1, refused_by None by.0);
+              part = ((ahead.bytes ++ more, append_assoc (kept mid) ahead.bytes more), met other refused, (nowhere_all.0, ap (λ (s : Searched). s.looked) nowhere_all.1, states, omega (arith, same, larger_all.2), p.there));
+              passed = (ap seek_by by.1, refused_by None by.0);
               kept_is = p.kept;
               done_is = omega (arith, done, stays.done);
+              looked_is = looked ∙ counts;
               stopped_is = p.stopped;
               ends = λ e. absurd (false≢true e);
             }
-        came_larger (Ok CutOff) p = let done = p.1.done in (past_larger p.0, p.2, omega (arith, done, stays.done))
-        came_larger (Ok Not) p = absurd (((sizes_tell run.settings.limits all_read).1 larger_all.0 larger_all.1).0 (subst (λ (l : Limits). StatesNone l all_read) limits_far p.0))
-        came_larger (Err read.Device) p = inl (past_larger p.0)
-        came_larger (Err read.TooManyReads) p = (inl (past_larger p.0), p.2)
-        came_larger res p = absurd p
+        came_larger looked (Ok CutOff) p = let done = p.1.done in (past_larger p.0, p.2, omega (arith, done, stays.done))
+        came_larger looked (Ok Not) p = absurd (((sizes_tell run.settings.limits all_read).1 larger_all.0 larger_all.1).0 (subst (λ (l : Limits). StatesNone l all_read) limits_far p.0))
+        came_larger looked (Err read.Device) p = inl (past_larger p.0)
+        came_larger looked (Err read.TooManyReads) p = (inl (past_larger p.0), p.2)
+        came_larger looked res p = absurd p
 
-      by_larger : (new : RawReader R A) (res : Result Passed ReadFault) → PassesLarger run.left run.calls far new window res → HasOnward new res
-      by_larger new res passes = elim passes [
+      by_larger : (new : RawReader R A) → looked_of new ≡ looked_of far → (res : Result Passed ReadFault) → PassesLarger run.left run.calls far new window res → HasOnward new res
+      by_larger new looked res passes = elim passes [
         | inl p ↦ elim p.1 [
           | inl over ↦ (
               let refused = subst (λ (s : Option ReadFault). IsRefusal s over.0) stays.stopped over.1 in
@@ -551,7 +593,7 @@ module _ {R A S : Type 0} {takes : S → S → List Placed → (told : List ℕ)
               record {
                 rest = found_none ++ all.0.bytes;
                 reads = read_on gathering run.left run.calls run.settings.limits (kept mid) (λ before. WantsMore (limits_of far) (kept far ++ before)) mid.reader far.reader new.reader [] found_none (reads_ahead far window seeks ahead) all.0;
-                came_to = came_larger new (larger_there p.0) over.0 refused all.0.bytes (λ end. (all.0.settled end).0) res (subst (λ (l : List ℕ). PassAnswers [] (l ++ all.0.bytes) far new res) stays.kept all.1);
+                came_to = came_larger new (larger_there p.0) over.0 refused all.0.bytes (λ end. (all.0.settled end).0) looked res (subst (λ (l : List ℕ). PassAnswers [] (l ++ all.0.bytes) far new res) stays.kept all.1);
               }
               )
           | inr not ↦ transport (λ i. HasOnward (sym not.2 i) (sym not.1 i)) (lost (λ whole larger.
@@ -563,21 +605,21 @@ module _ {R A S : Type 0} {takes : S → S → List Placed → (told : List ℕ)
 
     module _ (new : RawReader R A) where
       -- by what was found
-      by_found : (window : ℕ) (seeks : way ≡ ToNext window) (far : RawReader R A) (r : ReadsToGoOn window run.left run.calls mid far) (found : Result Found ReadFault) → Resyncs (kept mid ++ r.bytes) mid far window (effort_of window) found
-          → (res : Result Passed ReadFault) → PassesBy run.left run.calls far new window found res → HasOnward new res
-      by_found window seeks far r (Ok (At size)) g res p =
+      by_found : (window : ℕ) (seeks : way ≡ ToNext window) (far : RawReader R A) (r : ReadsToGoOn window run.left run.calls mid far) (found : Result Found ReadFault) → Resyncs (kept mid ++ r.bytes) mid far window found
+          → looked_of new ≡ looked_of far → (res : Result Passed ReadFault) → PassesBy run.left run.calls far new window found res → HasOnward new res
+      by_found window seeks far r (Ok (At size)) g looked res p =
           transport (λ i. HasOnward (sym p.1 i) (sym p.0 i)) (went far window seeks r (Ok Over) (came_there far window seeks r.bytes (λ end. (r.settled end).0) (λ end. (r.settled end).2) size g))
-      by_found window seeks far r (Ok Nowhere) g res p = by_larger window seeks far r g.1 (nowhere_is far window seeks r.bytes Nowhere refl g.0) new res p
-      by_found window seeks far r (Ok Spent) g res p = by_larger window seeks far r g.1 (nowhere_is far window seeks r.bytes Spent refl g.0) new res p
-      by_found window seeks far r (Err broken) g res p = transport (λ i. HasOnward (sym p.1 i) (sym p.0 i)) (went far window seeks r (Err broken) (came_failed far window seeks r.bytes broken g))
+      by_found window seeks far r (Ok Nowhere) g looked res p = let none = nowhere_is far window seeks r.bytes Nowhere refl g.0 in by_larger window seeks far r g.1 none.0 none.1 new looked res p
+      by_found window seeks far r (Ok Spent) g looked res p = let none = nowhere_is far window seeks r.bytes Spent refl g.0 in by_larger window seeks far r g.1 none.0 none.1 new looked res p
+      by_found window seeks far r (Err broken) g looked res p = transport (λ i. HasOnward (sym p.1 i) (sym p.0 i)) (went far window seeks r (Err broken) (came_failed far window seeks r.bytes broken g))
 
       onward : HasKnownPackets run.packets run.packet mid (packets_of run) → (res : Result Passed ReadFault) → PassedBy new res → IsInput new res → HasOnward new res ⊎ ((res ≡ Ok Not) × (new ≡ mid) × IsUnsized)
       onward known res passing input = by_case way refl passing
         where
           by_case : (b : Way) → way ≡ b → PassesOn run.left run.calls run.packet mid new b res → HasOnward new res ⊎ ((res ≡ Ok Not) × (new ≡ mid) × IsUnsized)
-          by_case ToPacket is passed = inl (by_packet new known is res passed (input is))
-          by_case BySize is passed = by_size new is res passed
-          by_case (ToNext window) is passed = inl (by_found window is passed.mid passed.reads passed.found passed.goes res passed.passes)
+          by_case ToPacket is passed = inl (by_packet new known is passed.1 res passed.0 (input is))
+          by_case BySize is passed = by_size new is passed.1 res passed.0
+          by_case (ToNext window) is passed = inl (by_found window is passed.mid passed.reads passed.found passed.goes passed.looked res passed.passes)
 
       -- it was passed over, or tried to
       some_onward : HasKnownPackets run.packets run.packet mid (packets_of run) → (res : Result Passed ReadFault) → (res ≡ Ok Not → ⊥) → PassedBy new res → IsInput new res → HasOnward new res
@@ -633,7 +675,7 @@ module _ {R A S : Type 0} {takes : S → S → List Placed → (told : List ℕ)
               tells = c.tells;
             }
 
-        cut_off : (res : Result Passed ReadFault) (o : HasOnward new res) → IsPast new o.rest → IsCutOff (packets_of run) run.settings.resync run.settings.limits (sizes_of h.gone.parts) (kept mid) o.rest packet
+        cut_off : (res : Result Passed ReadFault) (o : HasOnward new res) → IsPast new o.rest → IsCutOff (packets_of run) seek run.settings.limits (sizes_of h.gone.parts) (kept mid) o.rest packet
         cut_off res o past = record { front = (o.reads.bytes, sym o.reads.messages); refused_in = refused_at; past = past.1 }
 
         -- the input ends within it, or with it
@@ -658,44 +700,46 @@ module _ {R A S : Type 0} {takes : S → S → List Placed → (told : List ℕ)
             }
 
         -- it states no size
-        last_unsized : (goes : run.settings.keeps_going ≡ true) (o : HasOnward new (Ok Not)) → StatesNoSize new o.rest → IsLast (packets_of run) None run.settings run.settings.limits (sizes_of h.gone.parts) (kept mid) o.rest (Refused fault) (IsAtEnd (run.left (source_of new)))
+        last_unsized : (goes : run.settings.keeps_going ≡ true) (o : HasOnward new (Ok Not)) → StatesNoSize new o.rest → IsLast (packets_of run) None run.settings run.settings.limits (sizes_of h.gone.parts) (looked_in h.gone.parts) (kept mid) o.rest (Refused fault) (IsAtEnd (run.left (source_of new)))
         last_unsized goes o c = (
           (o.reads.bytes, sym o.reads.messages),
           (λ halt. absurd (false≢true (sym halt ∙ goes))),
           λ _ whole.
-              subst (λ (r : Resync). IsUnpassed (packets_of run) r run.settings.limits (sizes_of h.gone.parts) (kept mid) o.rest (IsAtEnd (run.left (source_of new)))) (sym c.2) (refused_by None c.1, c.3),
+              subst (λ (r : Resync). IsUnpassed (packets_of run) (seek_by r) run.settings.limits (sizes_of h.gone.parts) (kept mid) o.rest (IsAtEnd (run.left (source_of new)))) (sym c.2) (refused_by None c.1, c.3),
         )
 
         -- or messages begin again nowhere
         last_lost : (o : HasOnward new (Ok Not)) → IsLost new o.rest → (outcome : CutOutcome) → Some fault ≡ fault_at_end (kept mid) outcome → (((f : Fault) → outcome ≡ Refused f → ⊥) → is_ended mid ≡ true) → (goes : run.settings.keeps_going ≡ true)
-            → IsLast (packets_of run) None run.settings run.settings.limits (sizes_of h.gone.parts) (kept mid) o.rest outcome (IsAtEnd (run.left (source_of new)))
+            → IsLast (packets_of run) None run.settings run.settings.limits (sizes_of h.gone.parts) (looked_in h.gone.parts) (kept mid) o.rest outcome (IsAtEnd (run.left (source_of new)))
         last_lost o c outcome e ended goes = by_outcome outcome e ended
           where
             at_end : is_ended new ≡ true → IsAtEnd (run.left (source_of new))
             at_end = (short_covered (Ok Not) o).at_end
 
-            nowhere : BeginNowhere run.settings.limits c.0 o.rest (IsAtEnd (run.left (source_of new)))
-            nowhere = record { found = c.3.found; nowhere = c.3.nowhere; resumes = c.3.resumes; all = λ short. at_end (c.3.all short) }
+            nowhere : BeginNowhere run.settings.limits c.0 (effort c.0) o.rest (IsAtEnd (run.left (source_of new)))
+            nowhere = record { searched = c.3.searched; nowhere = c.3.nowhere; resumes = c.3.resumes; all = λ short. at_end (c.3.all short) }
 
-            by_outcome : (outcome : CutOutcome) → Some fault ≡ fault_at_end (kept mid) outcome → (((f : Fault) → outcome ≡ Refused f → ⊥) → is_ended mid ≡ true) → IsLast (packets_of run) None run.settings run.settings.limits (sizes_of h.gone.parts) (kept mid) o.rest outcome (IsAtEnd (run.left (source_of new)))
+            by_outcome : (outcome : CutOutcome) → Some fault ≡ fault_at_end (kept mid) outcome → (((f : Fault) → outcome ≡ Refused f → ⊥) → is_ended mid ≡ true) → IsLast (packets_of run) None run.settings run.settings.limits (sizes_of h.gone.parts) (looked_in h.gone.parts) (kept mid) o.rest outcome (IsAtEnd (run.left (source_of new)))
             by_outcome Ended e ended = absurd cc
             by_outcome Unfinished e ended =
+                let same : fault ≡ truncated (kept mid) = cc in
+                let at : fault.at ≡ length (kept mid) = ap (λ (f : Fault). f.at) same in
                 let none = o.reads.settled (ended (λ f is. absurd cc)) in (
                   sym o.reads.messages ∙ (ap (λ (l : List ℕ). kept mid ++ l) none.0 ∙ append-nil (kept mid)),
                   at_end none.1,
-                  λ _. subst (λ (r : Resync). IsCutUnpassed (packets_of run) r run.settings.limits (sizes_of h.gone.parts) (kept mid) o.rest (IsAtEnd (run.left (source_of new)))) (sym c.2) (packet, refused_at, λ _. nowhere),
+                  λ _. transport (λ i. IsCutUnpassed (packets_of run) (seek_of (sym c.2 i) (sizes_of h.gone.parts) (looked_in h.gone.parts + at i)) run.settings.limits (sizes_of h.gone.parts) (kept mid) o.rest (IsAtEnd (run.left (source_of new)))) (packet, refused_at, λ _. nowhere),
                 )
             by_outcome (Refused other) e ended = (
               (o.reads.bytes, sym o.reads.messages),
               (λ halt. absurd (false≢true (sym halt ∙ goes))),
               λ _ whole.
                   let same : fault ≡ other = cc in
-                  subst (λ (r : Resync). IsUnpassed (packets_of run) r run.settings.limits (sizes_of h.gone.parts) (kept mid) o.rest (IsAtEnd (run.left (source_of new)))) (sym c.2)
+                  transport (λ i. IsUnpassed (packets_of run) (seek_of (sym c.2 i) (sizes_of h.gone.parts) (looked_in h.gone.parts + (same i).at)) run.settings.limits (sizes_of h.gone.parts) (kept mid) o.rest (IsAtEnd (run.left (source_of new))))
                   (refused_by None c.1, nowhere, c.4 (subst (λ (f : Fault). is_truncated f.reason ≡ false) (sym same) whole)),
             )
 
         stays_by : (o : HasOnward new (Ok Not)) (outcome : CutOutcome) → IsOutcome run.settings.limits (kept mid) outcome → Some fault ≡ fault_at_end (kept mid) outcome
-            → IsLast (packets_of run) None run.settings run.settings.limits (sizes_of h.gone.parts) (kept mid) o.rest outcome (IsAtEnd (run.left (source_of new))) → run.failures (source_of new) ≡ run.failures (source_of mid) → HasEnded run takes full new tally (Some fault) s2
+            → IsLast (packets_of run) None run.settings run.settings.limits (sizes_of h.gone.parts) (looked_in h.gone.parts) (kept mid) o.rest outcome (IsAtEnd (run.left (source_of new))) → run.failures (source_of new) ≡ run.failures (source_of mid) → HasEnded run takes full new tally (Some fault) s2
         stays_by o outcome outcome_is fault_is last same = record {
           told = h.gone.told;
           text = text;
@@ -801,9 +845,9 @@ module _ {R A S : Type 0} {takes : S → S → List Placed → (told : List ℕ)
             let number : 1 + length parts ≡ length parts + 1 = omega arith in
             let offset : sizes_of parts ≡ 0 + sizes_of parts = omega arith in
             let told_next = subst (λ (o : ℕ). IsToldRefused (packets_of run) run.settings (1 + length parts) o (kept mid) fault text) offset (told_at (1 + length parts) text number told) in
-            let passed_next = subst (λ (o : ℕ). IsPassedBy (packets_of run) run.settings.resync run.settings.limits o (kept mid) c.by n) offset c.passed in
+            let passed_next = subst (λ (o : ℕ). IsPassedBy (packets_of run) (seek_of run.settings.resync o (looked_in parts + fault.at)) run.settings.limits o (kept mid) c.by n) offset c.passed in
             let ended : reach_end (part ∷ []) ≡ true → is_ended new ≡ true = λ e. c.ends (or_last (is_to_end c.by) e) in
-            let told_is : AreTold (packets_of run) run.settings (1 + length parts) (0 + sizes_of parts) (part ∷ []) text = (text, [], sym (append-nil text), (goes, passed_next, told_next), refl) in
+            let told_is : AreTold (packets_of run) run.settings (1 + length parts) (0 + sizes_of parts) (looked_in parts) (part ∷ []) text = (text, [], sym (append-nil text), (goes, passed_next, told_next), refl) in
             let count_is : tally.count + 1 ≡ length (parts ++ part ∷ []) = omega (arith, ap (λ (t : Tally). t.count) is, length-append parts (part ∷ [])) in
             let size_is : done_of new ≡ sizes_of (parts ++ part ∷ []) = omega (arith, done, h.gone.done, sizes-both parts (part ∷ [])) in
             let passed_is : tally.passed + 1 ≡ passed_count (parts ++ part ∷ []) = omega (arith, ap (λ (t : Tally). t.passed) is, passed-both parts (part ∷ [])) in
@@ -815,6 +859,7 @@ module _ {R A S : Type 0} {takes : S → S → List Placed → (told : List ℕ)
               covered = covers_read run mid new parts (part ∷ []) (kept mid) (kept new) h.gone.told text o.rest [] h.gone.covered o.reads begin_there ended told_is;
               tally_is = past_is ∙ (λ i. record { count = count_is i; size = (there ∙ size_is) i; passed = passed_is i; passed_size = passed_size_is i; is_cut = (is i).is_cut });
               done = size_is;
+              looked = c.looked_is ∙ (ap (λ (n : ℕ). looked_for c.by fault.at n (looked_in parts)) offset ∙ sym (looked-both parts (part ∷ []) 0 0));
               failed = same ∙ h.gone.failed;
               messages = items;
               placed = placed_past (packets_of run) 1 0 parts (kept mid) fault c.by n items h.gone.placed;

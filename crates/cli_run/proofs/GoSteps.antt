@@ -18,12 +18,12 @@ use Rattle.dbus_stream.specs.Gathering.{gathering}
 use Rattle.dbus_stream.specs.Lasting.{is_truncated}
 use Rattle.dbus_stream.specs.Passing.{WasDropped}
 use Rattle.dbus_stream.proofs.SizeSteps.{none_dropped}
-use Rattle.dbus_stream.specs.RawReading.{IsNewReader, done_of, is_ended, kept, limits_of, most_reads_of, reads_of, source_of, stopped_of}
+use Rattle.dbus_stream.specs.RawReading.{IsNewReader, done_of, is_ended, kept, limits_of, looked_of, most_reads_of, reads_of, source_of, stopped_of}
 use Rattle.dbus_stream.specs.declared.raw_reader.RawReader.{RawReader}
 use Rattle.cli_options.specs.declared.settings.Settings.{Settings}
 use Rattle.cli_report.specs.Devices.{Reading, reading, taken, Taken}
 use Rattle.cli_run.specs.Going.{Covers, EndsWhole, IsMore, IsStopOf, IsThrough, StopsWithin, AreTold, passed_count, passed_sizes, tally_of}
-use Rattle.cli_run.specs.Inputs.{ArePlaced, BeginWithParts, Part, Placed, Whole, reach_end, sizes_of, wholes}
+use Rattle.cli_run.specs.Inputs.{ArePlaced, BeginWithParts, Part, Placed, Whole, looked_in, reach_end, sizes_of, wholes}
 use Rattle.cli_run.specs.Needed.{IsReadFor, ReadsFor}
 use Rattle.cli_run.specs.Onward.{HasKnownPackets, HasRead, HandsEnough, HandsRawOn, HandsSomeOn, IsTrueEnd, RawHandsOn, stop_of}
 use Rattle.cli_run.specs.Refusals.{IsRefusedIn, number_of}
@@ -36,7 +36,7 @@ use Rattle.cli_run.specs.declared.visitor.RunStop.{RunStop}
 use Rattle.cli_run.specs.declared.visitor.RunStop.TheVariants.{Cause as ByCause}
 use Rattle.cli_run.proofs.KnownPackets.{refused_there}
 use Rattle.cli_run.proofs.Wanted.{ends_whole, filled_next, wanted_next}
-use Rattle.cli_run.proofs.PartLaws.{reach-both, reach_wholes, parts_more, parts_both, parts_of, few_parts, few_passed, few_passed_sizes, sizes-both, passed-both, passed_sizes-both, sizes-wholes, passed-wholes, passed_sizes-wholes, placed_both, told_both, told_of}
+use Rattle.cli_run.proofs.PartLaws.{reach-both, reach_wholes, parts_more, parts_both, parts_of, few_parts, few_passed, few_passed_sizes, looked-both, looked-wholes, sizes-both, passed-both, passed_sizes-both, sizes-wholes, passed-wholes, passed_sizes-wholes, placed_both, told_both, told_of}
 
 -- one of two
 either_true : (a b : Bool) → a || b ≡ true → (a ≡ true) ⊎ (b ≡ true)
@@ -123,7 +123,7 @@ module _ {R A S : Type 0} (run : Begun R A S) where
     pub at_end : IsTrueEnd run.left new.reader
     pub begin : BeginWithParts run.settings.limits bytes parts rest
     pub ends : reach_end parts ≡ true → is_ended new ≡ true
-    pub tells : AreTold packets_of run.settings 1 0 parts told
+    pub tells : AreTold packets_of run.settings 1 0 0 parts told
 
   -- nothing more is read after the end
   ends_none : (mid new : RawReader R A) (parts : List Part) (from rest told w : List ℕ) (items : List CutMessage) → HasCovered mid parts from told → (r : HasRead gathering run.left run.calls run.settings.limits from mid.reader new.reader items w)
@@ -133,7 +133,7 @@ module _ {R A S : Type 0} (run : Begun R A S) where
   -- more was read, and begins with more parts
   pub covers_read : (mid new : RawReader R A) (parts more : List Part) (from rest told t w : List ℕ) (items : List CutMessage) → HasCovered mid parts from told
       → (r : HasRead gathering run.left run.calls run.settings.limits from mid.reader new.reader items w) → BeginWithParts run.settings.limits (from ++ r.bytes) more rest
-      → (reach_end more ≡ true → is_ended new ≡ true) → AreTold packets_of run.settings (1 + length parts) (0 + sizes_of parts) more t → HasCovered new (parts ++ more) rest (told ++ t)
+      → (reach_end more ≡ true → is_ended new ≡ true) → AreTold packets_of run.settings (1 + length parts) (0 + sizes_of parts) (looked_in parts) more t → HasCovered new (parts ++ more) rest (told ++ t)
   covers_read mid new parts more from rest told t w items h r begin end tells = record {
     bytes = h.bytes ++ r.bytes;
     consumed = Consumes-trans _ _ _ _ _ h.consumed r.consumed;
@@ -143,7 +143,7 @@ module _ {R A S : Type 0} (run : Begun R A S) where
     at_end = r.at_end h.at_end;
     begin = parts_both run.settings.limits (h.bytes ++ r.bytes) parts more (from ++ r.bytes) rest (parts_more run.settings.limits h.bytes parts from r.bytes (ends_none mid new parts from rest told w items h r) h.begin) begin;
     ends = λ e. elim (either_true (reach_end parts) (reach_end more) (sym (reach-both parts more) ∙ e)) [ inl first ↦ (r.settled (h.ends first)).1 | inr second ↦ end second ];
-    tells = told_both packets_of run.settings 1 0 parts more told t h.tells tells;
+    tells = told_both packets_of run.settings 1 0 0 parts more told t h.tells tells;
   }
 
   -- as a clause says it
@@ -184,6 +184,7 @@ module _ {R A S : Type 0} (run : Begun R A S) where
       pub covered : HasCovered new parts (kept new) told
       pub tally_is : tally ≡ tally_of parts
       pub done : done_of new ≡ sizes_of parts
+      pub looked : looked_of new ≡ looked_in parts
       pub failed : run.failures (source_of new) ≡ run.failures (source_of run.old)
       pub messages : List Placed
       pub placed : ArePlaced packets_of 1 0 parts messages
@@ -209,6 +210,7 @@ module _ {R A S : Type 0} (run : Begun R A S) where
       };
       tally_is = refl;
       done = new_reader.done;
+      looked = new_reader.looked;
       failed = refl;
       messages = [];
       placed = refl;
@@ -314,12 +316,12 @@ module _ {R A S : Type 0} {takes : S → S → List Placed → (told : List ℕ)
         (covers_read run mid new h.parts (wholes items) (kept mid) last h.told [] rest items h.covered r
         (subst (λ (l : List ℕ). BeginWithParts run.settings.limits (kept mid ++ r.bytes) (wholes items) l) e (parts_of run.settings.limits (kept mid ++ r.bytes) items rest r.messages))
         (λ reached. absurd (false≢true (sym (reach_wholes items) ∙ reached)))
-        (told_of (packets_of run) run.settings (1 + length h.parts) (0 + sizes_of h.parts) items))
+        (told_of (packets_of run) run.settings (1 + length h.parts) (0 + sizes_of h.parts) (looked_in h.parts) items))
 
     -- up to a fault, or up to the end
-    pub reach : HasKnownPackets run.packets run.packet new (packets_of run) → (counted : Counted) (up : Tally) → up ≡ record tally { count = counted.count; size = counted.size }
+    pub reach : HasKnownPackets run.packets run.packet new (packets_of run) → looked_of new ≡ looked_of mid → (counted : Counted) (up : Tally) → up ≡ record tally { count = counted.count; size = counted.size }
         → HandsRawOn run.left run.calls run.failures run.packets run.packet takes leaves full run.settings.limits tally.count counted mid new s1 s2 → HasReached run takes full new counted up s2
-    reach known_new counted up is a =
+    reach known_new looked counted up is a =
         let items = a.all.items in
         let limits = run.settings.limits in
         let more = a.all.messages in
@@ -332,6 +334,7 @@ module _ {R A S : Type 0} {takes : S → S → List Placed → (told : List ℕ)
             covered = covered_next items a.all.rest (kept new) (sym a.kept) a.all.read;
             tally_is = is ∙ wholes_tally h.parts items counted.count counted.size tally h.tally_is a.all.count_is size;
             done = omega (arith, a.all.done, size, sizes-both h.parts (wholes items), sizes-wholes items);
+            looked = looked ∙ (h.looked ∙ sym (looked-both h.parts (wholes items) 0 0 ∙ looked-wholes items (0 + sizes_of h.parts) (looked_in h.parts)));
             failed = a.all.failed ∙ h.failed;
             messages = h.messages ++ more;
             placed = placed_next items more (a.all.placed (packets_of run) known);

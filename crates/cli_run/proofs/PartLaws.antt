@@ -10,17 +10,19 @@ use Rattle.dbus_value_model.specs.declared.limits.Limits.{Limits}
 use Rattle.dbus_header.specs.MessageOutcomes.{IsPartial, IsRefused, IsWhole}
 use Rattle.dbus_header.specs.NoMessage.{BeginsWithNone}
 use Rattle.dbus_header.proofs.OutcomeLaws.{not_both, nothing_partial, one_outcome, refused_for_good, whole_for_good, whole_inside}
-use Rattle.dbus_resync.specs.declared.found.Found.TheVariants.{At}
+use Rattle.dbus_resync.specs.Search.{BeginsAt, Finds}
+use Rattle.dbus_resync.specs.declared.found.Found.TheVariants.{At, Spent}
+use Rattle.dbus_resync.specs.declared.found.Searched.{Searched}
 use Rattle.dbus_resync.proofs.DamagedLaws.{begins_inside}
 use Rattle.dbus_stream.specs.Cut.{BeginWith, CutMessage, CutOutcome, Ended, Unfinished, Refused}
-use Rattle.dbus_stream.specs.GoingOn.{Resumes, ahead_of}
+use Rattle.dbus_stream.specs.GoingOn.{LeadsOn, Resumes, ahead_of}
 use Rattle.dbus_stream.specs.Next.{IsCutShort}
 use Rattle.dbus_stream.specs.CutEnds.{sizes}
 use Rattle.dbus_stream.proofs.FaultPackets.{refused_later}
 use Rattle.dbus_stream.proofs.SeekSteps.{led_inside}
 use Rattle.dbus_stream.proofs.SizeSteps.{one_size, size_front, size_some}
 use Rattle.cli_options.specs.declared.settings.Settings.{Settings}
-use Rattle.cli_run.specs.Inputs.{ArePlaced, IsPlaced, IsPacketBefore, IsTimeBefore, Part, Whole, PassedOver, Placed, size_of, sizes_of, time_of, wholes, By, Stated, InPacket, Resumed, PastWindow, BeginNowhere, IsLarger, HasSize, IsFaultOf, IsLast, IsPart, BeginWithParts, ResumeIn, effort_of, is_to_end, reach_end}
+use Rattle.cli_run.specs.Inputs.{ArePlaced, IsPlaced, IsPacketBefore, IsTimeBefore, Part, Whole, PassedOver, Placed, size_of, sizes_of, time_of, wholes, By, Stated, InPacket, Resumed, PastWindow, BeginNowhere, IsLarger, HasSize, IsFaultOf, IsLast, IsPart, BeginWithParts, ResumeIn, is_to_end, looked_after, looked_behind, reach_end}
 use Rattle.cli_report.specs.Gathering.{IsPrefixTo}
 use Rattle.cli_run.specs.Output.{check_line, fault_line}
 use Rattle.cli_run.specs.Going.{AreTold, closing_line, passed_count, passed_sizes}
@@ -47,52 +49,58 @@ module _ (limits : Limits) where
   pub either_fault : (bytes kept : List ℕ) (fault : Fault) (by : By) → IsFaultOf limits kept bytes fault by → IsRefused limits kept fault ⊎ ((kept ≡ bytes) × IsCutShort limits kept fault)
   either_fault bytes kept fault Stated f = inl f
   either_fault bytes kept fault (InPacket number) f = inl f
-  either_fault bytes kept fault (Resumed window false) f = inl f
-  either_fault bytes kept fault (Resumed window true) f = f
-  either_fault bytes kept fault (PastWindow window) f = inl f
+  either_fault bytes kept fault (Resumed window effort looked false) f = inl f
+  either_fault bytes kept fault (Resumed window effort looked true) f = f
+  either_fault bytes kept fault (PastWindow window effort looked) f = inl f
 
   -- messages begin again among the bytes
-  resumes_inside : (window : ℕ) (bytes : List ℕ) (size : ℕ) → ResumeIn limits window bytes (At size) → size ≤ length bytes
-  resumes_inside window bytes size r =
+  -- there, or where the size leads
+  resumes_where : (window effort : ℕ) (bytes : List ℕ) (s : Searched) (size : ℕ) → ResumeIn limits window effort bytes s → s.found ≡ At size → LeadsOn limits window (take window bytes) size ⊎ BeginsAt limits (take window bytes) size
+  resumes_where window effort bytes s size r is = elim r.2 [
+    | inl spent ↦ absurd (let none : Spent ≡ At size = sym (ap (λ (t : Searched). t.found) spent.1) ∙ is in cc)
+    | inr enough ↦ elim enough.1 [
+      | inl led ↦ inl (subst (LeadsOn limits window (take window bytes)) (at_same led.0 size (sym (ap (λ (t : Searched). t.found) led.2) ∙ is)) led.1)
+      | inr first ↦ inr (subst (Finds limits (take window bytes)) (sym (ap (λ (t : Searched). t.found) first.3) ∙ is) first.2.finds).begins
+    ]
+  ]
+
+  resumes_inside : (window effort looked : ℕ) (bytes : List ℕ) (size : ℕ) → ResumeIn limits window effort bytes (record { found = At size; looked = looked }) → size ≤ length bytes
+  resumes_inside window effort looked bytes size r =
       let short = length-take window bytes in
-      elim r [
-        | inl led ↦ (
-            let same : led.0 ≡ size = at_same led.0 size (sym led.2) in
-            let inside = led_inside limits window (take window bytes) led.0 led.1 in
-            omega (arith, inside, same, short)
-            )
-        | inr first ↦ (let inside = begins_inside limits (take window bytes) size first.1.finds.begins in omega (arith, inside, short))
+      elim (resumes_where window effort bytes (record { found = At size; looked = looked }) size r refl) [
+        | inl led ↦ (let inside = led_inside limits window (take window bytes) size led in omega (arith, inside, short))
+        | inr begins ↦ (let inside = begins_inside limits (take window bytes) size begins in omega (arith, inside, short))
       ]
 
   -- and not where the bytes begin, if no message does
-  resumes_later : (window : ℕ) (bytes : List ℕ) (size : ℕ) → BeginsWithNone limits bytes → ResumeIn limits window bytes (At size) → 0 < size
-  resumes_later window bytes zero none r = elim r [
-    | inl led ↦ (
-        let same : led.0 ≡ 0 = at_same led.0 0 (sym led.2) in
-        let some = size_some limits (take window bytes) led.0 led.1.states in
-        omega (arith, some, same)
-        )
-    | inr first ↦ (
-        let b = first.1.finds.begins in
-        absurd (none b.0 b.1 b.2 (subst (λ (l : List ℕ). IsWhole limits l b.0 b.1 b.2) (take-append-drop window bytes) (whole_for_good limits (take window bytes) (drop window bytes) b.0 b.1 b.2 b.3)))
-        )
+  resumes_later : (window effort looked : ℕ) (bytes : List ℕ) (size : ℕ) → BeginsWithNone limits bytes → ResumeIn limits window effort bytes (record { found = At size; looked = looked }) → 0 < size
+  resumes_later window effort looked bytes zero none r = elim (resumes_where window effort bytes (record { found = At 0; looked = looked }) 0 r refl) [
+    | inl led ↦ (let some = size_some limits (take window bytes) 0 led.states in omega (arith, some))
+    | inr b ↦ absurd (none b.0 b.1 b.2 (subst (λ (l : List ℕ). IsWhole limits l b.0 b.1 b.2) (take-append-drop window bytes) (whole_for_good limits (take window bytes) (drop window bytes) b.0 b.1 b.2 b.3)))
   ]
-  resumes_later window bytes (suc size) none r = omega arith
+  resumes_later window effort looked bytes (suc size) none r = omega arith
 
-  -- they begin again nowhere, whatever follows the window
-  pub nowhere_there : (window : ℕ) (bytes more : List ℕ) → window ≤ length bytes → BeginNowhere limits window bytes (Unit {0}) → BeginNowhere limits window (bytes ++ more) (Unit {0})
-  nowhere_there window bytes more wide b = record {
-    found = b.found;
-    nowhere = b.nowhere;
-    resumes = subst (λ (l : List ℕ). Resumes limits window (effort_of window) l b.found) (sym (window_more window bytes more wide)) b.resumes;
-    all = λ _. tt;
-  }
+  -- they begin again nowhere, by the same search
+  abbrev pub StayNowhere : (window effort : ℕ) → Searched → List ℕ → Type 0
+  StayNowhere window effort s bytes = (b : BeginNowhere limits window effort bytes (Unit {0})) × (b.searched ≡ s)
+
+  -- whatever follows the window
+  pub nowhere_there : (window effort : ℕ) (bytes more : List ℕ) → window ≤ length bytes → (at_end : Type 0) → (b : BeginNowhere limits window effort bytes at_end) → StayNowhere window effort b.searched (bytes ++ more)
+  nowhere_there window effort bytes more wide at_end b = (
+    record {
+      searched = b.searched;
+      nowhere = b.nowhere;
+      resumes = subst (λ (l : List ℕ). Resumes limits window effort l b.searched) (sym (window_more window bytes more wide)) b.resumes;
+      all = λ _. tt;
+    },
+    refl,
+  )
 
   -- it is so of all of the input
-  pub nowhere_more : (window : ℕ) (rest more : List ℕ) (at_end : Type 0) → (at_end → more ≡ []) → BeginNowhere limits window rest at_end → BeginNowhere limits window (rest ++ more) (Unit {0})
-  nowhere_more window rest more at_end none b = elim (cases_lt (length rest) (ahead_of window)) [
-    | inl short ↦ subst (λ (l : List ℕ). BeginNowhere limits window l (Unit {0})) (sym (ap (λ (l : List ℕ). rest ++ l) (none (b.all short)) ∙ append-nil rest)) (record { found = b.found; nowhere = b.nowhere; resumes = b.resumes; all = λ _. tt })
-    | inr wide ↦ nowhere_there window rest more (omega (arith, wide, le-max_left window 16)) (record { found = b.found; nowhere = b.nowhere; resumes = b.resumes; all = λ _. tt })
+  pub nowhere_more : (window effort : ℕ) (rest more : List ℕ) (at_end : Type 0) → (at_end → more ≡ []) → (b : BeginNowhere limits window effort rest at_end) → StayNowhere window effort b.searched (rest ++ more)
+  nowhere_more window effort rest more at_end none b = elim (cases_lt (length rest) (ahead_of window)) [
+    | inl short ↦ subst (StayNowhere window effort b.searched) (sym (ap (λ (l : List ℕ). rest ++ l) (none (b.all short)) ∙ append-nil rest)) (record { searched = b.searched; nowhere = b.nowhere; resumes = b.resumes; all = λ _. tt }, refl)
+    | inr wide ↦ nowhere_there window effort rest more (omega (arith, wide, le-max_left window 16)) at_end b
   ]
 
   -- the message there is larger than the window, whatever follows
@@ -100,8 +108,8 @@ module _ (limits : Limits) where
   larger_more window rest more l = (l.0, (one_size limits rest more l.0 l.0 l.1).0, l.2)
 
   -- and so it is if it is not
-  pub not_larger : (window : ℕ) (rest more : List ℕ) (at_end : Type 0) → (at_end → more ≡ []) → BeginNowhere limits window rest at_end → (IsLarger limits window rest → ⊥) → IsLarger limits window (rest ++ more) → ⊥
-  not_larger window rest more at_end none b small l = elim (cases_lt (length rest) (ahead_of window)) [
+  pub not_larger : (window effort : ℕ) (rest more : List ℕ) (at_end : Type 0) → (at_end → more ≡ []) → BeginNowhere limits window effort rest at_end → (IsLarger limits window rest → ⊥) → IsLarger limits window (rest ++ more) → ⊥
+  not_larger window effort rest more at_end none b small l = elim (cases_lt (length rest) (ahead_of window)) [
     | inl short ↦ small (subst (IsLarger limits window) (ap (λ (l : List ℕ). rest ++ l) (none (b.all short)) ∙ append-nil rest) l)
     | inr wide ↦ small (l.0, size_front limits rest more l.0 (omega (arith, wide, le-max_right window 16)) l.1, l.2)
   ]
@@ -109,32 +117,34 @@ module _ (limits : Limits) where
   size_inside : (bytes kept : List ℕ) (by : By) (size : ℕ) → HasSize limits kept bytes by size → size ≤ length bytes
   size_inside bytes kept Stated size h = h.1
   size_inside bytes kept (InPacket number) size h = omega (arith, h.1)
-  size_inside bytes kept (Resumed window to_end) size h = resumes_inside window bytes size h.0
-  size_inside bytes kept (PastWindow window) size h = h.3
+  size_inside bytes kept (Resumed window effort looked to_end) size h = resumes_inside window effort looked bytes size h.0
+  size_inside bytes kept (PastWindow window effort looked) size h = h.4
 
   size_more : (bytes more kept : List ℕ) (by : By) (size : ℕ) → is_to_end by ≡ false → HasSize limits kept bytes by size → HasSize limits kept (bytes ++ more) by size
   size_more bytes more kept Stated size open_ h = ((one_size limits bytes more size size h.0).0, omega (arith, h.1, length-append bytes more))
   size_more bytes more kept (InPacket number) size open_ h = (h.0, omega (arith, h.1, length-append bytes more))
-  size_more bytes more kept (Resumed window to_end) size open_ h =
+  size_more bytes more kept (Resumed window effort looked to_end) size open_ h =
       let wide = h.1 open_ in (
-        subst (λ (l : List ℕ). Resumes limits window (effort_of window) l (At size)) (sym (window_more window bytes more wide)) h.0,
+        subst (λ (l : List ℕ). Resumes limits window effort l (record { found = At size; looked = looked })) (sym (window_more window bytes more wide)) h.0,
         λ _. omega (arith, wide, length-append bytes more),
       )
-  size_more bytes more kept (PastWindow window) size open_ h = (nowhere_there window bytes more (omega (arith, h.2, h.3)) h.0, (one_size limits bytes more size size h.1).0, h.2, omega (arith, h.3, length-append bytes more))
+  size_more bytes more kept (PastWindow window effort looked) size open_ h =
+      let none = nowhere_there window effort bytes more (omega (arith, h.3, h.4)) (Unit {0}) h.0 in
+      (none.0, ap (λ (s : Searched). s.looked) none.1 ∙ h.1, (one_size limits bytes more size size h.2).0, h.3, omega (arith, h.4, length-append bytes more))
 
   fault_more : (bytes more kept : List ℕ) (fault : Fault) (by : By) → is_to_end by ≡ false → IsFaultOf limits kept bytes fault by → IsRefused limits kept fault
   fault_more bytes more kept fault Stated open_ f = f
   fault_more bytes more kept fault (InPacket number) open_ f = f
-  fault_more bytes more kept fault (Resumed window false) open_ f = f
-  fault_more bytes more kept fault (Resumed window true) open_ f = absurd (false≢true (sym open_))
-  fault_more bytes more kept fault (PastWindow window) open_ f = f
+  fault_more bytes more kept fault (Resumed window effort looked false) open_ f = f
+  fault_more bytes more kept fault (Resumed window effort looked true) open_ f = absurd (false≢true (sym open_))
+  fault_more bytes more kept fault (PastWindow window effort looked) open_ f = f
 
   pub is_fault_of : (bytes kept : List ℕ) (fault : Fault) (by : By) → IsRefused limits kept fault → IsFaultOf limits kept bytes fault by
   is_fault_of bytes kept fault Stated f = f
   is_fault_of bytes kept fault (InPacket number) f = f
-  is_fault_of bytes kept fault (Resumed window false) f = f
-  is_fault_of bytes kept fault (Resumed window true) f = inl f
-  is_fault_of bytes kept fault (PastWindow window) f = f
+  is_fault_of bytes kept fault (Resumed window effort looked false) f = f
+  is_fault_of bytes kept fault (Resumed window effort looked true) f = inl f
+  is_fault_of bytes kept fault (PastWindow window effort looked) f = f
 
   -- what is refused, or what the input ends within, begins with no message
   pub none_begins : (bytes kept : List ℕ) (fault : Fault) (by : By) → IsPrefixTo kept bytes → IsFaultOf limits kept bytes fault by → BeginsWithNone limits bytes
@@ -147,8 +157,8 @@ module _ (limits : Limits) where
   pub part_some : (bytes kept : List ℕ) (fault : Fault) (by : By) (size : ℕ) → IsPart limits bytes (PassedOver kept fault by size) → 0 < size
   part_some bytes kept fault Stated size p = let long = size_some limits bytes size p.2.0 in omega (arith, long)
   part_some bytes kept fault (InPacket number) size p = omega (arith, p.2.0, refused_later limits 0 kept fault (nothing_partial limits) p.1)
-  part_some bytes kept fault (Resumed window to_end) size p = resumes_later window bytes size (none_begins bytes kept fault (Resumed window to_end) p.0 p.1) p.2.0
-  part_some bytes kept fault (PastWindow window) size p = let long = size_some limits bytes size p.2.1 in omega (arith, long)
+  part_some bytes kept fault (Resumed window effort looked to_end) size p = resumes_later window effort looked bytes size (none_begins bytes kept fault (Resumed window effort looked to_end) p.0 p.1) p.2.0
+  part_some bytes kept fault (PastWindow window effort looked) size p = let long = size_some limits bytes size p.2.2 in omega (arith, long)
 
   part_inside : (bytes : List ℕ) (part : Part) → IsPart limits bytes part → size_of part ≤ length bytes
   part_inside bytes (Whole item) p = (whole_inside limits bytes item.order item.message item.size p).1
@@ -168,9 +178,9 @@ module _ (limits : Limits) where
   reach_first (Whole item) parts e = (refl, e)
   reach_first (PassedOver kept fault Stated size) parts e = (refl, e)
   reach_first (PassedOver kept fault (InPacket number) size) parts e = (refl, e)
-  reach_first (PassedOver kept fault (Resumed window false) size) parts e = (refl, e)
-  reach_first (PassedOver kept fault (Resumed window true) size) parts e = absurd (false≢true (sym e))
-  reach_first (PassedOver kept fault (PastWindow window) size) parts e = (refl, e)
+  reach_first (PassedOver kept fault (Resumed window effort looked false) size) parts e = (refl, e)
+  reach_first (PassedOver kept fault (Resumed window effort looked true) size) parts e = absurd (false≢true (sym e))
+  reach_first (PassedOver kept fault (PastWindow window effort looked) size) parts e = (refl, e)
 
   parts_open : (bytes : List ℕ) (parts : List Part) (rest more : List ℕ) → reach_end parts ≡ false → BeginWithParts limits bytes parts rest → BeginWithParts limits (bytes ++ more) parts (rest ++ more)
   parts_open bytes [] rest more open_ b = ap (λ l. l ++ more) b
@@ -225,11 +235,11 @@ reach-both (Whole item ∷ parts) more = reach-both parts more
 reach-both (PassedOver kept fault by size ∷ parts) more = ap (λ (b : Bool). is_to_end by || b) (reach-both parts more) ∙ or_assoc (is_to_end by) (reach_end parts) (reach_end more)
 
 -- the rest ends a run that is not to go on
-pub is_last : (packets : Option Packets) (settings : Settings) (limits : Limits) (offset : ℕ) (rest : List ℕ) (outcome : CutOutcome) (at_end : Type 0) → settings.keeps_going ≡ false → (((f : Fault) → outcome ≡ Refused f → ⊥) → at_end)
-    → IsLast packets None settings limits offset rest rest outcome at_end
-is_last packets settings limits offset rest (Refused fault) at_end halts all = (([], sym (append-nil rest)), λ _. refl, λ on. absurd (false≢true (sym halts ∙ on)))
-is_last packets settings limits offset rest Ended at_end halts all = (refl, all (λ f e. absurd (let both = e in cc)))
-is_last packets settings limits offset rest Unfinished at_end halts all = (refl, all (λ f e. absurd (let both = e in cc)), λ on. absurd (false≢true (sym halts ∙ on)))
+pub is_last : (packets : Option Packets) (settings : Settings) (limits : Limits) (offset looked : ℕ) (rest : List ℕ) (outcome : CutOutcome) (at_end : Type 0) → settings.keeps_going ≡ false → (((f : Fault) → outcome ≡ Refused f → ⊥) → at_end)
+    → IsLast packets None settings limits offset looked rest rest outcome at_end
+is_last packets settings limits offset looked rest (Refused fault) at_end halts all = (([], sym (append-nil rest)), λ _. refl, λ on. absurd (false≢true (sym halts ∙ on)))
+is_last packets settings limits offset looked rest Ended at_end halts all = (refl, all (λ f e. absurd (let both = e in cc)))
+is_last packets settings limits offset looked rest Unfinished at_end halts all = (refl, all (λ f e. absurd (let both = e in cc)), λ on. absurd (false≢true (sym halts ∙ on)))
 
 -- ---- counts
 
@@ -274,21 +284,32 @@ few_passed_sizes (PassedOver kept fault by size ∷ parts) = omega (arith, few_p
 
 -- those of parts after others
 module _ (packets : Option Packets) (settings : Settings) where
-  pub told_both : (n offset : ℕ) (parts more : List Part) (a b : List ℕ) → AreTold packets settings n offset parts a
-      → AreTold packets settings (n + length parts) (offset + sizes_of parts) more b → AreTold packets settings n offset (parts ++ more) (a ++ b)
-  told_both n offset [] more a b p q =
+  pub told_both : (n offset looked : ℕ) (parts more : List Part) (a b : List ℕ) → AreTold packets settings n offset looked parts a
+      → AreTold packets settings (n + length parts) (offset + sizes_of parts) (looked_behind parts offset looked) more b → AreTold packets settings n offset looked (parts ++ more) (a ++ b)
+  told_both n offset looked [] more a b p q =
       let number : n + 0 ≡ n = omega arith in
       let place : offset + 0 ≡ offset = omega arith in
-      transport (λ i. AreTold packets settings (number i) (place i) more (sym p i ++ b)) q
-  told_both n offset (part ∷ parts) more a b p q =
+      transport (λ i. AreTold packets settings (number i) (place i) looked more (sym p i ++ b)) q
+  told_both n offset looked (part ∷ parts) more a b p q =
       let number : n + suc (length parts) ≡ n + 1 + length parts = omega arith in
       let place : offset + (size_of part + sizes_of parts) ≡ offset + size_of part + sizes_of parts = omega arith in
-      let rest = transport (λ i. AreTold packets settings (number i) (place i) more b) q in
-      (p.0, p.1 ++ b, ap (λ l. l ++ b) p.2 ∙ append_assoc p.0 p.1 b, p.3, told_both (n + 1) (offset + size_of part) parts more p.1 b p.4 rest)
+      let rest = transport (λ i. AreTold packets settings (number i) (place i) (looked_behind (part ∷ parts) offset looked) more b) q in
+      (p.0, p.1 ++ b, ap (λ l. l ++ b) p.2 ∙ append_assoc p.0 p.1 b, p.3, told_both (n + 1) (offset + size_of part) (looked_after part offset looked) parts more p.1 b p.4 rest)
 
-  pub told_of : (n offset : ℕ) (items : List CutMessage) → AreTold packets settings n offset (wholes items) []
-  told_of n offset [] = refl
-  told_of n offset (item ∷ items) = ([], [], refl, refl, told_of (n + 1) (offset + item.size) items)
+  pub told_of : (n offset looked : ℕ) (items : List CutMessage) → AreTold packets settings n offset looked (wholes items) []
+  told_of n offset looked [] = refl
+  told_of n offset looked (item ∷ items) = ([], [], refl, refl, told_of (n + 1) (offset + item.size) looked items)
+
+-- how many count as looked at behind parts after others, and behind messages
+pub looked-both : (parts more : List Part) (offset looked : ℕ) → looked_behind (parts ++ more) offset looked ≡ looked_behind more (offset + sizes_of parts) (looked_behind parts offset looked)
+looked-both [] more offset looked = (let place : offset ≡ offset + 0 = omega arith in ap (λ (n : ℕ). looked_behind more n looked) place)
+looked-both (part ∷ parts) more offset looked =
+    let place : offset + size_of part + sizes_of parts ≡ offset + (size_of part + sizes_of parts) = omega arith in
+    looked-both parts more (offset + size_of part) (looked_after part offset looked) ∙ ap (λ (n : ℕ). looked_behind more n (looked_behind parts (offset + size_of part) (looked_after part offset looked))) place
+
+pub looked-wholes : (items : List CutMessage) (offset looked : ℕ) → looked_behind (wholes items) offset looked ≡ looked
+looked-wholes [] offset looked = refl
+looked-wholes (item ∷ items) offset looked = looked-wholes items (offset + item.size) looked
 
 -- `check` writes the line of the fault, or else the last line
 pub line_is : (t : Tally) (fault : Option Fault) (packet : Option ℕ) → fault_line t.size fault packet ++ closing_line false true false t 0 fault ≡ check_line t.count t.size fault packet

@@ -27,7 +27,7 @@ use Rattle.cli_report.specs.Devices.{Reading, Writing, taken, writing}
 use Rattle.cli_run.specs.Going.{AreDue, GoesThrough, IsAllOf, IsThrough, StopsWithin, AreTold, IsToldLast, closing_line, passed_count, status_at, tally_of, tally_with}
 use Rattle.cli_report.specs.Gathering.{Breaks, IsPrefixTo}
 use Rattle.cli_report.specs.Telling.{cause_line, Told}
-use Rattle.cli_run.specs.Inputs.{ArePlaced, BeginWithParts, IsLast, IsTellable, Part, PassedOver, Placed, Whole, sizes_of, wholes}
+use Rattle.cli_run.specs.Inputs.{ArePlaced, BeginWithParts, IsLast, IsTellable, Part, PassedOver, Placed, Whole, looked_in, sizes_of, wholes}
 use Rattle.cli_run.specs.Output.{IsFilledBy, IsFirstOutput, IsFront, IsOutputOfAll, check_line, fault_line, form_of, header_before, is_check, last_line, output_of, owners_known, second_output, whole_output}
 use Rattle.cli_run.specs.Refusals.{IsFaultIn}
 use Rattle.cli_run.specs.Told.{GotFirst, GotSecond, TellsStop, first_of, second_of}
@@ -94,11 +94,11 @@ record AreMessages (limits : Limits) (bytes : List ℕ) (parts : List Part) (res
   none_told : told ≡ []
   none_passed : passed_count parts ≡ 0
 
-are_messages : (packets : Option Packets) (asked : Settings) (n offset : ℕ) (bytes : List ℕ) (parts : List Part) (rest told : List ℕ) → BeginWithParts asked.limits bytes parts rest
-    → AreTold packets (plain asked) n offset parts told → AreMessages asked.limits bytes parts rest told
-are_messages packets asked n offset bytes [] rest told b t = record { items = []; messages = b; parts_are = refl; none_told = t; none_passed = refl }
-are_messages packets asked n offset bytes (Whole item ∷ parts) rest told b t =
-    let more = are_messages packets asked (n + 1) (offset + item.size) (drop item.size bytes) parts rest t.1 b.1 t.4 in
+are_messages : (packets : Option Packets) (asked : Settings) (n offset looked : ℕ) (bytes : List ℕ) (parts : List Part) (rest told : List ℕ) → BeginWithParts asked.limits bytes parts rest
+    → AreTold packets (plain asked) n offset looked parts told → AreMessages asked.limits bytes parts rest told
+are_messages packets asked n offset looked bytes [] rest told b t = record { items = []; messages = b; parts_are = refl; none_told = t; none_passed = refl }
+are_messages packets asked n offset looked bytes (Whole item ∷ parts) rest told b t =
+    let more = are_messages packets asked (n + 1) (offset + item.size) looked (drop item.size bytes) parts rest t.1 b.1 t.4 in
     record {
       items = item ∷ more.items;
       messages = (b.0, more.messages);
@@ -106,7 +106,7 @@ are_messages packets asked n offset bytes (Whole item ∷ parts) rest told b t =
       none_told = t.2 ∙ (λ i. t.3 i ++ more.none_told i);
       none_passed = more.none_passed;
     }
-are_messages packets asked n offset bytes (PassedOver kept fault by size ∷ parts) rest told b t = absurd (false≢true t.3.0)
+are_messages packets asked n offset looked bytes (PassedOver kept fault by size ∷ parts) rest told b t = absurd (false≢true t.3.0)
 
 -- then another command has no last line
 no_closing : (is_check : Bool) (tally : Tally) (fault : Option Fault) → is_check ≡ false → tally.passed ≡ 0 → closing_line false is_check false tally tally.passed fault ≡ []
@@ -114,20 +114,20 @@ no_closing is_check tally None other none = λ i. closing_line false (other i) f
 no_closing is_check tally (Some fault) other none = λ i. closing_line false (other i) false tally (none i) (Some fault)
 
 -- all that was kept is the rest
-rest_is : (packets : Option Packets) (cut : Option (Option ℕ)) (asked : Settings) (limits : Limits) (offset : ℕ) (kept rest : List ℕ) (outcome : CutOutcome) (at_end : Type 0) → IsLast packets cut (plain asked) limits offset kept rest outcome at_end
+rest_is : (packets : Option Packets) (cut : Option (Option ℕ)) (asked : Settings) (limits : Limits) (offset looked : ℕ) (kept rest : List ℕ) (outcome : CutOutcome) (at_end : Type 0) → IsLast packets cut (plain asked) limits offset looked kept rest outcome at_end
     → (rest ≡ kept) × (((f : Fault) → outcome ≡ Refused f → ⊥) → at_end) × (cut ≡ None)
-rest_is packets None asked limits offset kept rest (Refused fault) at_end last = (last.1 refl, λ none. absurd (none fault refl), refl)
-rest_is packets None asked limits offset kept rest Unfinished at_end last = (last.0, λ _. last.1, refl)
-rest_is packets None asked limits offset kept rest Ended at_end last = (last.0, λ _. last.1, refl)
-rest_is packets (Some by) asked limits offset kept rest (Refused fault) at_end last = absurd (false≢true last.2)
-rest_is packets (Some by) asked limits offset kept rest Unfinished at_end last = absurd last
-rest_is packets (Some by) asked limits offset kept rest Ended at_end last = absurd last
+rest_is packets None asked limits offset looked kept rest (Refused fault) at_end last = (last.1 refl, λ none. absurd (none fault refl), refl)
+rest_is packets None asked limits offset looked kept rest Unfinished at_end last = (last.0, λ _. last.1, refl)
+rest_is packets None asked limits offset looked kept rest Ended at_end last = (last.0, λ _. last.1, refl)
+rest_is packets (Some by) asked limits offset looked kept rest (Refused fault) at_end last = absurd (false≢true last.2)
+rest_is packets (Some by) asked limits offset looked kept rest Unfinished at_end last = absurd last
+rest_is packets (Some by) asked limits offset looked kept rest Ended at_end last = absurd last
 
 -- what shows of a fault ends a run that is not to go on
-last_shown : (packets : Option Packets) (asked : Settings) (limits : Limits) (offset : ℕ) (kept rest : List ℕ) (outcome : CutOutcome) (at_end : Type 0) → IsTellable kept rest outcome at_end → IsLast packets None (plain asked) limits offset kept rest outcome at_end
-last_shown packets asked limits offset kept rest (Refused fault) at_end shown = (([], shown ∙ sym (append-nil kept)), λ _. shown, λ goes. absurd (false≢true goes))
-last_shown packets asked limits offset kept rest Unfinished at_end shown = (shown.0, shown.1, λ goes. absurd (false≢true goes))
-last_shown packets asked limits offset kept rest Ended at_end shown = shown
+last_shown : (packets : Option Packets) (asked : Settings) (limits : Limits) (offset looked : ℕ) (kept rest : List ℕ) (outcome : CutOutcome) (at_end : Type 0) → IsTellable kept rest outcome at_end → IsLast packets None (plain asked) limits offset looked kept rest outcome at_end
+last_shown packets asked limits offset looked kept rest (Refused fault) at_end shown = (([], shown ∙ sym (append-nil kept)), λ _. shown, λ goes. absurd (false≢true goes))
+last_shown packets asked limits offset looked kept rest Unfinished at_end shown = (shown.0, shown.1, λ goes. absurd (false≢true goes))
+last_shown packets asked limits offset looked kept rest Ended at_end shown = shown
 
 -- the line of the fault is told, with its packet
 told_line : (packets : Option Packets) (asked : Settings) (n offset : ℕ) (kept text : List ℕ) (fault : Option Fault) → IsToldLast packets (plain asked) n offset kept fault text
@@ -159,7 +159,7 @@ module _ {R W E : Type 0} (r : Reading R) (w : Writing W) (e : Writing E) (asked
     closing = closing_line false (is_check command) false tally tally.passed fault
 
     messages : AreMessages limits h.covers.bytes h.parts h.rest told
-    messages = are_messages packets asked 1 0 h.covers.bytes h.parts h.rest told h.covers.begin h.covers.tells
+    messages = are_messages packets asked 1 0 0 h.covers.bytes h.parts h.rest told h.covers.begin h.covers.tells
 
     abbrev last_fault : Option Fault
     last_fault = fault_at_end h.rest h.tells.outcome
@@ -178,7 +178,7 @@ module _ {R W E : Type 0} (r : Reading R) (w : Writing W) (e : Writing E) (asked
     line_of = second_output command (sizes messages.items) last_fault last_packet
 
     rest_kept : (h.rest ≡ h.kept) × (((f : Fault) → h.tells.outcome ≡ Refused f → ⊥) → IsAtEnd (r.left r.new)) × (h.cut ≡ None)
-    rest_kept = rest_is packets h.cut asked limits (sizes_of h.parts) h.kept h.rest h.tells.outcome (IsAtEnd (r.left r.new)) h.last
+    rest_kept = rest_is packets h.cut asked limits (sizes_of h.parts) (looked_in h.parts) h.kept h.rest h.tells.outcome (IsAtEnd (r.left r.new)) h.last
 
     -- no message is passed over
     tally_is : tally ≡ tally_of h.parts
@@ -275,7 +275,7 @@ module _ {R W E : Type 0} (r : Reading R) (w : Writing W) (e : Writing E) (asked
     Within stop = StopsWithin (taken r) (plain asked) most (is_check command) (IsFilledBy command (plain asked).window) (WritesSome w (writing e.held e.failures e.old before) (plain asked) command) stop
 
     abbrev messages_of : (stop : RunStop) (s : Within stop) → AreMessages limits s.covers.bytes s.parts s.rest s.told
-    messages_of stop s = are_messages packets asked 1 0 s.covers.bytes s.parts s.rest s.told s.covers.begin s.covers.tells
+    messages_of stop s = are_messages packets asked 1 0 0 s.covers.bytes s.parts s.rest s.told s.covers.begin s.covers.tells
 
     -- nothing is told
     none_more : (cause : Cause) (s : Within (ByCause cause)) → s.more ≡ []
@@ -283,7 +283,7 @@ module _ {R W E : Type 0} (r : Reading R) (w : Writing W) (e : Writing E) (asked
       | inl none ↦ none
       | inr some ↦ elim some [
         | inl lacks ↦ (
-            let uncut = (rest_is packets lacks.3 asked limits (sizes_of s.parts) lacks.0 s.rest lacks.2.outcome _ lacks.4).2 in
+            let uncut = (rest_is packets lacks.3 asked limits (sizes_of s.parts) (looked_in s.parts) lacks.0 s.rest lacks.2.outcome _ lacks.4).2 in
             let none = ap (λ (b : Option (Option ℕ)). (tally_with b s.parts s.rest).passed) uncut ∙ (messages_of (ByCause Memory) s).none_passed in
             let faultless : lacks.1 ≡ None = elim (lacks.5 none) [ inl whole ↦ whole.0 | inr goes ↦ absurd (false≢true goes.1) ] in
             none_last (plain asked) packets (length s.parts + 1) (sizes_of s.parts) lacks.0 lacks.1 s.more faultless lacks.2.told
@@ -372,18 +372,18 @@ module _ {R W E : Type 0} (r : Reading R) (w : Writing W) (e : Writing E) (asked
       kept = (due_of s).0;
       tells = (due_of s).3;
       last = elim (due_of s).4 [
-        | inl shown ↦ last_shown packets asked limits (sizes_of s.parts) (due_of s).0 s.rest (due_of s).3.outcome _ shown.0
-        | inr last ↦ subst (λ (b : Option (Option ℕ)). IsLast packets b (plain asked) limits (sizes_of s.parts) (due_of s).0 s.rest (due_of s).3.outcome _) (rest_is packets last.0 asked limits (sizes_of s.parts) (due_of s).0 s.rest (due_of s).3.outcome _ last.1).2 last.1
+        | inl shown ↦ last_shown packets asked limits (sizes_of s.parts) (looked_in s.parts) (due_of s).0 s.rest (due_of s).3.outcome _ shown.0
+        | inr last ↦ subst (λ (b : Option (Option ℕ)). IsLast packets b (plain asked) limits (sizes_of s.parts) (looked_in s.parts) (due_of s).0 s.rest (due_of s).3.outcome _) (rest_is packets last.0 asked limits (sizes_of s.parts) (looked_in s.parts) (due_of s).0 s.rest (due_of s).3.outcome _ last.1).2 last.1
       ];
       read_failed = s.caused;
     }
 
     -- and the last line after it, if it was reached
-    last_due : (s : Within Untold) (cut : Option (Option ℕ)) → IsLast packets cut (plain asked) limits (sizes_of s.parts) (due_of s).0 s.rest (due_of s).3.outcome (IsAtEnd (r.left r.new))
+    last_due : (s : Within Untold) (cut : Option (Option ℕ)) → IsLast packets cut (plain asked) limits (sizes_of s.parts) (looked_in s.parts) (due_of s).0 s.rest (due_of s).3.outcome (IsAtEnd (r.left r.new))
         → s.more ≡ (due_of s).2 ++ closing_line false (is_check command) false (tally_with cut s.parts s.rest) (tally_with cut s.parts s.rest).passed (due_of s).1
         → s.more ≡ (due_of s).2 ++ closing_line false (is_check command) false (tally_of s.parts) (passed_count s.parts) (due_of s).1
     last_due s cut last more =
-        more ∙ ap (λ (b : Option (Option ℕ)). (due_of s).2 ++ closing_line false (is_check command) false (tally_with b s.parts s.rest) (tally_with b s.parts s.rest).passed (due_of s).1) (rest_is packets cut asked limits (sizes_of s.parts) (due_of s).0 s.rest (due_of s).3.outcome _ last).2
+        more ∙ ap (λ (b : Option (Option ℕ)). (due_of s).2 ++ closing_line false (is_check command) false (tally_with b s.parts s.rest) (tally_with b s.parts s.rest).passed (due_of s).1) (rest_is packets cut asked limits (sizes_of s.parts) (looked_in s.parts) (due_of s).0 s.rest (due_of s).3.outcome _ last).2
 
     untold : (b : Bool) → is_check command ≡ b → (end : ExitStatus) → (s : Within Untold) → end ≡ status.Failed → GotFirst w.held w.failures b Untold (first_of b (output_of (form_of command) false (plain asked).window s.messages s.came.texts) (s.told ++ s.more)) w.old w.new
         → GotSecond e.held e.failures b Untold (second_of b (s.told ++ s.more)) e.old before → TellsStop e.held e.failures b Untold before e.new → Runs r w e limits most command end

@@ -19,7 +19,7 @@ use Rattle.cli_run.specs.Going.{EndsWhole, passed_count}
 use Rattle.cli_run.specs.CallListing.{number_and_time}
 use Rattle.cli_run.specs.LineListing.{AreLinesFilled, AreLinesOf}
 use Rattle.cli_run.specs.LineNames.{first_names, names_after, owners_for}
-use Rattle.cli_run.specs.Inputs.{ArePlaced, BeginWithParts, Part, PassedOver, Placed, Stated, Whole, sizes_of}
+use Rattle.cli_run.specs.Inputs.{ArePlaced, BeginWithParts, Part, PassedOver, Placed, Stated, Whole, looked_behind, looked_for, sizes_of}
 use Rattle.cli_run.specs.Output.{IsFilledBy, IsOutputOfAll, Picks, after, is_spent, owners_after, owners_known}
 use Rattle.cli_run.specs.Visiting.{AreWanted}
 use Rattle.cli_run.proofs.SameOutputs.{ActsAs}
@@ -107,73 +107,75 @@ module _ (limits : Limits) (F G : List Placed → Bool → Type 0) (one : (s t :
   none_left packets n offset messages before filled placed H h = subst (λ (l : List Placed). H l filled) (ap (λ (l : List Placed). before ++ l) placed ∙ append-nil before) h
 
   -- one ends since no more is wanted, and the other goes through
-  pub not_through : (packets others : Option Packets) (cut : Option (Option ℕ)) (how : Settings) (n offset m at : ℕ) (bytes : List ℕ) (P Q : List Part) (rest last : List ℕ) (outcome : CutOutcome) (a b before also : List Placed) → items_of before ≡ items_of also
+  pub not_through : (packets others : Option Packets) (cut : Option (Option ℕ)) (how : Settings) (n offset m at looked seen : ℕ) (bytes : List ℕ) (P Q : List Part) (rest last : List ℕ) (outcome : CutOutcome) (a b before also : List Placed) → items_of before ≡ items_of also
       → BeginWithParts limits bytes P rest → BeginWithParts limits bytes Q last → ArePlaced packets n offset P a → ArePlaced others m at Q b → AreWanted F before a → AreWanted G also b
-      → EndsHere limits packets cut how (offset + sizes_of P) rest outcome → ArePassed packets limits how offset P → ArePassed others limits how at Q → F (before ++ a) false → G (also ++ b) true
-      → offset ≡ at → AreSamePackets packets others ⊎ (((passed_count P ≡ 0) × (outcome ≡ Ended)) ⊎ (passed_count Q ≡ 0)) → ⊥
-  not_through packets others cut how n offset m at bytes [] [] rest last outcome a b before also e x y pa pb wa wb ends gone passed fa gb there known =
+      → EndsHere limits packets cut how (offset + sizes_of P) (looked_behind P offset looked) rest outcome → ArePassed packets limits how offset looked P → ArePassed others limits how at seen Q → F (before ++ a) false → G (also ++ b) true
+      → offset ≡ at → looked ≡ seen → AreSamePackets packets others ⊎ (((passed_count P ≡ 0) × (outcome ≡ Ended)) ⊎ (passed_count Q ≡ 0)) → ⊥
+  not_through packets others cut how n offset m at looked seen bytes [] [] rest last outcome a b before also e x y pa pb wa wb ends gone passed fa gb there alike known =
       false≢true (one before also false true e (none_left packets n offset a before false pa F fa) (none_left others m at b also true pb G gb))
-  not_through packets others cut how n offset m at bytes [] (q ∷ Q) rest last outcome a b before also e x y pa pb wa wb ends gone passed fa gb there known =
+  not_through packets others cut how n offset m at looked seen bytes [] (q ∷ Q) rest last outcome a b before also e x y pa pb wa wb ends gone passed fa gb there alike known =
       let here : offset + 0 ≡ at = omega (arith, there) in
-      no_part limits packets others cut how at bytes outcome q Q (elim known [ inl same ↦ inl same | inr none ↦ inr (elim none [ inl unrefused ↦ inl unrefused.1 | inr zero ↦ inr zero ]) ])
-      (transport (λ i. EndsHere limits packets cut how (here i) (sym x i) outcome) ends) y.0 passed
-  not_through packets others cut how n offset m at bytes (p ∷ P) [] rest last outcome a b before also e x y pa pb wa wb ends gone passed fa gb there known =
+      no_part limits packets others cut how at seen bytes outcome q Q (elim known [ inl same ↦ inl same | inr none ↦ inr (elim none [ inl unrefused ↦ inl unrefused.1 | inr zero ↦ inr zero ]) ])
+      (transport (λ i. EndsHere limits packets cut how (here i) (alike i) (sym x i) outcome) ends) y.0 passed
+  not_through packets others cut how n offset m at looked seen bytes (p ∷ P) [] rest last outcome a b before also e x y pa pb wa wb ends gone passed fa gb there alike known =
       false≢true (one before also false true e (still_wanted F a before wa fa) (none_left others m at b also true pb G gb))
-  not_through packets others cut how n offset m at bytes (Whole p ∷ P) (Whole q ∷ Q) rest last outcome [] b before also e x y pa pb wa wb ends gone passed fa gb there known = absurd pa
-  not_through packets others cut how n offset m at bytes (Whole p ∷ P) (Whole q ∷ Q) rest last outcome (s ∷ a) [] before also e x y pa pb wa wb ends gone passed fa gb there known = absurd pb
-  not_through packets others cut how n offset m at bytes (Whole p ∷ P) (Whole q ∷ Q) rest last outcome (s ∷ a) (t ∷ b) before also e x y pa pb wa wb ends gone passed fa gb there known =
+  not_through packets others cut how n offset m at looked seen bytes (Whole p ∷ P) (Whole q ∷ Q) rest last outcome [] b before also e x y pa pb wa wb ends gone passed fa gb there alike known = absurd pa
+  not_through packets others cut how n offset m at looked seen bytes (Whole p ∷ P) (Whole q ∷ Q) rest last outcome (s ∷ a) [] before also e x y pa pb wa wb ends gone passed fa gb there alike known = absurd pb
+  not_through packets others cut how n offset m at looked seen bytes (Whole p ∷ P) (Whole q ∷ Q) rest last outcome (s ∷ a) (t ∷ b) before also e x y pa pb wa wb ends gone passed fa gb there alike known =
       let w = one_whole limits bytes p.order q.order p.message q.message p.size q.size x.0 y.0 in
       let same : p ≡ q = λ i. record { order = w.0 i; message = w.1 i; size = w.2 i } in
       let begin = subst (λ k. BeginWithParts limits (drop k bytes) Q last) (sym w.2) y.1 in
       let first : offset + (p.size + sizes_of P) ≡ offset + p.size + sizes_of P = omega arith in
-      not_through packets others cut how (n + 1) (offset + p.size) (m + 1) (at + q.size) (drop p.size bytes) P Q rest last outcome a b (before ++ s ∷ []) (also ++ t ∷ [])
-      (same_last before also s t e (pa.0.item_is ∙ (same ∙ sym pb.0.item_is))) x.1 begin pa.1 pb.1 wa.1 wb.1 (subst (λ n. EndsHere limits packets cut how n rest outcome) first ends) gone passed
-      (subst (λ (l : List Placed). F l false) (sym (append_assoc before (s ∷ []) a)) fa) (subst (λ (l : List Placed). G l true) (sym (append_assoc also (t ∷ []) b)) gb) (omega (arith, there, w.2)) known
-  not_through packets others cut how n offset m at bytes (Whole p ∷ P) (PassedOver k f c size ∷ Q) rest last outcome a b before also e x y pa pb wa wb ends gone passed fa gb there known =
+      not_through packets others cut how (n + 1) (offset + p.size) (m + 1) (at + q.size) looked seen (drop p.size bytes) P Q rest last outcome a b (before ++ s ∷ []) (also ++ t ∷ [])
+      (same_last before also s t e (pa.0.item_is ∙ (same ∙ sym pb.0.item_is))) x.1 begin pa.1 pb.1 wa.1 wb.1 (subst (λ n. EndsHere limits packets cut how n (looked_behind P (offset + p.size) looked) rest outcome) first ends) gone passed
+      (subst (λ (l : List Placed). F l false) (sym (append_assoc before (s ∷ []) a)) fa) (subst (λ (l : List Placed). G l true) (sym (append_assoc also (t ∷ []) b)) gb) (omega (arith, there, w.2)) alike known
+  not_through packets others cut how n offset m at looked seen bytes (Whole p ∷ P) (PassedOver k f c size ∷ Q) rest last outcome a b before also e x y pa pb wa wb ends gone passed fa gb there alike known =
       no_whole_part limits bytes k f c size p y.0 x.0
-  not_through packets others cut how n offset m at bytes (PassedOver k f c size ∷ P) (Whole q ∷ Q) rest last outcome a b before also e x y pa pb wa wb ends gone passed fa gb there known =
+  not_through packets others cut how n offset m at looked seen bytes (PassedOver k f c size ∷ P) (Whole q ∷ Q) rest last outcome a b before also e x y pa pb wa wb ends gone passed fa gb there alike known =
       no_whole_part limits bytes k f c size q x.0 y.0
-  not_through packets others cut how n offset m at bytes (PassedOver k f c size ∷ P) (PassedOver l g d long ∷ Q) rest last outcome a b before also e x y pa pb wa wb ends gone passed fa gb there known = elim known [
-    | inl alike ↦ (
-        let same = both_size limits packets others alike how offset at there bytes k l f g c d size long x.0 y.0 gone.1 passed.1 in
+  not_through packets others cut how n offset m at looked seen bytes (PassedOver k f c size ∷ P) (PassedOver l g d long ∷ Q) rest last outcome a b before also e x y pa pb wa wb ends gone passed fa gb there alike known = elim known [
+    | inl equal ↦ (
+        let both = both_size limits packets others equal how offset at looked seen there alike bytes k l f g c d size long x.0 y.0 gone.1 passed.1 in
+        let same = both.0 in
         let begin = subst (λ i. BeginWithParts limits (drop i bytes) Q last) (sym same) y.1 in
         let first : offset + (size + sizes_of P) ≡ offset + size + sizes_of P = omega arith in
-        not_through packets others cut how (n + 1) (offset + size) (m + 1) (at + long) (drop size bytes) P Q rest last outcome a b before also e x.1 begin pa pb wa wb
-        (subst (λ n. EndsHere limits packets cut how n rest outcome) first ends) gone.2 passed.2 fa gb (omega (arith, there, same)) (inl alike)
+        not_through packets others cut how (n + 1) (offset + size) (m + 1) (at + long) (looked_for c f.at offset looked) (looked_for d g.at at seen) (drop size bytes) P Q rest last outcome a b before also e x.1 begin pa pb wa wb
+        (subst (λ n. EndsHere limits packets cut how n (looked_behind P (offset + size) (looked_for c f.at offset looked)) rest outcome) first ends) gone.2 passed.2 fa gb (omega (arith, there, same)) both.1 (inl equal)
         )
     | inr none ↦ elim none [ inl zero ↦ (let no = zero.0 in omega (arith, no)) | inr zero ↦ omega (arith, zero) ]
   ]
 
   -- both end since no more is wanted
-  pub same_far : (packets others : Option Packets) (how : Settings) (n offset m at : ℕ) (bytes : List ℕ) (P Q : List Part) (rest last : List ℕ) (a b before also : List Placed) → items_of before ≡ items_of also
+  pub same_far : (packets others : Option Packets) (how : Settings) (n offset m at looked seen : ℕ) (bytes : List ℕ) (P Q : List Part) (rest last : List ℕ) (a b before also : List Placed) → items_of before ≡ items_of also
       → BeginWithParts limits bytes P rest → BeginWithParts limits bytes Q last → ArePlaced packets n offset P a → ArePlaced others m at Q b → AreWanted F before a → AreWanted G also b
-      → EndsWhole P → EndsWhole Q → ArePassed packets limits how offset P → ArePassed others limits how at Q → F (before ++ a) true → G (also ++ b) true
-      → offset ≡ at → AreSamePackets packets others ⊎ (passed_count P ≡ 0) → AreSame P Q × (rest ≡ last)
-  same_far packets others how n offset m at bytes [] [] rest last a b before also e x y pa pb wa wb ends too gone passed fa gb there known = (refl, sym x ∙ y)
-  same_far packets others how n offset m at bytes [] (q ∷ Q) rest last a b before also e x y pa pb wa wb ends too gone passed fa gb there known =
+      → EndsWhole P → EndsWhole Q → ArePassed packets limits how offset looked P → ArePassed others limits how at seen Q → F (before ++ a) true → G (also ++ b) true
+      → offset ≡ at → looked ≡ seen → AreSamePackets packets others ⊎ (passed_count P ≡ 0) → AreSame P Q × (rest ≡ last)
+  same_far packets others how n offset m at looked seen bytes [] [] rest last a b before also e x y pa pb wa wb ends too gone passed fa gb there alike known = (refl, sym x ∙ y)
+  same_far packets others how n offset m at looked seen bytes [] (q ∷ Q) rest last a b before also e x y pa pb wa wb ends too gone passed fa gb there alike known =
       absurd (false≢true (sym (one before also true false e (none_left packets n offset a before true pa F fa) (first_wanted G others m at (q ∷ Q) b also (λ none. absurd cc) too pb wb))))
-  same_far packets others how n offset m at bytes (p ∷ P) [] rest last a b before also e x y pa pb wa wb ends too gone passed fa gb there known =
+  same_far packets others how n offset m at looked seen bytes (p ∷ P) [] rest last a b before also e x y pa pb wa wb ends too gone passed fa gb there alike known =
       absurd (false≢true (one before also false true e (first_wanted F packets n offset (p ∷ P) a before (λ none. absurd cc) ends pa wa) (none_left others m at b also true pb G gb)))
-  same_far packets others how n offset m at bytes (Whole p ∷ P) (Whole q ∷ Q) rest last [] b before also e x y pa pb wa wb ends too gone passed fa gb there known = absurd pa
-  same_far packets others how n offset m at bytes (Whole p ∷ P) (Whole q ∷ Q) rest last (s ∷ a) [] before also e x y pa pb wa wb ends too gone passed fa gb there known = absurd pb
-  same_far packets others how n offset m at bytes (Whole p ∷ P) (Whole q ∷ Q) rest last (s ∷ a) (t ∷ b) before also e x y pa pb wa wb ends too gone passed fa gb there known =
+  same_far packets others how n offset m at looked seen bytes (Whole p ∷ P) (Whole q ∷ Q) rest last [] b before also e x y pa pb wa wb ends too gone passed fa gb there alike known = absurd pa
+  same_far packets others how n offset m at looked seen bytes (Whole p ∷ P) (Whole q ∷ Q) rest last (s ∷ a) [] before also e x y pa pb wa wb ends too gone passed fa gb there alike known = absurd pb
+  same_far packets others how n offset m at looked seen bytes (Whole p ∷ P) (Whole q ∷ Q) rest last (s ∷ a) (t ∷ b) before also e x y pa pb wa wb ends too gone passed fa gb there alike known =
       let w = one_whole limits bytes p.order q.order p.message q.message p.size q.size x.0 y.0 in
       let same : p ≡ q = λ i. record { order = w.0 i; message = w.1 i; size = w.2 i } in
       let begin = subst (λ k. BeginWithParts limits (drop k bytes) Q last) (sym w.2) y.1 in
-      let more = same_far packets others how (n + 1) (offset + p.size) (m + 1) (at + q.size) (drop p.size bytes) P Q rest last a b (before ++ s ∷ []) (also ++ t ∷ [])
+      let more = same_far packets others how (n + 1) (offset + p.size) (m + 1) (at + q.size) looked seen (drop p.size bytes) P Q rest last a b (before ++ s ∷ []) (also ++ t ∷ [])
       (same_last before also s t e (pa.0.item_is ∙ (same ∙ sym pb.0.item_is))) x.1 begin pa.1 pb.1 wa.1 wb.1 ends too gone passed
-      (subst (λ (l : List Placed). F l true) (sym (append_assoc before (s ∷ []) a)) fa) (subst (λ (l : List Placed). G l true) (sym (append_assoc also (t ∷ []) b)) gb) (omega (arith, there, w.2)) known in
+      (subst (λ (l : List Placed). F l true) (sym (append_assoc before (s ∷ []) a)) fa) (subst (λ (l : List Placed). G l true) (sym (append_assoc also (t ∷ []) b)) gb) (omega (arith, there, w.2)) alike known in
       ((λ i. Whole (same i) ∷ more.0 i), more.1)
-  same_far packets others how n offset m at bytes (Whole p ∷ P) (PassedOver k f c size ∷ Q) rest last a b before also e x y pa pb wa wb ends too gone passed fa gb there known =
+  same_far packets others how n offset m at looked seen bytes (Whole p ∷ P) (PassedOver k f c size ∷ Q) rest last a b before also e x y pa pb wa wb ends too gone passed fa gb there alike known =
       absurd (no_whole_part limits bytes k f c size p y.0 x.0)
-  same_far packets others how n offset m at bytes (PassedOver k f c size ∷ P) (Whole q ∷ Q) rest last a b before also e x y pa pb wa wb ends too gone passed fa gb there known =
+  same_far packets others how n offset m at looked seen bytes (PassedOver k f c size ∷ P) (Whole q ∷ Q) rest last a b before also e x y pa pb wa wb ends too gone passed fa gb there alike known =
       absurd (no_whole_part limits bytes k f c size q x.0 y.0)
-  same_far packets others how n offset m at bytes (PassedOver k f c size ∷ P) (PassedOver l g d long ∷ Q) rest last a b before also e x y pa pb wa wb ends too gone passed fa gb there known = elim known [
-    | inl alike ↦ (
+  same_far packets others how n offset m at looked seen bytes (PassedOver k f c size ∷ P) (PassedOver l g d long ∷ Q) rest last a b before also e x y pa pb wa wb ends too gone passed fa gb there alike known = elim known [
+    | inl equal ↦ (
         let fault : f ≡ g = part_fault limits bytes k l f g c d size long x.0 y.0 in
-        let same = both_size limits packets others alike how offset at there bytes k l f g c d size long x.0 y.0 gone.1 passed.1 in
+        let both = both_size limits packets others equal how offset at looked seen there alike bytes k l f g c d size long x.0 y.0 gone.1 passed.1 in
+        let same = both.0 in
         let begin = subst (λ i. BeginWithParts limits (drop i bytes) Q last) (sym same) y.1 in
-        let more = same_far packets others how (n + 1) (offset + size) (m + 1) (at + long) (drop size bytes) P Q rest last a b before also e x.1 begin pa pb wa wb ends.1 too.1 gone.2 passed.2 fa gb (omega (arith, there, same)) (inl alike) in
+        let more = same_far packets others how (n + 1) (offset + size) (m + 1) (at + long) (looked_for c f.at offset looked) (looked_for d g.at at seen) (drop size bytes) P Q rest last a b before also e x.1 begin pa pb wa wb ends.1 too.1 gone.2 passed.2 fa gb (omega (arith, there, same)) both.1 (inl equal) in
         ((λ i. PassedOver [] (fault i) Stated (same i) ∷ more.0 i), more.1)
         )
     | inr none ↦ absurd (omega (arith, none))

@@ -40,7 +40,7 @@ use Rattle.cli_report.specs.declared.telling.RefusedMessage.{RefusedMessage}
 use Rattle.cli_report.specs.declared.ending.ExitStatus.TheVariants as status
 use Rattle.cli_run.specs.Learning.{name_sender, known_after}
 use Rattle.cli_run.specs.ByName.{after_messages}
-use Rattle.cli_run.specs.Inputs.{ArePlaced, BeginWithParts, Part, PassedOver, Placed, Whole}
+use Rattle.cli_run.specs.Inputs.{ArePlaced, BeginWithParts, Part, PassedOver, Placed, Whole, looked_for}
 use Rattle.cli_run.specs.Output.{AreAlike, IsExact, form_of, framed, is_framed, IsOutputOf, IsOutputOfAll, IsTextOf, Picks, is_check, owners_after, owners_known}
 use Rattle.cli_run.specs.Going.{AreTold, IsTold, IsToldIn, IsToldLast, ShowsNone, passed_count, status_at, tally_of}
 use Rattle.cli_run.specs.Shown.{AreOneEach, Shown, last_of, passed_of}
@@ -91,10 +91,10 @@ bare_tally (PassedOver kept fault by size ∷ parts) =
 -- ---- what is told
 
 -- a part is passed over only if the run is to go on
-pub are_passed : (packets : Option Packets) (settings : Settings) (n offset : ℕ) (parts : List Part) (told : List ℕ) → AreTold packets settings n offset parts told → ArePassed packets settings.limits settings offset parts
-are_passed packets settings n offset [] told t = tt
-are_passed packets settings n offset (Whole item ∷ parts) told t = are_passed packets settings (n + 1) (offset + item.size) parts t.1 t.4
-are_passed packets settings n offset (PassedOver kept fault by size ∷ parts) told t = (t.3.0, t.3.1, are_passed packets settings (n + 1) (offset + size) parts t.1 t.4)
+pub are_passed : (packets : Option Packets) (settings : Settings) (n offset looked : ℕ) (parts : List Part) (told : List ℕ) → AreTold packets settings n offset looked parts told → ArePassed packets settings.limits settings offset looked parts
+are_passed packets settings n offset looked [] told t = tt
+are_passed packets settings n offset looked (Whole item ∷ parts) told t = are_passed packets settings (n + 1) (offset + item.size) looked parts t.1 t.4
+are_passed packets settings n offset looked (PassedOver kept fault by size ∷ parts) told t = (t.3.0, t.3.1, are_passed packets settings (n + 1) (offset + size) (looked_for by fault.at offset looked) parts t.1 t.4)
 
 -- of bytes of one input as many were kept
 prefix_one : (w kept also : List ℕ) → IsPrefixTo kept w → IsPrefixTo also w → length kept ≡ length also → kept ≡ also
@@ -161,30 +161,30 @@ module _ (settings : Settings) where
 
   module _ (all : Packets) where
     -- parts of the same bytes are told alike
-    pub same_told : (n offset : ℕ) (bytes : List ℕ) (parts others : List Part) (rest last a b : List ℕ) → AreSame parts others → ShowAlike (passed_of parts) (passed_of others) → BeginWithParts settings.limits bytes parts rest
-        → BeginWithParts settings.limits bytes others last → AreTold (Some all) settings n offset parts a → AreTold (Some all) settings n offset others b → a ≡ b
-    same_told n offset bytes [] [] rest last a b same shows x y p q = p ∙ sym q
-    same_told n offset bytes [] (Whole item ∷ others) rest last a b same shows x y p q = absurd cc
-    same_told n offset bytes [] (PassedOver kept fault by size ∷ others) rest last a b same shows x y p q = absurd cc
-    same_told n offset bytes (Whole item ∷ parts) [] rest last a b same shows x y p q = absurd cc
-    same_told n offset bytes (PassedOver kept fault by size ∷ parts) [] rest last a b same shows x y p q = absurd cc
-    same_told n offset bytes (Whole item ∷ parts) (PassedOver kept fault by size ∷ others) rest last a b same shows x y p q = absurd cc
-    same_told n offset bytes (PassedOver kept fault by size ∷ parts) (Whole item ∷ others) rest last a b same shows x y p q = absurd cc
-    same_told n offset bytes (Whole item ∷ parts) (Whole other ∷ others) rest last a b same shows x y p q =
+    pub same_told : (n offset looked seen : ℕ) (bytes : List ℕ) (parts others : List Part) (rest last a b : List ℕ) → AreSame parts others → ShowAlike (passed_of parts) (passed_of others) → BeginWithParts settings.limits bytes parts rest
+        → BeginWithParts settings.limits bytes others last → AreTold (Some all) settings n offset looked parts a → AreTold (Some all) settings n offset seen others b → a ≡ b
+    same_told n offset looked seen bytes [] [] rest last a b same shows x y p q = p ∙ sym q
+    same_told n offset looked seen bytes [] (Whole item ∷ others) rest last a b same shows x y p q = absurd cc
+    same_told n offset looked seen bytes [] (PassedOver kept fault by size ∷ others) rest last a b same shows x y p q = absurd cc
+    same_told n offset looked seen bytes (Whole item ∷ parts) [] rest last a b same shows x y p q = absurd cc
+    same_told n offset looked seen bytes (PassedOver kept fault by size ∷ parts) [] rest last a b same shows x y p q = absurd cc
+    same_told n offset looked seen bytes (Whole item ∷ parts) (PassedOver kept fault by size ∷ others) rest last a b same shows x y p q = absurd cc
+    same_told n offset looked seen bytes (PassedOver kept fault by size ∷ parts) (Whole item ∷ others) rest last a b same shows x y p q = absurd cc
+    same_told n offset looked seen bytes (Whole item ∷ parts) (Whole other ∷ others) rest last a b same shows x y p q =
         let one : item ≡ other = cc in
         let more : AreSame parts others = cc in
         let there = subst (λ (i : CutMessage). BeginWithParts settings.limits (drop i.size bytes) others last) (sym one) y.1 in
-        let told = subst (λ (i : CutMessage). AreTold (Some all) settings (n + 1) (offset + i.size) others q.1) (sym one) q.4 in
-        p.2 ∙ ((λ i. (p.3 ∙ sym q.3) i ++ same_told (n + 1) (offset + item.size) (drop item.size bytes) parts others rest last p.1 q.1 more shows x.1 there p.4 told i) ∙ sym q.2)
-    same_told n offset bytes (PassedOver kept fault by size ∷ parts) (PassedOver also other with wide ∷ others) rest last a b same shows x y p q =
+        let told = subst (λ (i : CutMessage). AreTold (Some all) settings (n + 1) (offset + i.size) seen others q.1) (sym one) q.4 in
+        p.2 ∙ ((λ i. (p.3 ∙ sym q.3) i ++ same_told (n + 1) (offset + item.size) looked seen (drop item.size bytes) parts others rest last p.1 q.1 more shows x.1 there p.4 told i) ∙ sym q.2)
+    same_told n offset looked seen bytes (PassedOver kept fault by size ∷ parts) (PassedOver also other with wide ∷ others) rest last a b same shows x y p q =
         let one : fault ≡ other = cc in
         let long : size ≡ wide = cc in
         let more : AreSame parts others = cc in
         let there = subst (λ k. BeginWithParts settings.limits (drop k bytes) others last) (sym long) y.1 in
-        let told = subst (λ k. AreTold (Some all) settings (n + 1) (offset + k) others q.1) (sym long) q.4 in
+        let told = subst (λ k. AreTold (Some all) settings (n + 1) (offset + k) (looked_for with other.at offset seen) others q.1) (sym long) q.4 in
         let packet = part_packet settings.limits all offset bytes kept also fault other by with size wide p.3.2.0 q.3.2.0 x.0 y.0 p.3.2.1 q.3.2.1 in
         let line : p.0 ≡ q.0 = one_text n n offset offset fault other p.3.2.0 q.3.2.0 kept also p.0 q.0 refl refl one packet (prefix_one bytes kept also x.0.0 y.0.0) (show_first (record { kept = kept; fault = fault }) (record { kept = also; fault = other }) (passed_of parts) (passed_of others) shows) p.3.2.2 q.3.2.2 in
-        p.2 ∙ ((λ i. line i ++ same_told (n + 1) (offset + size) (drop size bytes) parts others rest last p.1 q.1 more (show_others (record { kept = kept; fault = fault }) (record { kept = also; fault = other }) (passed_of parts) (passed_of others) shows) x.1 there p.4 told i) ∙ sym q.2)
+        p.2 ∙ ((λ i. line i ++ same_told (n + 1) (offset + size) (looked_for by fault.at offset looked) (looked_for with other.at offset seen) (drop size bytes) parts others rest last p.1 q.1 more (show_others (record { kept = kept; fault = fault }) (record { kept = also; fault = other }) (passed_of parts) (passed_of others) shows) x.1 there p.4 told i) ∙ sym q.2)
 
     -- and the rest after them
     pub same_last : (n offset : ℕ) (w kept also : List ℕ) (outcome : CutOutcome) (fault : Option Fault) (a b : List ℕ) → IsKeptOf settings.limits outcome kept w → IsKeptOf settings.limits outcome also w
@@ -195,10 +195,10 @@ module _ (settings : Settings) where
 
   -- nothing is told where nothing is refused
   module _ (packets : Option Packets) where
-    pub none_told : (n offset : ℕ) (parts : List Part) (a : List ℕ) → passed_count parts ≡ 0 → AreTold packets settings n offset parts a → a ≡ []
-    none_told n offset [] a none p = p
-    none_told n offset (Whole x ∷ parts) a none p = p.2 ∙ (λ i. p.3 i ++ none_told (n + 1) (offset + x.size) parts p.1 none p.4 i)
-    none_told n offset (PassedOver k f c m ∷ parts) a none p = absurd (omega (arith, none))
+    pub none_told : (n offset looked : ℕ) (parts : List Part) (a : List ℕ) → passed_count parts ≡ 0 → AreTold packets settings n offset looked parts a → a ≡ []
+    none_told n offset looked [] a none p = p
+    none_told n offset looked (Whole x ∷ parts) a none p = p.2 ∙ (λ i. p.3 i ++ none_told (n + 1) (offset + x.size) looked parts p.1 none p.4 i)
+    none_told n offset looked (PassedOver k f c m ∷ parts) a none p = absurd (omega (arith, none))
 
     pub none_last : (n offset : ℕ) (kept : List ℕ) (fault : Option Fault) (a : List ℕ) → fault ≡ None → IsToldLast packets settings n offset kept fault a → a ≡ []
     none_last n offset kept fault a none p = subst (λ (f : Option Fault). IsToldLast packets settings n offset kept f a) none p

@@ -34,7 +34,7 @@ use Rattle.cli_run.specs.CallListing.{EndsNoted, IsNote, WritesCalls, all_named,
 use Rattle.cli_run.specs.CallSumming.{IsTableOf, WritesSums}
 use Rattle.cli_run.specs.Ending.{EndsAfterAll}
 use Rattle.cli_run.specs.Going.{AreTold, Goes, GoesFar, GoesThrough, IsThrough, IsToldLast, closing_line, cut_tally, passed_count, status_at, tally_of, tally_with}
-use Rattle.cli_run.specs.Inputs.{ArePlaced, BeginWithParts, Part, Placed, size_of, sizes_of, wholes}
+use Rattle.cli_run.specs.Inputs.{ArePlaced, BeginWithParts, Part, Placed, looked_in, size_of, sizes_of, wholes}
 use Rattle.cli_run.specs.Needed.{IsReadFor}
 use Rattle.cli_run.specs.Output.{IsFilledBy, is_check, check_line, fault_line, form_of, header_before, last_line, output_of, second_output, status_of, written}
 use Rattle.cli_run.specs.Refusals.{IsFaultIn}
@@ -102,7 +102,7 @@ module _ (settings : Settings) (is_check : Bool) (input : List ℕ) (bytes : IsB
   record IsReached {t : Taken} {most : ℕ} {tally : Tally} {fault : Option Fault} {told text : List ℕ} (h : IsThrough t settings most is_check tally fault told text) : Type 0 where
     last : List ℕ
     begin : BeginWithParts settings.limits input h.parts last
-    ends : EndsHere settings.limits t.packets h.cut settings (sizes_of h.parts) last h.tells.outcome
+    ends : EndsHere settings.limits t.packets h.cut settings (sizes_of h.parts) (looked_in h.parts) last h.tells.outcome
     all_is : (by : Option ℕ) → h.cut ≡ Some by → last ≡ h.rest
     fault_is : fault ≡ fault_at_end last h.tells.outcome
     kept_is : IsKeptOf settings.limits h.tells.outcome h.kept last
@@ -113,12 +113,12 @@ module _ (settings : Settings) (is_check : Bool) (input : List ℕ) (bytes : IsB
       let last = h.rest ++ after.0 in
       let none : IsAtEnd t.left1 → after.0 ≡ [] = λ e. subst IsAtEnd after.1 e in
       let begin = subst (λ l. BeginWithParts settings.limits l h.parts last) (sym after.2) (parts_more settings.limits h.covers.bytes h.parts h.rest after.0 (λ e. none (h.covers.ends e)) h.covers.begin) in
-      let all = ends_here settings.limits t.packets h.cut settings (sizes_of h.parts) h.kept h.rest after.0 h.tells.outcome (IsAtEnd t.left1) none (parts_bytes settings.limits input h.parts last begin bytes) h.tells.outcome_is h.last in
+      let all = ends_here settings.limits t.packets h.cut settings (sizes_of h.parts) (looked_in h.parts) h.kept h.rest after.0 h.tells.outcome (IsAtEnd t.left1) none (parts_bytes settings.limits input h.parts last begin bytes) h.tells.outcome_is h.last in
       record { last = last; begin = begin; ends = all.0; fault_is = h.tells.fault_is ∙ all.1; kept_is = all.2; all_is = all.3 }
 
   -- the place after all parts
-  after_all : (packets : Option Packets) (cut : Option (Option ℕ)) (n : ℕ) (w : List ℕ) (outcome : CutOutcome) → EndsHere settings.limits packets cut settings n w outcome → EndsHere settings.limits packets cut settings (0 + n) w outcome
-  after_all packets cut n w outcome e = let same : n ≡ 0 + n = omega arith in subst (λ (k : ℕ). EndsHere settings.limits packets cut settings k w outcome) same e
+  after_all : (packets : Option Packets) (cut : Option (Option ℕ)) (n looked : ℕ) (w : List ℕ) (outcome : CutOutcome) → EndsHere settings.limits packets cut settings n looked w outcome → EndsHere settings.limits packets cut settings (0 + n) looked w outcome
+  after_all packets cut n looked w outcome e = let same : n ≡ 0 + n = omega arith in subst (λ (k : ℕ). EndsHere settings.limits packets cut settings k looked w outcome) same e
 
   -- nothing is refused then
   unrefused : {t : Taken} {most : ℕ} {F : List Placed → Bool → Type 0} {P : List Placed → (told : List ℕ) → Type 0} {end : ExitStatus} (g : GoesThrough t settings most is_check F P end) → end ≡ status.Done
@@ -142,9 +142,9 @@ module _ (settings : Settings) (is_check : Bool) (input : List ℕ) (bytes : IsB
     known_alike : AreKnown settings.limits t.packets u.packets g.through.tells.outcome g.through.parts
     known_alike = elim alike [ inl packets ↦ inl packets | inr done ↦ inr (unrefused g done) ]
 
-    same : AreSame g.through.parts h.through.parts × (a.last ≡ b.last)
-    same = same_parts settings.limits t.packets u.packets g.through.cut h.through.cut settings 0 0 input g.through.parts h.through.parts a.last b.last g.through.tells.outcome h.through.tells.outcome refl known_alike a.begin b.begin
-        (are_passed t.packets settings 1 0 g.through.parts g.told g.through.covers.tells) (are_passed u.packets settings 1 0 h.through.parts h.told h.through.covers.tells) (after_all t.packets g.through.cut (sizes_of g.through.parts) a.last g.through.tells.outcome a.ends) (after_all u.packets h.through.cut (sizes_of h.through.parts) b.last h.through.tells.outcome b.ends)
+    same : AreSame g.through.parts h.through.parts × (a.last ≡ b.last) × (looked_in g.through.parts ≡ looked_in h.through.parts)
+    same = same_parts settings.limits t.packets u.packets g.through.cut h.through.cut settings 0 0 0 0 input g.through.parts h.through.parts a.last b.last g.through.tells.outcome h.through.tells.outcome refl refl known_alike a.begin b.begin
+        (are_passed t.packets settings 1 0 0 g.through.parts g.told g.through.covers.tells) (are_passed u.packets settings 1 0 0 h.through.parts h.told h.through.covers.tells) (after_all t.packets g.through.cut (sizes_of g.through.parts) (looked_in g.through.parts) a.last g.through.tells.outcome a.ends) (after_all u.packets h.through.cut (sizes_of h.through.parts) (looked_in h.through.parts) b.last h.through.tells.outcome b.ends)
 
     outcome_is : g.through.tells.outcome ≡ h.through.tells.outcome
     outcome_is =
@@ -160,8 +160,8 @@ module _ (settings : Settings) (is_check : Bool) (input : List ℕ) (bytes : IsB
     cut_is : g.through.cut ≡ h.through.cut
     cut_is =
         let offset : sizes_of h.through.parts ≡ sizes_of g.through.parts = ap (λ (t : Tally). t.size) (sym parts_tally) in
-        same_cut settings.limits t.packets u.packets g.through.cut h.through.cut settings (sizes_of g.through.parts) a.last _ _ outcome_is (elim alike [ inl packets ↦ inl packets | inr done ↦ inr (unrefused g done).1 ]) a.ends
-        (transport (λ i. EndsHere settings.limits u.packets h.through.cut settings (offset i) (sym same.1 i) h.through.tells.outcome) b.ends)
+        same_cut settings.limits t.packets u.packets g.through.cut h.through.cut settings (sizes_of g.through.parts) (looked_in g.through.parts) a.last _ _ outcome_is (elim alike [ inl packets ↦ inl packets | inr done ↦ inr (unrefused g done).1 ]) a.ends
+        (transport (λ i. EndsHere settings.limits u.packets h.through.cut settings (offset i) (sym same.2 i) (sym same.1 i) h.through.tells.outcome) b.ends)
 
     -- with what the input ends within
     both_tally : (cut snip : Option (Option ℕ)) → cut ≡ snip → ((by : Option ℕ) → cut ≡ Some by → a.last ≡ g.through.rest) → ((by : Option ℕ) → snip ≡ Some by → b.last ≡ h.through.rest)
@@ -186,8 +186,8 @@ module _ (settings : Settings) (is_check : Bool) (input : List ℕ) (bytes : IsB
         let none = none_refused g.tally.passed g.fault (sym g.end_is ∙ done) in
         let passed = (unrefused g done).0 in
         let passed_too : passed_count h.through.parts ≡ 0 = ap (λ (t : Tally). t.passed) (sym parts_tally) ∙ passed in
-        let first = none_told settings t.packets 1 0 g.through.parts g.told passed g.through.covers.tells in
-        let first_too = none_told settings u.packets 1 0 h.through.parts h.told passed_too h.through.covers.tells in
+        let first = none_told settings t.packets 1 0 0 g.through.parts g.told passed g.through.covers.tells in
+        let first_too = none_told settings u.packets 1 0 0 h.through.parts h.told passed_too h.through.covers.tells in
         let last = none_last settings t.packets (length g.through.parts + 1) (sizes_of g.through.parts) g.through.kept g.fault g.text none.1 g.through.tells.told in
         let last_too = none_last settings u.packets (length g.through.parts + 1) (sizes_of g.through.parts) h.through.kept g.fault h.text none.1 told_last in
         (λ i. first i ++ last i) ∙ sym (λ i. first_too i ++ last_too i)
@@ -195,9 +195,9 @@ module _ (settings : Settings) (is_check : Bool) (input : List ℕ) (bytes : IsB
     -- or what is refused is of the same packets, and is told alike
     line_is : ShowAlike settings (passed_of g.through.parts) (passed_of h.through.parts) → ShowAlike settings (last_of g.through.kept g.fault) (last_of h.through.kept h.fault) → (all : Packets) → t.packets ≡ Some all → u.packets ≡ Some all → g.told ++ g.text ≡ h.told ++ h.text
     line_is passed ending all one too =
-        let parts = subst (λ (p : Option Packets). AreTold p settings 1 0 g.through.parts g.told) one g.through.covers.tells in
-        let parts_too = subst (λ (p : Option Packets). AreTold p settings 1 0 h.through.parts h.told) too h.through.covers.tells in
-        let first = same_told settings all 1 0 input g.through.parts h.through.parts a.last b.last g.told h.told same.0 passed a.begin b.begin parts parts_too in
+        let parts = subst (λ (p : Option Packets). AreTold p settings 1 0 0 g.through.parts g.told) one g.through.covers.tells in
+        let parts_too = subst (λ (p : Option Packets). AreTold p settings 1 0 0 h.through.parts h.told) too h.through.covers.tells in
+        let first = same_told settings all 1 0 0 0 input g.through.parts h.through.parts a.last b.last g.told h.told same.0 passed a.begin b.begin parts parts_too in
         let text = subst (λ (p : Option Packets). IsToldLast p settings (length g.through.parts + 1) (sizes_of g.through.parts) g.through.kept g.fault g.text) one g.through.tells.told in
         let text_too = subst (λ (p : Option Packets). IsToldLast p settings (length g.through.parts + 1) (sizes_of g.through.parts) h.through.kept g.fault h.text) too told_last in
         let kept = transport (λ i. IsKeptOf settings.limits (sym outcome_is i) h.through.kept (sym same.1 i)) b.kept_is in
@@ -238,8 +238,8 @@ module _ (settings : Settings) (is_check : Bool) (input : List ℕ) (bytes : IsB
       (known : t.left0 ≡ Some input) (known_too : u.left0 ≡ Some input) (alike : AreTakenAlike t u end) where
     module _ {N M : (size : ℕ) → Type 0} (g : GoesFar t settings most is_check F N P end) (h : GoesFar u settings more is_check G M Q other) (explains : TellAlike settings end (shown_far g) (shown_far h)) where
       far_same : AreSame g.parts h.parts × ((far_begins g known).0 ≡ (far_begins h known_too).0)
-      far_same = same_far settings.limits F G one t.packets u.packets settings 1 0 1 0 input g.parts h.parts _ _ g.messages h.messages [] [] refl (far_begins g known).1 (far_begins h known_too).1 g.placed h.placed g.wanted h.wanted
-          g.enough.0 h.enough.0 (are_passed t.packets settings 1 0 g.parts g.told g.covers.tells) (are_passed u.packets settings 1 0 h.parts h.told h.covers.tells) g.enough.1 h.enough.1 refl
+      far_same = same_far settings.limits F G one t.packets u.packets settings 1 0 1 0 0 0 input g.parts h.parts _ _ g.messages h.messages [] [] refl (far_begins g known).1 (far_begins h known_too).1 g.placed h.placed g.wanted h.wanted
+          g.enough.0 h.enough.0 (are_passed t.packets settings 1 0 0 g.parts g.told g.covers.tells) (are_passed u.packets settings 1 0 0 h.parts h.told h.covers.tells) g.enough.1 h.enough.1 refl refl
           (elim alike [ inl packets ↦ inl packets | inr done ↦ inr (none_refused (passed_count g.parts) None (sym g.end_is ∙ done)).0 ])
 
       far_tally : tally_of g.parts ≡ tally_of h.parts
@@ -249,13 +249,13 @@ module _ (settings : Settings) (is_check : Bool) (input : List ℕ) (bytes : IsB
       far_none done =
           let none : passed_count g.parts ≡ 0 = (none_refused (passed_count g.parts) None (sym g.end_is ∙ done)).0 in
           let none_too : passed_count h.parts ≡ 0 = ap (λ (x : Tally). x.passed) (sym far_tally) ∙ none in
-          none_told settings t.packets 1 0 g.parts g.told none g.covers.tells ∙ sym (none_told settings u.packets 1 0 h.parts h.told none_too h.covers.tells)
+          none_told settings t.packets 1 0 0 g.parts g.told none g.covers.tells ∙ sym (none_told settings u.packets 1 0 0 h.parts h.told none_too h.covers.tells)
 
       far_lines : ShowAlike settings (passed_of g.parts) (passed_of h.parts) → (all : Packets) → t.packets ≡ Some all → u.packets ≡ Some all → g.told ≡ h.told
       far_lines passed all here there =
-          let parts = subst (λ (p : Option Packets). AreTold p settings 1 0 g.parts g.told) here g.covers.tells in
-          let parts_too = subst (λ (p : Option Packets). AreTold p settings 1 0 h.parts h.told) there h.covers.tells in
-          same_told settings all 1 0 input g.parts h.parts _ _ g.told h.told far_same.0 passed (far_begins g known).1 (far_begins h known_too).1 parts parts_too
+          let parts = subst (λ (p : Option Packets). AreTold p settings 1 0 0 g.parts g.told) here g.covers.tells in
+          let parts_too = subst (λ (p : Option Packets). AreTold p settings 1 0 0 h.parts h.told) there h.covers.tells in
+          same_told settings all 1 0 0 0 input g.parts h.parts _ _ g.told h.told far_same.0 passed (far_begins g known).1 (far_begins h known_too).1 parts parts_too
 
       far_told : g.told ≡ h.told
       far_told = elim (by_bytes settings end (shown_far g) (shown_far h) explains) [
@@ -282,16 +282,16 @@ module _ (settings : Settings) (is_check : Bool) (input : List ℕ) (bytes : IsB
     far_not g h =
         let a = reached g.through known in
         let b = far_begins h known_too in
-        not_through settings.limits F G one t.packets u.packets g.through.cut settings 1 0 1 0 input g.through.parts h.parts a.last b.0 g.through.tells.outcome g.messages h.messages [] [] refl a.begin b.1 g.placed h.placed g.wanted h.wanted
-        (after_all t.packets g.through.cut (sizes_of g.through.parts) a.last g.through.tells.outcome a.ends) (are_passed t.packets settings 1 0 g.through.parts g.told g.through.covers.tells) (are_passed u.packets settings 1 0 h.parts h.told h.covers.tells) g.unfilled h.enough.1 refl
+        not_through settings.limits F G one t.packets u.packets g.through.cut settings 1 0 1 0 0 0 input g.through.parts h.parts a.last b.0 g.through.tells.outcome g.messages h.messages [] [] refl a.begin b.1 g.placed h.placed g.wanted h.wanted
+        (after_all t.packets g.through.cut (sizes_of g.through.parts) (looked_in g.through.parts) a.last g.through.tells.outcome a.ends) (are_passed t.packets settings 1 0 0 g.through.parts g.told g.through.covers.tells) (are_passed u.packets settings 1 0 0 h.parts h.told h.covers.tells) g.unfilled h.enough.1 refl refl
         (elim alike [ inl packets ↦ inl packets | inr done ↦ inr (inl (unrefused g done)) ])
 
     not_far : {N : (size : ℕ) → Type 0} (g : GoesFar t settings most is_check F N P end) (h : GoesThrough u settings more is_check G Q other) → ⊥
     not_far g h =
         let a = far_begins g known in
         let b = reached h.through known_too in
-        not_through settings.limits G F (λ s l x y e p q. sym (one l s y x (sym e) q p)) u.packets t.packets h.through.cut settings 1 0 1 0 input h.through.parts g.parts b.last a.0 h.through.tells.outcome h.messages g.messages [] [] refl b.begin a.1
-        h.placed g.placed h.wanted g.wanted (after_all u.packets h.through.cut (sizes_of h.through.parts) b.last h.through.tells.outcome b.ends) (are_passed u.packets settings 1 0 h.through.parts h.told h.through.covers.tells) (are_passed t.packets settings 1 0 g.parts g.told g.covers.tells) h.unfilled g.enough.1 refl
+        not_through settings.limits G F (λ s l x y e p q. sym (one l s y x (sym e) q p)) u.packets t.packets h.through.cut settings 1 0 1 0 0 0 input h.through.parts g.parts b.last a.0 h.through.tells.outcome h.messages g.messages [] [] refl b.begin a.1
+        h.placed g.placed h.wanted g.wanted (after_all u.packets h.through.cut (sizes_of h.through.parts) (looked_in h.through.parts) b.last h.through.tells.outcome b.ends) (are_passed u.packets settings 1 0 0 h.through.parts h.told h.through.covers.tells) (are_passed t.packets settings 1 0 0 g.parts g.told g.covers.tells) h.unfilled g.enough.1 refl refl
         (elim alike [ inl packets ↦ inl (packets.0, packets.2, packets.1) | inr done ↦ inr (inr (none_refused (passed_count g.parts) None (sym g.end_is ∙ done)).0) ])
 
     ends_alike : {N M : (size : ℕ) → Type 0} (g : Goes t settings most is_check F N P end) (h : Goes u settings more is_check G M Q other) → TellAlike settings end (shown_of g) (shown_of h) → AreAlikeRuns t u P Q end other
@@ -476,7 +476,7 @@ whole_cut limits input bytes rest left0 left1 items outcome known are consumed c
     let begin = subst (λ l. BeginWith limits l items last) (sym after.2) (BeginWith-more limits bytes items rest after.0 cut.messages) in
     let all = parts_bytes limits input (wholes items) last (parts_of limits input items last begin) are in
     let none : IsAtEnd left1 → after.0 ≡ [] = λ e. subst IsAtEnd after.1 e in
-    let ends = ends_here limits None None (limits_alone limits) (sizes items) rest rest after.0 outcome (IsAtEnd left1) none all cut.outcome_is (is_last None (limits_alone limits) limits (sizes items) rest outcome (IsAtEnd left1) refl at_end) in
+    let ends = ends_here limits None None (limits_alone limits) (sizes items) 0 rest rest after.0 outcome (IsAtEnd left1) none all cut.outcome_is (is_last None (limits_alone limits) limits (sizes items) 0 rest outcome (IsAtEnd left1) refl at_end) in
     (last, record { messages = begin; outcome_is = ends.0.outcome_is }, ends.1, ends.2)
 
 -- the lines of a fault are the same if its packet is

@@ -22,7 +22,7 @@ use Rattle.cli_report.specs.Gathering.{IsPrefixTo}
 use Rattle.cli_report.specs.Devices.{Reading, RisesAtMost, Taken, Writing, taken}
 use Rattle.cli_report.specs.declared.ending.Cause.{Cause}
 use Rattle.cli_report.specs.declared.ending.Cause.TheVariants.{Memory, ReadFailed, WriteFailed, TooManyReads}
-use Rattle.cli_run.specs.Inputs.{Part, Whole, PassedOver, size_of, sizes_of, reach_end, BeginWithParts, IsCutOff, IsLast, IsPassedBy, IsTellable, ArePlaced, Placed}
+use Rattle.cli_run.specs.Inputs.{Part, Whole, PassedOver, size_of, sizes_of, reach_end, BeginWithParts, IsCutOff, IsLast, IsPassedBy, IsTellable, ArePlaced, Placed, looked_after, looked_in, seek_of}
 use Rattle.cli_run.specs.Output.{ok_line, status_of}
 use Rattle.cli_run.specs.declared.tally.Tally.{Tally}
 use Rattle.cli_run.specs.Needed.{IsReadFor}
@@ -55,15 +55,16 @@ module _ (packets : Option Packets) (settings : Settings) where
       × IsTold settings (record { number = n; offset = offset; fault = fault; packet = packet }) kept text
 
   -- what is told of a part: of a message nothing. One is passed over only if the run is to go on
-  abbrev pub IsToldOf : (n offset : ℕ) → Part → List ℕ → Type 0
-  IsToldOf n offset (Whole item) text = text ≡ []
-  IsToldOf n offset (PassedOver kept fault by size) text = (settings.keeps_going ≡ true) × IsPassedBy packets settings.resync settings.limits offset kept by size × IsToldRefused n offset kept fault text
+  abbrev pub IsToldOf : (n offset looked : ℕ) → Part → List ℕ → Type 0
+  IsToldOf n offset looked (Whole item) text = text ≡ []
+  IsToldOf n offset looked (PassedOver kept fault by size) text =
+      (settings.keeps_going ≡ true) × IsPassedBy packets (seek_of settings.resync offset (looked + fault.at)) settings.limits offset kept by size × IsToldRefused n offset kept fault text
 
   -- of several
-  abbrev pub AreTold : (n offset : ℕ) → List Part → List ℕ → Type 0
-  AreTold n offset [] text = text ≡ []
-  AreTold n offset (part ∷ parts) text = (one : List ℕ) × (more : List ℕ) × (text ≡ one ++ more)
-      × IsToldOf n offset part one × AreTold (n + 1) (offset + size_of part) parts more
+  abbrev pub AreTold : (n offset looked : ℕ) → List Part → List ℕ → Type 0
+  AreTold n offset looked [] text = text ≡ []
+  AreTold n offset looked (part ∷ parts) text = (one : List ℕ) × (more : List ℕ) × (text ≡ one ++ more)
+      × IsToldOf n offset looked part one × AreTold (n + 1) (offset + size_of part) (looked_after part offset looked) parts more
 
   -- what is told of the fault after them
   abbrev pub IsToldLast : (n offset : ℕ) → List ℕ → Option Fault → List ℕ → Type 0
@@ -163,7 +164,7 @@ module _ (t : Taken) (settings : Settings) (most : ℕ) (is_check : Bool) where
     pub called : RisesAtMost most t.calls0 t.calls1
     pub begin : BeginWithParts settings.limits bytes parts rest
     pub ends : reach_end parts ≡ true → IsAtEnd t.left1
-    pub tells : AreTold t.packets settings 1 0 parts told
+    pub tells : AreTold t.packets settings 1 0 0 parts told
 
   -- this is told of the fault of the rest, if it has one
   pub record TellsRest (parts : List Part) (kept : List ℕ) (fault : Option Fault) (text : List ℕ) : Type 0 where
@@ -182,7 +183,7 @@ module _ (t : Taken) (settings : Settings) (most : ℕ) (is_check : Bool) where
     pub tally_is : tally ≡ tally_with cut parts rest
     pub kept : List ℕ
     pub tells : TellsRest parts kept fault text
-    pub last : IsLast t.packets cut settings settings.limits (sizes_of parts) kept rest tells.outcome (IsAtEnd t.left1)
+    pub last : IsLast t.packets cut settings settings.limits (sizes_of parts) (looked_in parts) kept rest tells.outcome (IsAtEnd t.left1)
     pub read_failed : t.failures1 ≡ t.failures0
 
   -- these texts are due after the parts: what is told of the fault of the rest, once it shows; and
@@ -190,17 +191,17 @@ module _ (t : Taken) (settings : Settings) (most : ℕ) (is_check : Bool) where
   abbrev pub AreDue : List Part → (rest more : List ℕ) → Type 0
   AreDue parts rest more = (kept : List ℕ) × (fault : Option Fault) × (text : List ℕ) × (tells : TellsRest parts kept fault text)
       × ((IsTellable kept rest tells.outcome (IsAtEnd t.left1) × (more ≡ text))
-      ⊎ ((cut : Option (Option ℕ)) × IsLast t.packets cut settings settings.limits (sizes_of parts) kept rest tells.outcome (IsAtEnd t.left1)
+      ⊎ ((cut : Option (Option ℕ)) × IsLast t.packets cut settings settings.limits (sizes_of parts) (looked_in parts) kept rest tells.outcome (IsAtEnd t.left1)
       × (more ≡ text ++ closing_line settings.as_json is_check settings.keeps_going (tally_with cut parts rest) (tally_with cut parts rest).passed fault)))
 
   -- all is told but the last line
   abbrev pub LacksLast : List Part → (rest more : List ℕ) → Type 0
   LacksLast parts rest more = (kept : List ℕ) × (fault : Option Fault) × (tells : TellsRest parts kept fault more)
-      × (cut : Option (Option ℕ)) × IsLast t.packets cut settings settings.limits (sizes_of parts) kept rest tells.outcome (IsAtEnd t.left1) × HasLastLine is_check settings.keeps_going (tally_with cut parts rest).passed fault
+      × (cut : Option (Option ℕ)) × IsLast t.packets cut settings settings.limits (sizes_of parts) (looked_in parts) kept rest tells.outcome (IsAtEnd t.left1) × HasLastLine is_check settings.keeps_going (tally_with cut parts rest).passed fault
 
   -- a refused message was told, of which not all bytes came
   abbrev pub IsHalfPassed : List Part → (rest more : List ℕ) → Type 0
-  IsHalfPassed parts rest more = (kept : List ℕ) × (fault : Fault) × IsRefused settings.limits kept fault × (by : Option ℕ) × IsCutOff t.packets settings.resync settings.limits (sizes_of parts) kept rest by
+  IsHalfPassed parts rest more = (kept : List ℕ) × (fault : Fault) × IsRefused settings.limits kept fault × (by : Option ℕ) × IsCutOff t.packets (seek_of settings.resync (sizes_of parts) (looked_in parts + fault.at)) settings.limits (sizes_of parts) kept rest by
       × (settings.keeps_going ≡ true) × IsToldLast t.packets settings (length parts + 1) (sizes_of parts) kept (Some fault) more
 
   -- one was told, and it is looked for where messages begin again, or passed over since that is nowhere

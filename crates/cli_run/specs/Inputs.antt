@@ -9,11 +9,12 @@ use Rattle.dbus_value_model.specs.declared.limits.Limits.{Limits}
 use Rattle.dbus_header.specs.MessageOutcomes.{IsWhole, IsRefused}
 use Rattle.dbus_resync.specs.declared.found.Found.{Found}
 use Rattle.dbus_resync.specs.declared.found.Found.TheVariants.{At}
+use Rattle.dbus_resync.specs.declared.found.Searched.{Searched}
 use Rattle.cli_options.specs.declared.resync.Resync.{Resync}
 use Rattle.cli_options.specs.declared.resync.Resync.TheVariants.{Off, Within}
 use Rattle.cli_options.specs.declared.settings.Settings.{Settings}
 use Rattle.dbus_stream.specs.Cut.{CutMessage, CutOutcome, Ended, Unfinished, Refused}
-use Rattle.dbus_stream.specs.GoingOn.{Resumes, ahead_of}
+use Rattle.dbus_stream.specs.GoingOn.{Resumes, ahead_of, counted, effort_of}
 use Rattle.dbus_stream.specs.Lasting.{is_truncated}
 use Rattle.dbus_stream.specs.Next.{IsCutShort}
 use Rattle.dbus_stream.specs.Packed.{IsOther}
@@ -24,13 +25,14 @@ use Rattle.cli_run.specs.Refusals.{IsRefusedIn}
 use Rattle.cli_run.specs.declared.place.MessagePlace.{MessagePlace}
 
 -- by what the size of a refused message is known: by its first sixteen bytes; by the next packet,
--- after that of its fault, of this number; by where messages begin again within a window, and
--- whether the input ends there; or, if they begin again nowhere in that, by its first sixteen bytes
+-- after that of its fault, of this number; by where messages begin again within a window, by an
+-- effort and how many bytes were looked at, and whether the input ends there; or, if they begin again
+-- nowhere in that, by its first sixteen bytes
 pub data By : Type 0 where
   Stated : By
   InPacket : ℕ → By
-  Resumed : ℕ → Bool → By
-  PastWindow : ℕ → By
+  Resumed : (window effort looked : ℕ) → Bool → By
+  PastWindow : (window effort looked : ℕ) → By
 
 -- a part of an input: a message; or one that is refused and passed over, which has so many bytes,
 -- with those that were kept of the input from there on when it was refused
@@ -46,13 +48,9 @@ abbrev pub sizes_of : List Part → ℕ
 sizes_of [] = 0
 sizes_of (part ∷ parts) = size_of part + sizes_of parts
 
--- how many bytes are looked at for messages, if they begin again in a window of so many
-abbrev pub effort_of : (window : ℕ) → ℕ
-effort_of window = 16 * window
-
--- where messages begin again among the first bytes, as many as the window has
-abbrev pub ResumeIn : Limits → (window : ℕ) → List ℕ → Found → Type 0
-ResumeIn limits window bytes found = Resumes limits window (effort_of window) (take window bytes) found
+-- where messages begin again among the first bytes, as many as the window has, by an effort
+abbrev pub ResumeIn : Limits → (window effort : ℕ) → List ℕ → Searched → Type 0
+ResumeIn limits window effort bytes s = Resumes limits window effort (take window bytes) s
 
 abbrev pub is_there : Found → Bool
 is_there (At offset) = true
@@ -60,10 +58,10 @@ is_there found = false
 
 -- messages begin again nowhere in the window, and so many bytes are there as are looked ahead at,
 -- unless the input ends before
-pub record BeginNowhere (limits : Limits) (window : ℕ) (rest : List ℕ) (at_end : Type 0) : Type 0 where
-  pub found : Found
-  pub nowhere : is_there found ≡ false
-  pub resumes : ResumeIn limits window rest found
+pub record BeginNowhere (limits : Limits) (window effort : ℕ) (rest : List ℕ) (at_end : Type 0) : Type 0 where
+  pub searched : Searched
+  pub nowhere : is_there searched.found ≡ false
+  pub resumes : ResumeIn limits window effort rest searched
   pub all : length rest < ahead_of window → at_end
 
 -- the message that the bytes begin with states that it is larger than the window
@@ -77,12 +75,13 @@ IsLarger limits window bytes = (size : ℕ) × StatesSize limits bytes size × (
 abbrev pub HasSize : Limits → (kept bytes : List ℕ) → By → ℕ → Type 0
 HasSize limits kept bytes Stated size = StatesSize limits bytes size × (size ≤ length bytes)
 HasSize limits kept bytes (InPacket number) size = (length kept ≤ size) × (size < length bytes)
-HasSize limits kept bytes (Resumed window to_end) size = ResumeIn limits window bytes (At size) × (to_end ≡ false → window ≤ length bytes)
-HasSize limits kept bytes (PastWindow window) size = BeginNowhere limits window bytes (Unit {0}) × StatesSize limits bytes size × (window < size) × (size ≤ length bytes)
+HasSize limits kept bytes (Resumed window effort looked to_end) size = ResumeIn limits window effort bytes (record { found = At size; looked = looked }) × (to_end ≡ false → window ≤ length bytes)
+HasSize limits kept bytes (PastWindow window effort looked) size =
+    (none : BeginNowhere limits window effort bytes (Unit {0})) × (none.searched.looked ≡ looked) × StatesSize limits bytes size × (window < size) × (size ≤ length bytes)
 
 -- it is refused for this; or the input ends within it, and messages begin again before
 abbrev pub IsFaultOf : Limits → (kept bytes : List ℕ) → Fault → By → Type 0
-IsFaultOf limits kept bytes fault (Resumed window true) = IsRefused limits kept fault ⊎ ((kept ≡ bytes) × IsCutShort limits kept fault)
+IsFaultOf limits kept bytes fault (Resumed window effort looked true) = IsRefused limits kept fault ⊎ ((kept ≡ bytes) × IsCutShort limits kept fault)
 IsFaultOf limits kept bytes fault by = IsRefused limits kept fault
 
 -- the bytes begin with this part
@@ -92,7 +91,7 @@ IsPart limits bytes (PassedOver kept fault by size) = IsPrefixTo kept bytes × I
 
 -- the input ends within a window that was looked at for one of the parts
 abbrev pub is_to_end : By → Bool
-is_to_end (Resumed window to_end) = to_end
+is_to_end (Resumed window effort looked to_end) = to_end
 is_to_end by = false
 
 abbrev pub reach_end : List Part → Bool
@@ -115,47 +114,80 @@ abbrev pub IsInOther : Option Packets → (number place : ℕ) → Type 0
 IsInOther None number place = Unit {0}
 IsInOther (Some packets) number place = IsOther number (packets place)
 
+-- ---- how messages are looked for behind one that is refused
+
+-- not at all; or in a window of so many bytes, by this effort
+pub data Seek : Type 0 where
+  Unsought : Seek
+  SoughtIn : (window effort : ℕ) → Seek
+
+-- as is asked for, at this offset, after so many bytes were looked at
+abbrev pub seek_of : Resync → (offset looked : ℕ) → Seek
+seek_of Off offset looked = Unsought
+seek_of (Within window) offset looked = SoughtIn window (effort_of window offset looked)
+
+-- how many count as looked at behind a part that begins at this offset, of those before it
+abbrev pub looked_for : By → (at offset looked : ℕ) → ℕ
+looked_for (Resumed window effort more to_end) at offset looked = counted window offset looked (at + more)
+looked_for (PastWindow window effort more) at offset looked = counted window offset looked (at + more)
+looked_for by at offset looked = looked
+
+abbrev pub looked_after : Part → (offset looked : ℕ) → ℕ
+looked_after (Whole item) offset looked = looked
+looked_after (PassedOver kept fault by size) offset looked = looked_for by fault.at offset looked
+
+-- behind several
+abbrev pub looked_behind : List Part → (offset looked : ℕ) → ℕ
+looked_behind [] offset looked = looked
+looked_behind (part ∷ parts) offset looked = looked_behind parts (offset + size_of part) (looked_after part offset looked)
+
+-- behind the first parts of an input
+abbrev pub looked_in : List Part → ℕ
+looked_in parts = looked_behind parts 0 0
+
 -- A message at this offset is refused, and passed over as is asked for: by a byte of no packet; or by
 -- one of the packet of this number, and so many of its bytes are passed over: all that follow in the
 -- packet, up to the first one of another.
-abbrev pub IsPassedBy : Option Packets → Resync → Limits → (offset : ℕ) → (kept : List ℕ) → By → (size : ℕ) → Type 0
-IsPassedBy packets resync limits offset kept Stated size = (resync ≡ Off) × IsRefusedIn packets limits offset kept None
-IsPassedBy packets resync limits offset kept (Resumed window to_end) size = (resync ≡ Within window) × IsRefusedIn packets limits offset kept None
-IsPassedBy packets resync limits offset kept (PastWindow window) size = (resync ≡ Within window) × IsRefusedIn packets limits offset kept None
-IsPassedBy packets resync limits offset kept (InPacket number) size =
+abbrev pub IsPassedBy : Option Packets → Seek → Limits → (offset : ℕ) → (kept : List ℕ) → By → (size : ℕ) → Type 0
+IsPassedBy packets seek limits offset kept Stated size = (seek ≡ Unsought) × IsRefusedIn packets limits offset kept None
+IsPassedBy packets seek limits offset kept (Resumed window effort looked to_end) size = (seek ≡ SoughtIn window effort) × IsRefusedIn packets limits offset kept None
+IsPassedBy packets seek limits offset kept (PastWindow window effort looked) size = (seek ≡ SoughtIn window effort) × IsRefusedIn packets limits offset kept None
+IsPassedBy packets seek limits offset kept (InPacket number) size =
     IsRefusedIn packets limits offset kept (Some number) × AreInPacket packets number (offset + length kept) (offset + size) × IsInOther packets number (offset + size)
 
 -- the size by which it is passed over is more than there is, or not stated yet; if it is looked for
 -- where messages begin again, it is the size of one larger than the window, in which that is nowhere
-abbrev pub WantsMoreBy : Resync → Limits → List ℕ → Type 0
-WantsMoreBy Off limits rest = WantsMore limits rest
-WantsMoreBy (Within window) limits rest = BeginNowhere limits window rest (Unit {0}) × IsLarger limits window rest × WantsMore limits rest
+abbrev pub WantsMoreBy : Seek → Limits → List ℕ → Type 0
+WantsMoreBy Unsought limits rest = WantsMore limits rest
+WantsMoreBy (SoughtIn window effort) limits rest = BeginNowhere limits window effort rest (Unit {0}) × IsLarger limits window rest × WantsMore limits rest
 
 -- a refused message goes on to the end of the rest: by the size by which it is passed over; or all
 -- that follows is of the packet of its fault
-abbrev pub GoesPast : Option Packets → Resync → Limits → (offset : ℕ) → (kept rest : List ℕ) → Option ℕ → Type 0
-GoesPast packets resync limits offset kept rest None = WantsMoreBy resync limits rest
-GoesPast packets resync limits offset kept rest (Some number) = AreInPacket packets number (offset + length kept) (offset + length rest)
+abbrev pub GoesPast : Option Packets → Seek → Limits → (offset : ℕ) → (kept rest : List ℕ) → Option ℕ → Type 0
+GoesPast packets seek limits offset kept rest None = WantsMoreBy seek limits rest
+GoesPast packets seek limits offset kept rest (Some number) = AreInPacket packets number (offset + length kept) (offset + length rest)
 
 -- so it does, and this is the packet of its fault, if that is of one
-pub record IsCutOff (packets : Option Packets) (resync : Resync) (limits : Limits) (offset : ℕ) (kept rest : List ℕ) (by : Option ℕ) : Type 0 where
+pub record IsCutOff (packets : Option Packets) (seek : Seek) (limits : Limits) (offset : ℕ) (kept rest : List ℕ) (by : Option ℕ) : Type 0 where
   pub front : IsPrefixTo kept rest
   pub refused_in : IsRefusedIn packets limits offset kept by
-  pub past : GoesPast packets resync limits offset kept rest by
+  pub past : GoesPast packets seek limits offset kept rest by
 
 -- ---- what is not passed over
 
 -- a refused message is not passed over, though that is asked for: its fault is of no packet, and it
 -- states no size within the limits, or messages begin again nowhere in the window and it states no
 -- size that is larger
-abbrev pub IsUnpassed : Option Packets → Resync → Limits → (offset : ℕ) → (kept rest : List ℕ) → Type 0 → Type 0
-IsUnpassed packets Off limits offset kept rest at_end = IsRefusedIn packets limits offset kept None × StatesNone limits rest
-IsUnpassed packets (Within window) limits offset kept rest at_end = IsRefusedIn packets limits offset kept None × BeginNowhere limits window rest at_end × (IsLarger limits window rest → ⊥)
+abbrev pub IsUnpassed : Option Packets → Seek → Limits → (offset : ℕ) → (kept rest : List ℕ) → Type 0 → Type 0
+IsUnpassed packets Unsought limits offset kept rest at_end = IsRefusedIn packets limits offset kept None × StatesNone limits rest
+IsUnpassed packets (SoughtIn window effort) limits offset kept rest at_end =
+    IsRefusedIn packets limits offset kept None × BeginNowhere limits window effort rest at_end × (IsLarger limits window rest → ⊥)
 
 -- nor is one that the input ends within: it came in a packet, or messages begin again nowhere
-abbrev pub IsCutUnpassed : Option Packets → Resync → Limits → (offset : ℕ) → (kept rest : List ℕ) → Type 0 → Type 0
-IsCutUnpassed packets Off limits offset kept rest at_end = Unit {0}
-IsCutUnpassed packets (Within window) limits offset kept rest at_end = (packet : Option ℕ) × IsRefusedIn packets limits offset kept packet × (packet ≡ None → BeginNowhere limits window rest at_end)
+abbrev pub IsCutUnpassed : Option Packets → Seek → Limits → (offset : ℕ) → (kept rest : List ℕ) → Type 0 → Type 0
+IsCutUnpassed packets Unsought limits offset kept rest at_end = Unit {0}
+IsCutUnpassed packets (SoughtIn window effort) limits offset kept rest at_end =
+    (packet : Option ℕ) × IsRefusedIn packets limits offset kept packet × (packet ≡ None → BeginNowhere limits window effort rest at_end)
 
 -- the fault of the rest shows by what is kept of it: the rest is refused, or the input ends there
 abbrev pub IsTellable : (kept rest : List ℕ) → CutOutcome → Type 0 → Type 0
@@ -166,15 +198,18 @@ IsTellable kept rest (Refused fault) at_end = rest ≡ kept
 -- why nothing follows the parts but the rest, which is at this offset: the input ends there, or
 -- within a message; or a message is refused, and the run is not to go on, or it is not passed over;
 -- or cut says that one is passed over that goes on to the end of the input, and of which packet its
--- fault is. kept is what was kept of the rest when that was found
-abbrev pub IsLast : Option Packets → (cut : Option (Option ℕ)) → Settings → Limits → (offset : ℕ) → (kept rest : List ℕ) → CutOutcome → Type 0 → Type 0
-IsLast packets None settings limits offset kept rest Ended at_end = (rest ≡ kept) × at_end
-IsLast packets None settings limits offset kept rest Unfinished at_end =
-    (rest ≡ kept) × at_end × (settings.keeps_going ≡ true → IsCutUnpassed packets settings.resync limits offset kept rest at_end)
-IsLast packets None settings limits offset kept rest (Refused fault) at_end =
-    IsPrefixTo kept rest × (settings.keeps_going ≡ false → rest ≡ kept) × (settings.keeps_going ≡ true → is_truncated fault.reason ≡ false → IsUnpassed packets settings.resync limits offset kept rest at_end)
-IsLast packets (Some by) settings limits offset kept rest (Refused fault) at_end = IsCutOff packets settings.resync limits offset kept rest by × at_end × (settings.keeps_going ≡ true)
-IsLast packets (Some by) settings limits offset kept rest outcome at_end = ⊥
+-- fault is. kept is what was kept of the rest when that was found, and looked how many bytes count as
+-- looked at before
+abbrev pub IsLast : Option Packets → (cut : Option (Option ℕ)) → Settings → Limits → (offset looked : ℕ) → (kept rest : List ℕ) → CutOutcome → Type 0 → Type 0
+IsLast packets None settings limits offset looked kept rest Ended at_end = (rest ≡ kept) × at_end
+IsLast packets None settings limits offset looked kept rest Unfinished at_end =
+    (rest ≡ kept) × at_end × (settings.keeps_going ≡ true → IsCutUnpassed packets (seek_of settings.resync offset (looked + length kept)) limits offset kept rest at_end)
+IsLast packets None settings limits offset looked kept rest (Refused fault) at_end =
+    IsPrefixTo kept rest × (settings.keeps_going ≡ false → rest ≡ kept)
+    × (settings.keeps_going ≡ true → is_truncated fault.reason ≡ false → IsUnpassed packets (seek_of settings.resync offset (looked + fault.at)) limits offset kept rest at_end)
+IsLast packets (Some by) settings limits offset looked kept rest (Refused fault) at_end =
+    IsCutOff packets (seek_of settings.resync offset (looked + fault.at)) limits offset kept rest by × at_end × (settings.keeps_going ≡ true)
+IsLast packets (Some by) settings limits offset looked kept rest outcome at_end = ⊥
 
 -- ---- the messages among the parts
 

@@ -11,7 +11,7 @@ use Rattle.dbus_stream.specs.Lasting.{is_truncated}
 use Rattle.dbus_stream.specs.Packed.{number_of}
 use Rattle.dbus_stream.specs.Passing.{Passing}
 use Rattle.dbus_stream.specs.PassingPackets.{AreOfNumber, IsBeforeOther, PassesPacket}
-use Rattle.dbus_stream.specs.RawReading.{HasPackets, done_of, kept, limits_of, read_of, source_of}
+use Rattle.dbus_stream.specs.RawReading.{HasPackets, done_of, kept, limits_of, looked_of, read_of, source_of}
 use Rattle.dbus_stream.specs.declared.passed.Passed.{Passed}
 use Rattle.dbus_stream.specs.declared.passed.Passed.TheVariants.{Over, Not}
 use Rattle.dbus_stream.specs.declared.raw_reader.RawReader.{RawReader}
@@ -19,7 +19,7 @@ use Rattle.dbus_stream.specs.declared.read_fault.ReadFault.{ReadFault}
 use Rattle.cli_options.specs.declared.resync.Resync.{Resync}
 use Rattle.cli_options.specs.declared.resync.Resync.TheVariants.{Off, Within}
 use Rattle.cli_report.specs.declared.telling.RefusedMessage.{RefusedMessage}
-use Rattle.cli_run.specs.Inputs.{IsLarger, effort_of}
+use Rattle.cli_run.specs.Inputs.{IsLarger}
 
 -- up to the next packet; by the size that it states; or up to where messages begin again in a window
 -- of so many bytes
@@ -51,6 +51,10 @@ module _ {R A : Type 0} (left : R → Option (List ℕ)) (calls : R → ℕ) (ol
   PassesBy window (Ok found) result = PassesLarger window result
   PassesBy window (Err fault) result = (result ≡ Err fault) × (new ≡ old)
 
+-- no more counts as looked at
+abbrev pub KeepsLooked : {R A : Type 0} → (old new : RawReader R A) → Type 0
+KeepsLooked old new = looked_of new ≡ looked_of old
+
 module _ {R A : Type 0} (left : R → Option (List ℕ)) (calls : R → ℕ) (packet : R → Option Packet) (old new : RawReader R A) where
   -- calls that go on where messages begin again, or else by the size. mid is the reader after the
   -- first of them
@@ -58,12 +62,13 @@ module _ {R A : Type 0} (left : R → Option (List ℕ)) (calls : R → ℕ) (pa
     pub mid : RawReader R A
     pub found : Result Found ReadFault
     pub reads : ReadsToGoOn window left calls old mid
-    pub goes : Resyncs (kept old ++ reads.bytes) old mid window (effort_of window) found
+    pub goes : Resyncs (kept old ++ reads.bytes) old mid window found
     pub passes : PassesBy left calls mid new window found result
+    pub looked : KeepsLooked mid new
 
   abbrev pub PassesOn : Way → Result Passed ReadFault → Type 0
-  PassesOn ToPacket result = PassesPacket left calls packet old new result
-  PassesOn BySize result = Passing left calls old new result
+  PassesOn ToPacket result = PassesPacket left calls packet old new result × KeepsLooked old new
+  PassesOn BySize result = Passing left calls old new result × KeepsLooked old new
   PassesOn (ToNext window) result = Resyncing window result
 
 -- all that is read and dropped is of the packet of the last read, and what is next is not

@@ -4,7 +4,7 @@ ghost use Rattle.std.specs.Prelude.{◌≡◌, ◌≤◌, ◌^◌, IfOk, string_
 ghost use Rattle.dbus_stream.specs.GoingOn.{HasFault};
 ghost use Rattle.dbus_stream.specs.Lasting.{is_truncated};
 ghost use Rattle.dbus_stream.specs.Next.{DeviceCounts};
-ghost use Rattle.dbus_stream.specs.RawReading.{IsNewReader, KeepsPackets, kept, most_reads_of, source_of, stopped_of};
+ghost use Rattle.dbus_stream.specs.RawReading.{IsNewReader, KeepsPackets, kept, looked_of, most_reads_of, source_of, stopped_of};
 ghost use Rattle.cli_report.specs.Devices.{reading};
 ghost use Rattle.cli_run.specs.Going.{Closes, PassesAll, cause_of, IsTold};
 ghost use Rattle.cli_run.specs.PassingOn.{PassesInPacket, PassesLarger, PassesOn, Resyncing, ToPacket, way_of};
@@ -110,9 +110,6 @@ fn hand_parts<R: Source, A: Allocator + Copy, V: MessageVisitor>(
     }
 }
 
-// How many bytes are looked at for messages that begin again, for each one of the window.
-const EFFORT: usize = 16;
-
 // Passes over a refused message: in a capture up to the next packet, else up to where messages begin
 // again, if that is looked for, or by the size that it states.
 fn pass<R: Source, A: Allocator + Copy>(
@@ -157,8 +154,7 @@ fn seek<R: Source, A: Allocator + Copy>(
         R.reference (source_of messages.old) }
     ensures packets { IfOk result (λ _. KeepsPackets R.packets R.packet messages.old messages.new) }
 {
-    let looked = window as usize;
-    match messages.resync(looked, EFFORT * looked) {
+    match messages.resync(window) {
         Ok(Found::At(_offset)) => Ok(Passed::Over),
         Ok(Found::Nowhere) => pass_larger(window, messages),
         Ok(Found::Spent) => pass_larger(window, messages),
@@ -172,6 +168,7 @@ fn pass_larger<R: Source, A: Allocator + Copy>(
     messages: &mut RawReader<R, A>,
 ) -> Result<Passed, ReadFault>
     ensures passes { PassesLarger R.left R.calls messages.old messages.new window result }
+    ensures looked { looked_of messages.new ≡ looked_of messages.old }
     ensures failed { DeviceCounts (R.failures (source_of messages.old))
         (R.failures (source_of messages.new)) result }
     ensures same_reference { R.reference (source_of messages.new) ≡

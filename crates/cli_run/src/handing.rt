@@ -1,6 +1,6 @@
 //! The messages of a reader are handed to a visitor.
 ghost use Rattle.std.specs.Prelude.{◌≡◌, ◌≤◌, ◌^◌, ℕ, None, IfOk, false};
-ghost use Rattle.dbus_stream.specs.RawReading.{source_of, done_of, limits_of, stopped_of, KeepsPackets};
+ghost use Rattle.dbus_stream.specs.RawReading.{source_of, done_of, limits_of, looked_of, stopped_of, KeepsPackets};
 ghost use Rattle.cli_run.specs.ByName.{ended_by, stopped_by};
 ghost use Rattle.cli_run.specs.Handing.{GivesNext};
 ghost use Rattle.cli_run.specs.Inputs.{time_of};
@@ -26,6 +26,7 @@ fn next_message<R: Source, A: Allocator + Copy, V: MessageVisitor>(
     ensures gives { GivesNext R.left R.calls R.failures V.takes V.leaves V.settled V.full
         messages.old messages.new visitor.old visitor.new result }
     ensures packets { KeepsPackets R.packets R.packet messages.old messages.new }
+    ensures looked { looked_of messages.new ≡ looked_of messages.old }
     ensures few { IfOk result (λ _. done_of messages.new ≤ 2 ^ 50) }
     ensures same_reference { R.reference (source_of messages.new) ≡
         R.reference (source_of messages.old) }
@@ -57,6 +58,7 @@ fn read_message<R: Source, A: Allocator + Copy, V: MessageVisitor>(
     ensures gives { GivesNext R.left R.calls R.failures V.takes V.leaves V.settled V.full
         messages.old messages.new visitor.old visitor.new result }
     ensures packets { KeepsPackets R.packets R.packet messages.old messages.new }
+    ensures looked { looked_of messages.new ≡ looked_of messages.old }
     ensures few { IfOk result (λ _. done_of messages.new ≤ 2 ^ 50) }
     ensures same_reference { R.reference (source_of messages.new) ≡
         R.reference (source_of messages.old) }
@@ -87,6 +89,7 @@ pub(crate) fn hand_all<R: Source, A: Allocator + Copy, V: MessageVisitor>(
     ensures hands { RawHandsOn R.left R.calls R.failures R.packets R.packet V.takes V.leaves V.full
         limits before messages.old messages.new visitor.old visitor.new result }
     ensures packets { KeepsPackets R.packets R.packet messages.old messages.new }
+    ensures looked { looked_of messages.new ≡ looked_of messages.old }
     ensures settled { IfOk result (λ _. V.settled visitor.new) }
     ensures same_reference { R.reference (source_of messages.new) ≡
         R.reference (source_of messages.old) }

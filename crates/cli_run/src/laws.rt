@@ -48,8 +48,8 @@ pub fn one_run<R, S, W, V, E, F>()
     ensures { OneRun R S W V E F }
 {}
 
-/// The same of two runs of a command under the same limits alone, but `Json`, `List` and `Show`
-/// with times.
+/// The same of two runs of a command under the same limits alone, but `Json`, and `Show` with
+/// times.
 pub fn one_within<R, S, W, V, E, F>()
     ensures { OneWithin R S W V E F }
 {}

@@ -124,18 +124,19 @@ pub fn run_within<A: Allocator + Copy, R: Source, W: Sink, E: Sink>(
 
 /// Does what [`run_within`] does, by more settings.
 ///
-/// If they explain, the line of a message that is refused is followed by the three lines of
+/// If they explain, the line of a message that is refused is followed by the lines of
 /// `dbus_explain::explain_message`, by the bytes that were read from the message's start on.
 ///
-/// If they keep going, a message that is refused is passed over if its first 16 bytes state a size
-/// within the limits, whatever else they say: by its order byte and the lengths of its fields and
-/// its body. What came before it is written, and then the line `refused at P: NAME in message N at
-/// O`, with ` in packet K` as above: the place of the fault, and where the message begins, from the
-/// start of the input, and its number among all messages of the input. The numbers and offsets of
-/// those after it count it. A message that states no such size is told by that line too, and ends
-/// the run. If any was refused, the last line is `N messages B bytes, K passed over C bytes`, and
-/// then `, the last one cut off` if the input ends within that one, of which the bytes that are
-/// there count.
+/// If they keep going, a message that is refused is passed over: by a byte of a packet, up to the
+/// next packet; else if its first 16 bytes state a size within the limits, whatever else they say:
+/// by its order byte and the lengths of its fields and its body; or, with `resync`, up to where
+/// messages begin again, as `dbus_stream::RawReader::resync` finds it. What came before it is
+/// written, and then the line `refused at P: NAME in message N at O`, with ` in packet K` as above:
+/// the place of the fault, and where the message begins, from the start of the input, and its
+/// number among all messages of the input. The numbers and offsets of those after it count it. A
+/// message that is not passed over is told by that line too, and ends the run. If any was refused,
+/// the last line is `N messages B bytes, K passed over C bytes`, and then `, the last one cut off`
+/// if the input ends within that one, of which the bytes that are there count.
 ///
 /// If they ask for JSON, RFC 8259, each refusal is told by the line of `cli_report::refusal_json` in
 /// place of these, and the last line, also that of `Check`, is an object: `messages` and `bytes` say
@@ -143,8 +144,8 @@ pub fn run_within<A: Allocator + Copy, R: Source, W: Sink, E: Sink>(
 /// `passed_bytes` the same of those that are, and `cut_off` whether the input ends within the last
 /// of these.
 ///
-/// If the window has a limit, the run ends once so many messages are written: nothing is read after
-/// the last of them, and the status and the last line are those of what was read. With a limit of 0
+/// If the window has a limit, the run ends once so many messages are written: nothing is read then,
+/// and the status and the last line are those of what was read. With a limit of 0
 /// nothing is read. If the window says that the rest is checked, it is read too. `Check` reads all.
 ///
 /// These lines go to the second writer, but of `Check` to the first. `Check` of an input without

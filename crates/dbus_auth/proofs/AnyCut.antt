@@ -1,14 +1,16 @@
 -- However the bytes are cut, a server's end sends the same lines and comes to the same status.
-use Rattle.std.proofs.Common.{◌≡◌, ◌≢◌, inl, inr, ℕ, suc, ◌+◌, ◌-◌, ◌==◌, Bool, true, false, cond, List, [], ◌∷◌, ◌++◌, length, take, drop, refl, sym, ◌∙◌, ap, arith, append_assoc, length-append, take-append-drop}
+use Rattle.std.proofs.Common.{◌≡◌, ◌≢◌, inl, inr, ℕ, suc, ◌+◌, ◌-◌, ◌==◌, Bool, true, false, cond, List, [], ◌∷◌, ◌++◌, Option, Some, None, length, take, drop, refl, sym, ◌∙◌, ap, arith, append_assoc, length-append, take-append-drop}
 use Rattle.std.proofs.lemmas.List.{append-nil, take-append-le, drop_at}
 use Rattle.dbus_auth_lines.specs.Cut.{Cut, Ends, Bad, More, cut}
 use Rattle.dbus_auth.specs.Machines.{ServerMachine}
-use Rattle.dbus_auth.specs.Ends.{ServerEndState, EndOutcome, closes, cuts, first, talks, takes_at, takes, server_turn, server_takes}
-use Rattle.dbus_auth.specs.World.{ServerRun, line_sent, run_server, IsFinished, LooksAlike, server_at_first}
+use Rattle.dbus_auth.specs.Ends.{EndState, ServerEndState, EndOutcome, Turn, answers_if, closes, cuts, first, left_after, talks, takes_at, takes, server_turn, server_takes}
+use Rattle.dbus_auth.specs.Bounded.{server_within}
+use Rattle.dbus_auth.specs.World.{ServerRun, line_sent, run_server, IsFinished, LooksAlike}
+use Rattle.dbus_auth.specs.declared.bounds.Bounds.{Bounds}
 use Rattle.dbus_auth.specs.declared.end_step.Status.{Status}
 use Rattle.dbus_auth.specs.declared.end_step.Status.TheVariants as status
 use Rattle.dbus_auth_lines.proofs.Cuts.{StaysSettled, IsAbove, cut_follows}
-use Rattle.dbus_auth.proofs.Stages.{takes_by}
+use Rattle.dbus_auth.proofs.Stages.{answers_as, takes_by}
 use Rattle.dbus_auth.proofs.Sides.{cut_nil}
 
 -- ---- byte by byte
@@ -29,28 +31,40 @@ by_status status.Talking rest = rest
 by_status status.Begun rest = ends_as status.Begun
 by_status status.Closed rest = ends_as status.Closed
 
-abbrev answered : ServerMachine → List ℕ → (ServerMachine → Seen) → Seen
-answered s line rest = tells (server_turn s line).send (by_status (server_turn s line).status (rest (server_turn s line).next))
+-- a server, and what it may still send
+record Talker : Type 0 where
+  machine : ServerMachine
+  left : Option Bounds
 
-abbrev picks : ServerMachine → List ℕ → Cut → (ServerMachine → List ℕ → Seen) → Seen
+abbrev talker : ServerEndState → Talker
+talker e = record { machine = e.machine; left = e.left }
+
+abbrev answered_if : Turn ServerMachine → (Talker → Seen) → Option (Option Bounds) → Seen
+answered_if t rest (Some left) = tells t.send (by_status t.status (rest (record { machine = t.next; left = left })))
+answered_if t rest None = ends_as status.Closed
+
+abbrev answered : Talker → List ℕ → (Talker → Seen) → Seen
+answered s line rest = answered_if (server_turn s.machine line) rest (left_after s.left (server_turn s.machine line).counts)
+
+abbrev picks : Talker → List ℕ → Cut → (Talker → List ℕ → Seen) → Seen
 picks s k More rest = rest s k
 picks s k (Bad f) rest = ends_as status.Closed
 picks s k (Ends n) rest = answered s (take (n - 2) k) (λ t. rest t [])
 
 -- what comes of the bytes after those that are kept
-goes : ServerMachine → List ℕ → List ℕ → Seen
+goes : Talker → List ℕ → List ℕ → Seen
 goes s kept [] = ends_as status.Talking
 goes s kept (b ∷ bs) = picks s (kept ++ b ∷ []) (cut (kept ++ b ∷ [])) (λ t k. goes t k bs)
 
 -- ---- a piece at once
 
-abbrev at_once : ServerMachine → List ℕ → List ℕ → List ℕ → Cut → Seen
+abbrev at_once : Talker → List ℕ → List ℕ → List ℕ → Cut → Seen
 at_once s kept p r More = goes s (kept ++ p) r
 at_once s kept p r (Bad f) = ends_as status.Closed
 at_once s kept p r (Ends n) = answered s (take (n - 2) (kept ++ p)) (λ t. goes t [] (drop (n - length kept) (p ++ r)))
 
 -- the first byte of a piece, and the others
-module _ (s : ServerMachine) (kept : List ℕ) (b : ℕ) (p r : List ℕ) where
+module _ (s : Talker) (kept : List ℕ) (b : ℕ) (p r : List ℕ) where
   one_more : List ℕ
   one_more = kept ++ b ∷ []
 
@@ -75,7 +89,7 @@ module _ (s : ServerMachine) (kept : List ℕ) (b : ℕ) (p r : List ℕ) where
       rw h.0 (ap (λ (x : List ℕ). answered s x (λ t. goes t [] (p ++ r))) (sym same)
       ∙ ap (λ (m : ℕ). answered s (take (n - 2) (kept ++ b ∷ p)) (λ t. goes t [] (drop m (b ∷ (p ++ r))))) (sym one))
 
-piecewise : (p : List ℕ) (s : ServerMachine) (kept r : List ℕ) → cut kept ≡ More → goes s kept (p ++ r) ≡ at_once s kept p r (cut (kept ++ p))
+piecewise : (p : List ℕ) (s : Talker) (kept r : List ℕ) → cut kept ≡ More → goes s kept (p ++ r) ≡ at_once s kept p r (cut (kept ++ p))
 unfolding goes
 piecewise [] s kept r wants = rw (append-nil kept, wants) (ap (λ (x : List ℕ). goes s x r) (sym (append-nil kept)))
 piecewise (b ∷ p) s kept r wants =
@@ -86,7 +100,7 @@ piecewise (b ∷ p) s kept r wants =
     (rw wants at (cut_follows kept (b ∷ [])))
     (λ m. rw e at (piecewise p s k r m))
 
-goes_nil : (s : ServerMachine) (kept : List ℕ) → goes s kept [] ≡ ends_as status.Talking
+goes_nil : (s : Talker) (kept : List ℕ) → goes s kept [] ≡ ends_as status.Talking
 unfolding goes
 goes_nil s kept = refl
 
@@ -94,10 +108,10 @@ goes_nil s kept = refl
 
 abbrev seen_first : ServerEndState → List ℕ → Seen
 seen_first e [] = ends_as status.Talking
-seen_first e (b ∷ bs) = cond (b == 0) (goes e.machine e.kept bs) (ends_as status.Closed)
+seen_first e (b ∷ bs) = cond (b == 0) (goes (talker e) e.kept bs) (ends_as status.Closed)
 
 abbrev seen_talking : ServerEndState → List ℕ → Bool → Seen
-seen_talking e bytes true = goes e.machine e.kept bytes
+seen_talking e bytes true = goes (talker e) e.kept bytes
 seen_talking e bytes false = seen_first e bytes
 
 abbrev seen : ServerEndState → List ℕ → Seen
@@ -108,26 +122,34 @@ abbrev Accounts : Seen → EndOutcome ServerEndState → List ℕ → Type 0
 Accounts x outcome bytes = x ≡ tells outcome.send (seen outcome.after (drop outcome.taken bytes))
 
 cuts_seen : (e : ServerEndState) (skipped : ℕ) (p r bytes : List ℕ) (c : Cut) → e.status ≡ status.Talking → ((t : ℕ) → drop (skipped + t) bytes ≡ drop t (p ++ r))
-    → Accounts (at_once e.machine e.kept p r c) (cuts server_turn e skipped p c) bytes
+    → Accounts (at_once (talker e) e.kept p r c) (cuts server_turn e skipped p c) bytes
 cuts_seen e skipped p r bytes More talking d =
     let rest : drop (skipped + length p) bytes ≡ r = d (length p) ∙ drop_at p r (length p) refl in
     rw (talking, rest) refl
 cuts_seen e skipped p r bytes (Bad f) talking d = refl
-cuts_seen e skipped p r bytes (Ends n) talking d = rw (d (n - length e.kept)) refl
+cuts_seen e skipped p r bytes (Ends n) talking d = by_left (left_after e.left t.counts)
+  where
+    t : Turn ServerMachine
+    t = server_turn e.machine (take (n - 2) (e.kept ++ p))
+
+    by_left : (left : Option (Option Bounds))
+        → Accounts (answered_if t (λ x. goes x [] (drop (n - length e.kept) (p ++ r))) left) (answers_if server_turn e (skipped + (n - length e.kept)) t left) bytes
+    by_left (Some left) = rw (d (n - length e.kept)) refl
+    by_left None = refl
 
 first_seen : (e : ServerEndState) (p r : List ℕ) → cut e.kept ≡ More → e.status ≡ status.Talking → e.started ≡ false → Accounts (seen_first e (p ++ r)) (first server_turn e p) (p ++ r)
 first_seen e [] r sound talking z = rw (talking, z) refl
 first_seen e (b ∷ p) r sound talking z = by_zero (b == 0)
   where
-    by_zero : (t : Bool) → Accounts (cond t (goes e.machine e.kept (p ++ r)) (ends_as status.Closed)) (cond t (cuts server_turn e 1 p (cut (e.kept ++ p))) (closes e)) (b ∷ (p ++ r))
+    by_zero : (t : Bool) → Accounts (cond t (goes (talker e) e.kept (p ++ r)) (ends_as status.Closed)) (cond t (cuts server_turn e 1 p (cut (e.kept ++ p))) (closes e)) (b ∷ (p ++ r))
     by_zero true =
-        piecewise p e.machine e.kept r sound
+        piecewise p (talker e) e.kept r sound
         ∙ cuts_seen e 1 p r (b ∷ (p ++ r)) (cut (e.kept ++ p)) talking (λ t. let e : 1 + t ≡ suc t = omega arith in ap (λ (n : ℕ). drop n (b ∷ (p ++ r))) e)
     by_zero false = refl
 
 talks_seen : (e : ServerEndState) (p r : List ℕ) (z : Bool) → cut e.kept ≡ More → e.status ≡ status.Talking → e.started ≡ z → Accounts (seen_talking e (p ++ r) z) (talks server_turn e p z) (p ++ r)
 talks_seen e p r true sound talking z =
-    piecewise p e.machine e.kept r sound ∙ cuts_seen e 0 p r (p ++ r) (cut (e.kept ++ p)) talking (λ t. let e : 0 + t ≡ t = omega arith in ap (λ (n : ℕ). drop n (p ++ r)) e)
+    piecewise p (talker e) e.kept r sound ∙ cuts_seen e 0 p r (p ++ r) (cut (e.kept ++ p)) talking (λ t. let e : 0 + t ≡ t = omega arith in ap (λ (n : ℕ). drop n (p ++ r)) e)
 talks_seen e p r false sound talking z = first_seen e p r sound talking z
 
 takes_seen_at : (e : ServerEndState) (p r : List ℕ) (st : Status) → cut e.kept ≡ More → e.status ≡ st → Accounts (by_status st (seen_talking e (p ++ r) e.started)) (takes_at server_turn e p st) (p ++ r)
@@ -141,13 +163,15 @@ takes_seen e p r sound = takes_seen_at e p r e.status sound refl
 
 -- ---- what is kept asks for more
 
-cuts_sound : (e : ServerEndState) (skipped : ℕ) (p : List ℕ) (c : Cut) → cut e.kept ≡ More → cut (e.kept ++ p) ≡ c → cut (cuts server_turn e skipped p c).after.kept ≡ More
-cuts_sound e skipped p More sound is = is
-cuts_sound e skipped p (Bad f) sound is = sound
-cuts_sound e skipped p (Ends n) sound is = cut_nil
+module _ {M : Type 0} (turn : M → List ℕ → Turn M) where
+  cuts_sound : (e : EndState M) (skipped : ℕ) (p : List ℕ) (c : Cut) → cut e.kept ≡ More → cut (e.kept ++ p) ≡ c → cut (cuts turn e skipped p c).after.kept ≡ More
+  cuts_sound e skipped p More sound is = is
+  cuts_sound e skipped p (Bad f) sound is = sound
+  cuts_sound e skipped p (Ends n) sound is =
+      answers_as turn (λ o. cut o.after.kept ≡ More) e (skipped + (n - length e.kept)) (turn e.machine (take (n - 2) (e.kept ++ p))) sound (λ left. cut_nil)
 
-pub takes_sound : (e : ServerEndState) (p : List ℕ) → cut e.kept ≡ More → cut (server_takes e p).after.kept ≡ More
-takes_sound e p sound = takes_by server_turn (λ o. cut o.after.kept ≡ More) e sound sound (λ skipped q. cuts_sound e skipped q (cut (e.kept ++ q)) sound refl) p
+  pub takes_sound : (e : EndState M) (p : List ℕ) → cut e.kept ≡ More → cut (takes turn e p).after.kept ≡ More
+  takes_sound e p sound = takes_by turn (λ o. cut o.after.kept ≡ More) e sound sound (λ skipped q. cuts_sound e skipped q (cut (e.kept ++ q)) sound refl) p
 
 -- ---- all pieces
 
@@ -162,11 +186,11 @@ run_seen (n ∷ ns) e bytes sound =
     let last = seen rest.after rest.left in
     ap (seen e) (sym (take-append-drop n bytes)) ∙ takes_seen e (take n bytes) (drop n bytes) sound
     ∙ ap (λ (x : List ℕ). tells outcome.send (seen outcome.after (drop outcome.taken x))) (take-append-drop n bytes)
-    ∙ ap (tells outcome.send) (run_seen ns outcome.after (drop outcome.taken bytes) (takes_sound e (take n bytes) sound))
+    ∙ ap (tells outcome.send) (run_seen ns outcome.after (drop outcome.taken bytes) (takes_sound server_turn e (take n bytes) sound))
     ∙ ap (λ (x : List (List ℕ)). record { said = x; status = last.status }) (sym (append_assoc (line_sent outcome.send) rest.said last.said))
 
 none_left : (e : ServerEndState) (z : Bool) → seen_talking e [] z ≡ ends_as status.Talking
-none_left e true = goes_nil e.machine e.kept
+none_left e true = goes_nil (talker e) e.kept
 none_left e false = refl
 
 seen_nil : (e : ServerEndState) (st : Status) → by_status st (seen_talking e [] e.started) ≡ ends_as st
@@ -188,8 +212,8 @@ run_outcome e bytes ns sound fin =
     let h = run_server e bytes ns in
     run_seen ns e bytes sound ∙ ap (suffix h.said) (finished h fin) ∙ ap (λ (x : List (List ℕ)). record { said = x; status = h.after.status }) (append-nil h.said)
 
-pub same_outcome : (s : ServerMachine) (bytes ns ms : List ℕ) → IsFinished (run_server (server_at_first s) bytes ns) → IsFinished (run_server (server_at_first s) bytes ms)
-    → LooksAlike (run_server (server_at_first s) bytes ns) (run_server (server_at_first s) bytes ms)
-same_outcome s bytes ns ms f g =
-    let e = sym (run_outcome (server_at_first s) bytes ns cut_nil f) ∙ run_outcome (server_at_first s) bytes ms cut_nil g in
+pub same_outcome : (left : Option Bounds) (s : ServerMachine) (bytes ns ms : List ℕ) → IsFinished (run_server (server_within left s) bytes ns) → IsFinished (run_server (server_within left s) bytes ms)
+    → LooksAlike (run_server (server_within left s) bytes ns) (run_server (server_within left s) bytes ms)
+same_outcome left s bytes ns ms f g =
+    let e = sym (run_outcome (server_within left s) bytes ns cut_nil f) ∙ run_outcome (server_within left s) bytes ms cut_nil g in
     record { said = ap (λ (x : Seen). x.said) e; status = ap (λ (x : Seen). x.status) e }

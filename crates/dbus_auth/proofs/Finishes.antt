@@ -1,15 +1,18 @@
 -- Handing in byte by byte comes to an end: what is said of finished runs is said of some run of any
 -- bytes.
-use Rattle.std.proofs.Common.{◌≡◌, ◌≢◌, ◌⊎◌, inl, inr, ℕ, ◌+◌, ◌==◌, Bool, true, false, cond, List, [], ◌∷◌, ◌++◌, length, take, drop, refl, sym, ◌∙◌, arith, length-append}
+use Rattle.std.proofs.Common.{◌≡◌, ◌≢◌, ◌⊎◌, inl, inr, ℕ, ◌+◌, ◌-◌, ◌==◌, Bool, true, false, cond, List, [], ◌∷◌, ◌++◌, Option, length, take, drop, refl, sym, ◌∙◌, arith, length-append}
 use Rattle.std.proofs.lemmas.List.{append-nil}
 use Rattle.dbus_auth_lines.specs.Cut.{Cut, Ends, Bad, More, cut}
 use Rattle.dbus_auth.specs.Machines.{ServerMachine}
 use Rattle.dbus_auth.specs.Ends.{ServerEndState, EndOutcome, closes, cuts, first, talks, takes_at, takes, server_turn, server_takes}
-use Rattle.dbus_auth.specs.World.{run_server, IsFinished, server_at_first}
+use Rattle.dbus_auth.specs.Bounded.{server_within}
+use Rattle.dbus_auth.specs.World.{run_server, IsFinished}
+use Rattle.dbus_auth.specs.declared.bounds.Bounds.{Bounds}
 use Rattle.dbus_auth.specs.declared.end_step.Status.{Status}
 use Rattle.dbus_auth.specs.declared.end_step.Status.TheVariants as status
 use Rattle.dbus_auth_lines.proofs.Cuts.{StaysSettled, IsAbove, cut_follows}
 use Rattle.dbus_auth.proofs.Sides.{cut_nil, is_done}
+use Rattle.dbus_auth.proofs.Stages.{answers_as}
 use Rattle.dbus_auth.proofs.AnyCut.{takes_sound}
 
 -- a byte for each call
@@ -30,7 +33,8 @@ begun_is_shut h = cc
 cuts_moved : (e : ServerEndState) (b : ℕ) (c : Cut) → IsAbove c (length e.kept) → StaysSettled c c (length e.kept + 1) → Moved (cuts server_turn e 0 (b ∷ []) c)
 cuts_moved e b More h k = inl (omega arith)
 cuts_moved e b (Bad f) h k = inr closed_is_shut
-cuts_moved e b (Ends n) h k = inl (omega (arith, h, k.1))
+cuts_moved e b (Ends n) h k =
+    answers_as server_turn Moved e (0 + (n - length e.kept)) (server_turn e.machine (take (n - 2) (e.kept ++ b ∷ []))) (inr closed_is_shut) (λ left. inl (omega (arith, h, k.1)))
 
 first_moved : (e : ServerEndState) (b : ℕ) → cut e.kept ≡ More → Moved (first server_turn e (b ∷ []))
 first_moved e b sound = by_zero (b == 0)
@@ -70,7 +74,7 @@ shut_to_the_end (n ∷ ns) e bytes h = shut_to_the_end ns (server_takes e (take 
 
 finishes : (bytes : List ℕ) (e : ServerEndState) → cut e.kept ≡ More → IsFinished (run_server e bytes (singly bytes))
 finishes [] e sound = inl refl
-finishes (b ∷ bs) e sound = by_move (moved e b sound) (finishes bs (server_takes e (b ∷ [])).after (takes_sound e (b ∷ []) sound))
+finishes (b ∷ bs) e sound = by_move (moved e b sound) (finishes bs (server_takes e (b ∷ [])).after (takes_sound server_turn e (b ∷ []) sound))
   where
     outcome : EndOutcome ServerEndState
     outcome = server_takes e (b ∷ [])
@@ -79,5 +83,5 @@ finishes (b ∷ bs) e sound = by_move (moved e b sound) (finishes bs (server_tak
     by_move (inl one) h = rw one h
     by_move (inr shut) h = inr (shut_to_the_end (singly bs) (server_takes e (b ∷ [])).after (drop (server_takes e (b ∷ [])).taken (b ∷ bs)) shut)
 
-pub finishes_first : (s : ServerMachine) (bytes : List ℕ) → IsFinished (run_server (server_at_first s) bytes (singly bytes))
-finishes_first s bytes = finishes bytes (server_at_first s) cut_nil
+pub finishes_first : (left : Option Bounds) (s : ServerMachine) (bytes : List ℕ) → IsFinished (run_server (server_within left s) bytes (singly bytes))
+finishes_first left s bytes = finishes bytes (server_within left s) cut_nil

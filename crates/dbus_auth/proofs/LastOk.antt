@@ -1,7 +1,8 @@
 -- A server that has begun sent OK as its last line other than ERROR, whoever its peer is.
-use Rattle.std.proofs.Common.{◌≡◌, inl, inr, ℕ, ◌-◌, ◌||◌, Bool, true, false, cond, List, [], ◌∷◌, ◌++◌, take, drop, refl, sym, ◌∙◌, ap, subst, append_assoc}
+use Rattle.std.proofs.Common.{◌≡◌, inl, inr, ℕ, ◌+◌, ◌-◌, ◌||◌, Bool, true, false, cond, List, [], ◌∷◌, ◌++◌, Option, length, take, drop, refl, sym, ◌∙◌, ap, subst, append_assoc}
 use Rattle.std.proofs.lemmas.List.{append-nil}
-use Rattle.dbus_auth.specs.World.{server_at_first, line_sent, run_server, IsAfterOk, is_agree, LastIsOk}
+use Rattle.dbus_auth.specs.Bounded.{server_within}
+use Rattle.dbus_auth.specs.World.{line_sent, run_server, IsAfterOk, is_agree, LastIsOk}
 use Rattle.std.specs.Prelude.{codes}
 use Rattle.std.specs.List.{AllByRecursion, list_any}
 use Rattle.std.proofs.lemmas.List.Folds.{list_any-append}
@@ -12,7 +13,8 @@ use Rattle.dbus_auth_lines.specs.Lines.{server_line, ended, client_meaning}
 use Rattle.dbus_auth_lines.specs.Cut.{Cut, Ends, Bad, More, cut}
 use Rattle.dbus_auth.specs.Machines.{Begins, Disconnects, ServerMachine, ServerStep, server_step, server_step_at, rejects, accepts, replies, complains, disconnects, mechanisms, Sends}
 use Rattle.dbus_auth.specs.Ends.{ServerEndState, after_turn, cuts, server_turn, server_takes}
-use Rattle.dbus_auth.proofs.Stages.{server_answers, takes_by}
+use Rattle.dbus_auth.proofs.Stages.{answers_as, server_answers, takes_by}
+use Rattle.dbus_auth.specs.declared.bounds.Bounds.{Bounds}
 use Rattle.dbus_auth.specs.declared.end_step.Status.TheVariants as status
 use Rattle.dbus_auth.specs.declared.states.ServerState.{ServerState}
 use Rattle.dbus_auth.specs.declared.states.ServerState.TheVariants as at
@@ -167,6 +169,13 @@ quiet_keeps first e after said g is same = record {
   begun = λ h. ap (λ (x : ServerMachine). x.state) is ∙ g.begun (same h);
 }
 
+-- nor does it matter what may still be sent
+left_keeps : (first : ServerMachine) (e : ServerEndState) (said : List (List ℕ)) (left : Option Bounds) → Good first e said → Good first (record e { left = left }) said
+left_keeps first e said left g = record { guid_is = g.guid_is; descriptors_is = g.descriptors_is; past_ok = g.past_ok; begun = g.begun }
+
+shut_keeps : (first : ServerMachine) (e : ServerEndState) (said : List (List ℕ)) → Good first e said → Good first (record e { status = status.Closed }) (said ++ [])
+shut_keeps first e said g = quiet_keeps first e (record e { status = status.Closed }) said g refl closed_no_begun
+
 step_kind : (s : ServerMachine) (line : ClientCommand) → Kind s s.state (server_step s line)
 unfolding server_step
 step_kind s line = kind_at s s.state line
@@ -174,15 +183,18 @@ step_kind s line = kind_at s s.state line
 cuts_keep : (first : ServerMachine) (e : ServerEndState) (said : List (List ℕ)) (skipped : ℕ) (bs : List ℕ) (c : Cut) → Good first e said
     → Good first (cuts server_turn e skipped bs c).after (said ++ line_sent (cuts server_turn e skipped bs c).send)
 cuts_keep first e said skipped bs (Ends size) g =
-    let line = client_meaning (take (size - 2) (e.kept ++ bs)) in
-    answer_keeps first e said (server_step e.machine line) g (step_kind e.machine line)
-cuts_keep first e said skipped bs (Bad f) g = quiet_keeps first e (record e { status = status.Closed }) said g refl closed_no_begun
+    let text = take (size - 2) (e.kept ++ bs) in
+    let step = server_step e.machine (client_meaning text) in
+    answers_as server_turn (λ o. Good first o.after (said ++ line_sent o.send)) e (skipped + (size - length e.kept)) (server_turn e.machine text) (shut_keeps first e said g)
+    (λ left. left_keeps first (after_turn (server_answers step)) (said ++ line_sent (server_answers step).send) left
+    (answer_keeps first e said step g (step_kind e.machine (client_meaning text))))
+cuts_keep first e said skipped bs (Bad f) g = shut_keeps first e said g
 cuts_keep first e said skipped bs More g = quiet_keeps first e (record e { started = true; kept = e.kept ++ bs }) said g refl (λ h. h)
 
 takes_keep : (first : ServerMachine) (e : ServerEndState) (said : List (List ℕ)) (p : List ℕ) → Good first e said → Good first (server_takes e p).after (said ++ line_sent (server_takes e p).send)
 takes_keep first e said p g =
     takes_by server_turn (λ o. Good first o.after (said ++ line_sent o.send)) e (quiet_keeps first e e said g refl (λ h. h))
-    (quiet_keeps first e (record e { status = status.Closed }) said g refl closed_no_begun) (λ skipped q. cuts_keep first e said skipped q (cut (e.kept ++ q)) g) p
+    (shut_keeps first e said g) (λ skipped q. cuts_keep first e said skipped q (cut (e.kept ++ q)) g) p
 
 run_keeps : (first : ServerMachine) (ns : List ℕ) (e : ServerEndState) (bytes : List ℕ) (said : List (List ℕ)) → Good first e said → Good first (run_server e bytes ns).after (said ++ (run_server e bytes ns).said)
 run_keeps first [] e bytes said g = quiet_keeps first e e said g refl (λ h. h)
@@ -191,7 +203,7 @@ run_keeps first (n ∷ ns) e bytes said g =
     let rest = run_server outcome.after (drop outcome.taken bytes) ns in
     rw (← append_assoc said (line_sent outcome.send) rest.said) (run_keeps first ns outcome.after (drop outcome.taken bytes) (said ++ line_sent outcome.send) (takes_keep first e said (take n bytes) g))
 
-pub last_ok : (s : ServerMachine) (bytes ns : List ℕ) → (run_server (server_at_first s) bytes ns).after.status ≡ status.Begun → LastIsOk s (run_server (server_at_first s) bytes ns).after.machine.agreed (run_server (server_at_first s) bytes ns).said
-last_ok s bytes ns h =
-    let g = run_keeps s ns (server_at_first s) bytes [] (record { guid_is = refl; descriptors_is = refl; past_ok = absurd; begun = no_begun }) in
+pub last_ok : (left : Option Bounds) (s : ServerMachine) (bytes ns : List ℕ) → (run_server (server_within left s) bytes ns).after.status ≡ status.Begun → LastIsOk s (run_server (server_within left s) bytes ns).after.machine.agreed (run_server (server_within left s) bytes ns).said
+last_ok left s bytes ns h =
+    let g = run_keeps s ns (server_within left s) bytes [] (record { guid_is = refl; descriptors_is = refl; past_ok = absurd; begun = no_begun }) in
     g.past_ok (subst IsPastOk (sym (g.begun h)) tt)

@@ -6,3 +6,5 @@ pub mod Handshake
 pub mod LastOk
 pub mod AnyCut
 pub mod Finishes
+pub mod Few
+pub mod Likewise

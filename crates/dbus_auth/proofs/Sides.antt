@@ -1,5 +1,5 @@
 -- One side of a handshake: an end, the bytes that it keeps, and those that come to it.
-use Rattle.std.proofs.Common.{◌≡◌, ◌⊎◌, inl, inr, ℕ, zero, suc, ◌+◌, ◌-◌, ◌≤◌, ◌||◌, Bool, true, false, List, [], ◌∷◌, ◌++◌, length, take, drop, refl, sym, subst, ◌∙◌, ap, arith, append_assoc, length-append, length-take, length-drop, take-append-drop}
+use Rattle.std.proofs.Common.{◌≡◌, ◌⊎◌, inl, inr, ℕ, zero, suc, ◌+◌, ◌-◌, ◌≤◌, ◌||◌, Bool, true, false, List, [], ◌∷◌, ◌++◌, None, length, take, drop, refl, sym, subst, ◌∙◌, ap, arith, append_assoc, length-append, length-take, length-drop, take-append-drop}
 use Rattle.std.proofs.lemmas.List.{drop_at, drop-append-le, append-nil, drop-drop}
 use Rattle.dbus_auth_lines.specs.Lines.{ended}
 use Rattle.dbus_auth_lines.specs.Cut.{More, cut, scan_from, IsLine}
@@ -83,6 +83,7 @@ module _ {M : Type 0} where
     pub is : e.machine ≡ m
     pub started : e.started ≡ z
     pub wants : cut e.kept ≡ More
+    pub unbounded : e.left ≡ None
     pub coming : Coming z e.kept (untaken wire) bytes
     pub on_wire : IsWire wire
 
@@ -108,6 +109,7 @@ module _ {M : Type 0} where
     is = ap (λ (x : EndState M). x.machine) q.end;
     started = ap (λ (x : EndState M). x.started) q.end;
     wants = ap (λ (x : EndState M). cut x.kept) q.end ∙ cut_nil;
+    unbounded = ap (λ (x : EndState M). x.left) q.end;
     coming = by_start z is;
     on_wire = IsWire-sending wire send q.carries.on_wire;
   }
@@ -131,6 +133,7 @@ module _ {M : Type 0} where
     is = s.is;
     started = s.started;
     wants = s.wants;
+    unbounded = s.unbounded;
     coming = rw (untaken-sending wire more s.on_wire) (by_start z s.coming);
     on_wire = IsWire-sending wire more s.on_wire;
   }
@@ -164,12 +167,13 @@ module _ {M : Type 0} (turn : M → List ℕ → Turn M) where
         is = s.is;
         started = refl;
         wants = c;
+        unbounded = s.unbounded;
         coming = ap (λ (x : List ℕ). (e.kept ++ take n q) ++ x) (past_piece wire skipped n q drops) ∙ append_assoc e.kept (take n q) (drop n q) ∙ ap (λ (x : List ℕ). e.kept ++ x) (take-append-drop n q) ∙ sum;
         on_wire = IsWire-taking wire (skipped + length (take n q)) s.on_wire (omega (arith, length-drop skipped (untaken wire), ap length drops, length-take n q));
       })) refl)
   cuts_move e wire m z skipped n q line more s drops fits sum (whole size ends line_is rest within) =
       let same : turn e.machine (take (size - 2) (e.kept ++ take n q)) ≡ turn m line = ap (λ (x : M). turn x (take (size - 2) (e.kept ++ take n q))) s.is ∙ ap (turn m) line_is in
-      rw ends (took (record {
+      rw (ends, s.unbounded) (took (record {
         after = ap after_turn same;
         send = ap (λ (t : Turn M). t.send) same;
         carries = record {
@@ -199,6 +203,7 @@ module _ {M : Type 0} (turn : M → List ℕ → Turn M) where
             is = s.is;
             started = s.started;
             wants = s.wants;
+            unbounded = s.unbounded;
             coming = (s.coming.0, untaken-taking wire 0 ∙ s.coming.1);
             on_wire = IsWire-taking wire 0 s.on_wire (omega arith);
           }) refl)

@@ -1,5 +1,5 @@
 -- The stages of a handshake: where the two ends and the bytes between them stand.
-use Rattle.std.proofs.Common.{◌≡◌, ◌⊎◌, ℕ, ◌+◌, ◌*◌, ◌≤◌, ◌==◌, ◌&&◌, Bool, true, false, cond, List, [], ◌∷◌, ◌++◌, length, take, Some, None, refl, sym, ◌∙◌, ap, arith}
+use Rattle.std.proofs.Common.{◌≡◌, ◌⊎◌, ℕ, ◌+◌, ◌*◌, ◌≤◌, ◌==◌, ◌&&◌, Bool, true, false, cond, List, [], ◌∷◌, ◌++◌, length, take, Option, Some, None, refl, sym, ◌∙◌, ap, arith}
 use Rattle.std.specs.Prelude.{codes}
 use Rattle.std.specs.List.{AllByRecursion}
 use Rattle.std.proofs.lemmas.List.{append-nil}
@@ -12,8 +12,10 @@ use Rattle.dbus_auth_lines.specs.ServerCommands as server
 use Rattle.dbus_auth_lines.specs.Lines.{ended, client_line, server_line}
 use Rattle.dbus_auth_lines.specs.Cut.{IsPlain, IsLine, cut}
 use Rattle.dbus_auth.specs.Machines.{ServerMachine, ClientMachine, ClientMechanism, auth_line, waits_in, mechanisms, IsMechanism, ServerStep, unaccepted}
-use Rattle.dbus_auth.specs.Ends.{EndState, ServerEndState, ClientEndState, EndOutcome, Turn, after_turn, takes, server_takes, client_takes, nothing, closes, cuts, first, talks, takes_at, does, server_sends}
+use Rattle.dbus_auth.specs.Ends.{EndState, ServerEndState, ClientEndState, EndOutcome, Turn, after_turn, takes, server_takes, client_takes, nothing, closes, cuts, first, talks, takes_at, does, server_sends, server_counts, answers, answers_if, left_after}
 use Rattle.dbus_auth.specs.World.{Wire, untaken, sending, taking, World, Start, To_client, Server_writes, Client_writes, client_did, server_writes, client_writes, start_once, hand_client, happens, line_ends, last_lines}
+use Rattle.dbus_auth.specs.declared.bounds.Bounds.{Bounds}
+use Rattle.dbus_auth.specs.declared.bounds.Counted.{Counted}
 use Rattle.dbus_auth.specs.declared.end_step.Status.TheVariants as status
 use Rattle.dbus_auth.specs.declared.states.ServerState.{ServerState}
 use Rattle.dbus_auth.specs.declared.states.ServerState.TheVariants as at
@@ -58,8 +60,8 @@ pub record OnWay {M N : Type 0} (to : EndState M) (wire : Wire) (m : M) (z : Boo
   pub waiting : Quiet from back n true
 
 -- a machine answers by a line
-abbrev pub says : {M : Type 0} → M → List ℕ → Turn M
-says m line = record { next = m; send = ended line; status = status.Talking }
+abbrev pub says : {M : Type 0} → Counted → M → List ℕ → Turn M
+says c m line = record { next = m; send = ended line; counts = c; status = status.Talking }
 
 module _ {M N : Type 0} {to : EndState M} {wire : Wire} {m : M} {z : Bool} {line : List ℕ} {from : EndState N} {back : Wire} {n : N} where
   -- more of the line is wanted
@@ -78,8 +80,8 @@ module _ {M N : Type 0} {to : EndState M} {wire : Wire} {m : M} {z : Bool} {line
   both_talk a = (a.to_come.talking, ap (λ (x : EndState N). x.status) a.waiting.end, a.to_come.started, ap (λ (x : EndState N). x.started) a.waiting.end)
 
 -- the end took its line, and answers by another
-pub answers_by : {M N : Type 0} {outcome : EndOutcome (EndState M)} {wire : Wire} {t : Turn M} {from : EndState N} {back : Wire} {n : N}
-    → Quiet from back n true → Took outcome wire t [] → (reply : List ℕ) (next : M) → t ≡ says next reply
+pub answers_by : {M N : Type 0} {outcome : EndOutcome (EndState M)} {wire : Wire} {t : Turn M} {from : EndState N} {back : Wire} {n : N} {c : Counted}
+    → Quiet from back n true → Took outcome wire t [] → (reply : List ℕ) (next : M) → t ≡ says c next reply
     → OnWay from (sending back outcome.send) n true reply outcome.after (taking wire outcome.taken) next
 answers_by {M = M} q t reply next is = record {
   to_come = Quiet-sending (ended reply ++ []) q (t.send ∙ ap (λ (x : Turn M). x.send) is ∙ sym (append-nil (ended reply)));
@@ -211,7 +213,7 @@ to_client_of w n h = ap (hand_client w n) h
 
 -- what a server's end does by a step
 abbrev pub server_answers : ServerStep → Turn ServerMachine
-server_answers = does server_sends
+server_answers = does server_sends server_counts
 
 module _ {M : Type 0} (turn : M → List ℕ → Turn M) (P : EndOutcome (EndState M) → Type 0) (e : EndState M) (stays : P (nothing e)) (shuts : P (closes e))
     (goes_on : (skipped : ℕ) (q : List ℕ) → P (cuts turn e skipped q (cut (e.kept ++ q)))) where
@@ -235,3 +237,13 @@ module _ {M : Type 0} (turn : M → List ℕ → Turn M) (P : EndOutcome (EndSta
   pub takes_by : (p : List ℕ) → P (takes turn e p)
   unfolding takes
   takes_by p = by_status p e.status
+
+-- And of an answer: it is sent, or the end closes.
+module _ {M : Type 0} (turn : M → List ℕ → Turn M) (P : EndOutcome (EndState M) → Type 0) (e : EndState M) (taken : ℕ) (t : Turn M) (shuts : P (closes e))
+    (says : (left : Option Bounds) → P (answers_if turn e taken t (Some left))) where
+  by_left : (left : Option (Option Bounds)) → P (answers_if turn e taken t left)
+  by_left None = shuts
+  by_left (Some left) = says left
+
+  pub answers_as : P (answers turn e taken t)
+  answers_as = by_left (left_after e.left t.counts)

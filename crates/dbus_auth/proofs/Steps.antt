@@ -14,7 +14,7 @@ use Rattle.dbus_auth_lines.proofs.SameLines.{server_lines_equal}
 use denote.RattleType.{RattleType}
 use mir.Syntax.{Dict}
 use Rattle.dbus_auth.specs.Machines.{Begins, ServerMachine, ClientMachine, ClientMechanism, External, Anonymous, ClientStep, server_step, client_step, IsServer, auth_line, waits_in, mechanisms, asks, client_accepted, complains, next_among, IsMechanism, ServerAction, Sends}
-use Rattle.dbus_auth.specs.Ends.{ServerEndState, ClientEndState, EndOutcome, Turn, nothing, not_started, after_turn, does, server_turn, client_turn, client_sends, client_starts}
+use Rattle.dbus_auth.specs.Ends.{ServerEndState, ClientEndState, EndOutcome, Turn, nothing, not_started, after_turn, does, server_turn, client_turn, client_sends, client_counts, client_starts}
 use Rattle.dbus_auth.specs.World.{untaken, sending, taking, World, Start, To_server, To_client, Server_writes, Client_writes, server_did, client_did, server_writes, client_writes, start_once, hand_client, happens, line_ends, last_lines}
 use Rattle.dbus_auth.specs.declared.end_step.Status.TheVariants as status
 use Rattle.dbus_auth.specs.declared.states.ServerState.TheVariants as at
@@ -31,7 +31,7 @@ use Rattle.dbus_auth.specs.contracts.server.ServerActPartialEq.TheImpl as act_eq
 -- ---- the machines' steps
 
 abbrev client_answers : ClientStep → Turn ClientMachine
-client_answers = does client_sends
+client_answers = does client_sends client_counts
 
 awaits : (m : ClientMechanism) → IsAwaiting (waits_in m)
 awaits (External None) = inr refl
@@ -222,7 +222,7 @@ module _ (s : ServerMachine) (made : ClientMachine) (fits : IsServer s) (w : Wor
 
 started_with : (made : ClientMachine) (e : ClientEndState) (m : ClientMechanism) (ms : List ClientMechanism) → e ≡ not_started (talks_as made now.Fresh (m ∷ ms)) →
     client_starts e ≡ record {
-      after = record { machine = talks_as made (waits_in m) ms; started = true; kept = []; status = status.Talking };
+      after = record { machine = talks_as made (waits_in m) ms; started = true; kept = []; status = status.Talking; left = None };
       taken = 0;
       send = 0 ∷ ended (client_line (auth_line m));
     }
@@ -231,7 +231,7 @@ started_with made e m ms h = ap client_starts h
 
 started_without : (made : ClientMachine) (e : ClientEndState) → e ≡ not_started (talks_as made now.Fresh []) →
     client_starts e ≡ record {
-      after = record { machine = talks_as made now.Closed []; started = true; kept = []; status = status.Closed };
+      after = record { machine = talks_as made now.Closed []; started = true; kept = []; status = status.Closed; left = None };
       taken = 0;
       send = [];
     }

@@ -1,6 +1,7 @@
 pub mod Machines
 pub mod Ends
 pub mod World
+pub mod Bounded
 pub mod ServerViews
 pub mod ClientViews
 pub mod EndStepViews

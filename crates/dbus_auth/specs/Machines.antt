@@ -209,12 +209,11 @@ client_waiting_for_ok c (server.DataOf bytes) = asks c client.Cancel now.Waiting
 client_waiting_for_ok c (server.Error text) = asks c client.Cancel now.WaitingForReject
 client_waiting_for_ok c _ = client_complains c
 
--- D-Bus Specification, "AGREE_UNIX_FD Command"
+-- D-Bus Specification, "AGREE_UNIX_FD Command"; what else comes ends the handshake
 abbrev pub client_waiting_for_agree : ClientMachine → ServerCommand → ClientStep
 client_waiting_for_agree c server.Agree = begins c c.guid true
 client_waiting_for_agree c (server.Error text) = begins c c.guid false
-client_waiting_for_agree c (server.Rejected words) = next_of c
-client_waiting_for_agree c _ = client_complains c
+client_waiting_for_agree c _ = closes c
 
 abbrev pub client_waiting_for_reject : ClientMachine → ServerCommand → ClientStep
 client_waiting_for_reject c (server.Rejected words) = next_of c

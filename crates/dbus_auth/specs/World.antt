@@ -5,7 +5,7 @@ use Rattle.std.specs.List.{AllByRecursion, list_any}
 use Rattle.dbus_auth_lines.specs.ServerCommands as server
 use Rattle.dbus_auth_lines.specs.Lines.{server_line, ended}
 use Rattle.dbus_auth.specs.Machines.{ServerMachine, ClientMachine, unaccepted}
-use Rattle.dbus_auth.specs.Ends.{ServerEndState, ClientEndState, EndOutcome, not_started, server_takes, client_takes, client_starts}
+use Rattle.dbus_auth.specs.Ends.{EndState, ServerEndState, ClientEndState, EndOutcome, Turn, not_started, takes, server_turn, client_turn, server_takes, client_takes, client_starts}
 use Rattle.dbus_auth.specs.declared.end_step.Status.{Status}
 use Rattle.dbus_auth.specs.declared.end_step.Status.TheVariants as status
 use Rattle.dbus_auth.specs.declared.states.ServerState.TheVariants as at
@@ -139,14 +139,16 @@ pub record Handshake (s : ServerMachine) (c : ClientMachine) (w : World) : Type 
   pub order : w.to_server.sent ≡ w.client_said ++ w.client_wrote
   pub lines : line_ends w.client_said ≤ 2 * length c.left + last_lines c
 
--- A server's end before any peer: any bytes, in any pieces. D-Bus Specification, "Authentication
--- Protocol".
+-- An end before any peer: any bytes, in any pieces. D-Bus Specification, "Authentication Protocol".
 
 -- what came of some bytes: the end, the lines that it sent, and the bytes that it has not taken
-pub record ServerRun : Type 0 where
-  pub after : ServerEndState
+pub record EndRun (M : Type 0) : Type 0 where
+  pub after : EndState M
   pub said : List (List ℕ)
   pub left : List ℕ
+
+abbrev pub ServerRun : Type 0
+ServerRun = EndRun ServerMachine
 
 -- a call sends one line or nothing
 abbrev pub line_sent : List ℕ → List (List ℕ)
@@ -154,17 +156,24 @@ line_sent [] = []
 line_sent (b ∷ bs) = (b ∷ bs) ∷ []
 
 -- a call that sent this, and then the others
-abbrev pub saying : List ℕ → ServerRun → ServerRun
+abbrev pub saying : {M : Type 0} → List ℕ → EndRun M → EndRun M
 saying send run = record { after = run.after; said = line_sent send ++ run.said; left = run.left }
 
 -- each call is handed a piece of the first n bytes that are not taken, for the next n of the list
+abbrev pub run_end : {M : Type 0} → (M → List ℕ → Turn M) → EndState M → List ℕ → List ℕ → EndRun M
+run_end turn e bytes [] = record { after = e; said = []; left = bytes }
+run_end turn e bytes (n ∷ ns) =
+    saying (takes turn e (take n bytes)).send (run_end turn (takes turn e (take n bytes)).after (drop (takes turn e (take n bytes)).taken bytes) ns)
+
 abbrev pub run_server : ServerEndState → List ℕ → List ℕ → ServerRun
-run_server e bytes [] = record { after = e; said = []; left = bytes }
-run_server e bytes (n ∷ ns) =
-    saying (server_takes e (take n bytes)).send (run_server (server_takes e (take n bytes)).after (drop (server_takes e (take n bytes)).taken bytes) ns)
+run_server e bytes ns = run_end server_turn e bytes ns
+
+-- a client's end starts first
+abbrev pub run_client : ClientEndState → List ℕ → List ℕ → EndRun ClientMachine
+run_client e bytes ns = saying (client_starts e).send (run_end client_turn (client_starts e).after bytes ns)
 
 -- nothing is left to hand in, or the end takes nothing more
-abbrev pub IsFinished : ServerRun → Type 0
+abbrev pub IsFinished : {M : Type 0} → EndRun M → Type 0
 IsFinished run = (run.left ≡ []) ⊎ (run.after.status ≢ status.Talking)
 
 -- a line that may follow OK: ERROR, or AGREE_UNIX_FD of a server that passes descriptors

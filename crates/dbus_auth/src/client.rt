@@ -78,13 +78,11 @@ pub struct ClientTurn<A: Allocator> {
 /// | | anything else | sends ERROR, stays |
 /// | waiting for AGREE_UNIX_FD | AGREE_UNIX_FD | sends BEGIN, has begun, and both agreed |
 /// | | ERROR | sends BEGIN, has begun |
-/// | | REJECTED | next |
-/// | | anything else | sends ERROR, stays |
+/// | | anything else | is closed |
 /// | waiting for REJECTED | REJECTED | next |
 /// | | anything else | is closed |
 ///
-/// D-Bus Specification, "Client states". The answer to DATA is a choice of this profile, and so are
-/// those to REJECTED and to anything else while it waits for AGREE_UNIX_FD.
+/// D-Bus Specification, "Client states". The answer to DATA is a choice of this profile.
 #[derive(Drop)]
 pub struct Client<A: Allocator = Global> {
     stage: ClientStage,
@@ -234,7 +232,7 @@ impl<A: Allocator + Copy> Client<A> {
         match self.stage {
             ClientStage::WaitingForData => self.on_data(alloc, line),
             ClientStage::WaitingForOk => self.on_ok(alloc, line),
-            ClientStage::WaitingForAgree(guid) => self.on_agree(alloc, line, guid),
+            ClientStage::WaitingForAgree(guid) => Ok(self.on_agree(line, guid)),
             ClientStage::WaitingForReject => self.on_reject(alloc, line),
             ClientStage::Fresh | ClientStage::Begun(_, _) | ClientStage::Closed => {
                 Ok(self.stays_with(ClientAct::Disconnect, self.stage))
@@ -314,28 +312,20 @@ impl<A: Allocator + Copy> Client<A> {
     }
 
     /// The same while it waits for AGREE_UNIX_FD of the server with this GUID.
-    fn on_agree(
-        &self,
-        alloc: A,
-        line: &ServerLine<A>,
-        guid: Guid,
-    ) -> Result<ClientTurn<A>, AllocError>
+    fn on_agree(&self, line: &ServerLine<A>, guid: Guid) -> ClientTurn<A>
         requires { (client_machine self.now).guid ≡ Some guid.0 }
-        ensures { IfOk result (λ turn.
-            shown_turn turn self.now ≡
-            client_waiting_for_agree (client_machine self.now) (server_command line.now)) }
+        ensures { shown_turn result self.now ≡
+            client_waiting_for_agree (client_machine self.now) (server_command line.now) }
     {
         match line {
-            ServerLine::Agree => {
-                Ok(self.stays_with(ClientAct::Begin, ClientStage::Begun(guid, true)))
-            }
+            ServerLine::Agree => self.stays_with(ClientAct::Begin, ClientStage::Begun(guid, true)),
             ServerLine::Error(_) => {
-                Ok(self.stays_with(ClientAct::Begin, ClientStage::Begun(guid, false)))
+                self.stays_with(ClientAct::Begin, ClientStage::Begun(guid, false))
             }
-            ServerLine::Rejected(_) => self.next_mechanism(alloc),
-            ServerLine::DataOf(_) | ServerLine::Accepted(_) | ServerLine::Other => {
-                Ok(self.complain(alloc))
-            }
+            ServerLine::Rejected(_)
+            | ServerLine::DataOf(_)
+            | ServerLine::Accepted(_)
+            | ServerLine::Other => self.stays_with(ClientAct::Disconnect, ClientStage::Closed),
         }
     }
 

@@ -1,12 +1,15 @@
 //! The client's end of a connection: its state machine over bytes that come in pieces.
 
 ghost use Rattle.std.specs.Prelude.{◌≡◌, ◌++◌, true, false, IfOk, OnOk, OnErr, option_map};
-ghost use Rattle.dbus_auth.specs.ClientViews.{client_action, client_machine};
-ghost use Rattle.dbus_auth.specs.Ends.{client_greets, client_sends, client_starts, client_takes, client_turn, status_after};
+ghost use Rattle.dbus_auth.specs.Bounded.{within};
+ghost use Rattle.dbus_auth.specs.ClientViews.{client_action, client_at, client_machine};
+ghost use Rattle.dbus_auth.specs.Ends.{client_counts, client_greets, client_sends, client_starts, client_takes, client_turn, counts_as, status_after};
+ghost use Rattle.dbus_auth_lines.specs.Lines.{client_command};
 ghost use Rattle.dbus_auth.specs.EndStepViews.{DidStep, IsReply};
 ghost use Rattle.dbus_auth.specs.Machines.{ClientMachine};
 
-use crate::client::{Client, ClientAct, ClientTurn};
+use crate::bounds::{Bounds, Counted};
+use crate::client::{Client, ClientAct, ClientStage, ClientTurn};
 use crate::end::{End, Machine, Reply};
 use crate::end_step::{EndStep, Status};
 use dbus_auth_lines::writing::client_bytes;
@@ -18,34 +21,72 @@ impl<A: Allocator + Copy> Machine<A> for Client<A> {
 
     ghost shown = { client_machine };
 
+    ghost shown_as = { λ c next. client_at c next.0 next.1 };
+
     ghost turn = { client_turn };
 
-    fn answer(&mut self, alloc: A, line: &[u8]) -> Result<Reply<A>, AllocError> {
+    type Next = (ClientStage, usize);
+
+    fn answer(
+        &self,
+        alloc: A,
+        line: &[u8],
+    ) -> Result<(Reply<A>, (ClientStage, usize)), AllocError> {
         let said = read_server(alloc, line)?;
         let ClientTurn { act, stage, tried } = self.step(alloc, &said)?;
-        let reply = reply_to(alloc, &act)?;
-        self.go_to(stage, tried);
-        Ok(reply)
+        Ok((reply_to(alloc, &act)?, (stage, tried)))
+    }
+
+    fn go_on(&mut self, next: (ClientStage, usize)) {
+        self.go_to(next.0, next.1);
     }
 }
 
 /// What an act sends, and the status of the end after it.
 fn reply_to<A: Allocator + Copy>(alloc: A, act: &ClientAct<A>) -> Result<Reply<A>, AllocError>
     ensures { IfOk result (λ r.
-        IsReply r (client_sends (client_action act.now)) (status_after (client_action act.now))) }
+        IsReply r (client_sends (client_action act.now))
+        (counts_as client_counts (client_action act.now)) (status_after (client_action act.now))) }
 {
-    let (send, status) = match act {
-        ClientAct::Send(line) => (client_bytes(alloc, line)?, Status::Talking),
-        ClientAct::Begin => (client_bytes(alloc, &ClientLine::Begin)?, Status::Begun),
-        ClientAct::Disconnect => (Vec::new(alloc), Status::Closed),
+    let (send, counts, status) = match act {
+        ClientAct::Send(line) => (client_bytes(alloc, line)?, counted(line), Status::Talking),
+        ClientAct::Begin => {
+            let begin = client_bytes(alloc, &ClientLine::Begin)?;
+            (begin, Counted::Step, Status::Begun)
+        }
+        ClientAct::Disconnect => (Vec::new(alloc), Counted::Step, Status::Closed),
     };
-    Ok(Reply { send, status })
+    Ok(Reply {
+        send,
+        counts,
+        status,
+    })
+}
+
+/// What a line counts as.
+fn counted<A: Allocator>(line: &ClientLine<A>) -> Counted
+    ensures { result ≡ client_counts (client_command line.now) }
+{
+    match line {
+        ClientLine::Error(_) => Counted::Stay,
+        ClientLine::Auth
+        | ClientLine::AuthBy { .. }
+        | ClientLine::Cancel
+        | ClientLine::Begin
+        | ClientLine::DataOf(_)
+        | ClientLine::Negotiate
+        | ClientLine::Other => Counted::Step,
+    }
 }
 
 /// The same of the first act, with the byte 0.
-fn greeted_by<A: Allocator + Copy>(alloc: A, act: &ClientAct<A>) -> Result<Reply<A>, AllocError>
+fn greeted_by<A: Allocator + Copy>(
+    alloc: A,
+    act: &ClientAct<A>,
+) -> Result<(Vec<u8, A>, Status), AllocError>
     ensures { IfOk result (λ r.
-        IsReply r (client_greets (client_action act.now)) (status_after (client_action act.now))) }
+        (r.0.items ≡ client_greets (client_action act.now)) ×
+        (r.1 ≡ status_after (client_action act.now))) }
 {
     let mut send = Vec::new(alloc);
     let status = match act {
@@ -57,7 +98,7 @@ fn greeted_by<A: Allocator + Copy>(alloc: A, act: &ClientAct<A>) -> Result<Reply
         ClientAct::Begin => Status::Begun,
         ClientAct::Disconnect => Status::Closed,
     };
-    Ok(Reply { send, status })
+    Ok((send, status))
 }
 
 /// The client's end of a connection. It keeps the bytes of an unfinished line, at most 16,383.
@@ -81,6 +122,15 @@ impl<A: Allocator + Copy> ClientEnd<A> {
         }
     }
 
+    /// Bounds what the end sends, from here on: how many lines leave it in its state. Past that it
+    /// closes, as [`Bounds`] says. [`crate::laws::bounds_law`] says how many lines it sends then.
+    pub fn set_bounds(&mut self, bounds: Bounds)
+        ensures bounded { client_end_state self.new ≡ within bounds (client_end_state self.old) }
+        ensures started { (client_end_state self.new).started ≡ (client_end_state self.old).started }
+    {
+        self.end.set_bounds(bounds);
+    }
+
     /// The first bytes to be sent: the byte 0 and the line that asks for the first mechanism. If
     /// there is no mechanism, no bytes, and the end is closed. The end must not have started.
     ///
@@ -96,7 +146,7 @@ impl<A: Allocator + Copy> ClientEnd<A> {
         ensures err { OnErr result (client_end_state self.new ≡ client_end_state self.old) }
     {
         let ClientTurn { act, stage, tried } = self.end.machine.next_mechanism(self.end.alloc)?;
-        let Reply { send, status } = greeted_by(self.end.alloc, &act)?;
+        let (send, status) = greeted_by(self.end.alloc, &act)?;
         self.end.machine.go_to(stage, tried);
         self.end.started = true;
         self.end.status = status;

@@ -1,8 +1,9 @@
 //! One end of a connection: a state machine over bytes that come in pieces.
 
-ghost use Rattle.std.specs.Prelude.{◌≡◌, ◌++◌, ◌≤◌, ℕ, List, [], true, IfOk, OnErr};
+ghost use Rattle.std.specs.Prelude.{◌≡◌, ◌++◌, ◌≤◌, ℕ, List, [], true, IfOk, OnErr, Some};
 ghost use Rattle.dbus_auth_lines.specs.Cut.{cut, More};
 
+use crate::bounds::{Bounds, Counted, left_after};
 use crate::end_step::{EndStep, Status};
 use dbus_auth_lines::scanning::{Found, find, line_of};
 use std::alloc::{AllocError, Allocator};
@@ -11,6 +12,7 @@ use std::alloc::{AllocError, Allocator};
 #[derive(Drop)]
 pub struct Reply<A: Allocator> {
     pub send: Vec<u8, A>,
+    pub counts: Counted,
     pub status: Status,
 }
 
@@ -19,22 +21,32 @@ pub trait Machine<A: Allocator>: Drop {
     ghost use Rattle.dbus_auth.specs.Ends.{Turn};
     ghost use Rattle.dbus_auth.specs.EndStepViews.{IsReply};
 
-    // A machine as contracts see it.
+    /// What it is about to be.
+    type Next: Drop;
+
+    // A machine as contracts see it, as it is and as it is about to be.
     ghost State: { Type 0 };
 
     ghost shown: { Self → State };
 
+    ghost shown_as: { Self → Self.Next → State };
+
     // What it does on a line.
     ghost turn: { State → List ℕ → Turn State };
 
-    /// Answers a line, which has no CR LF.
+    /// The answer to a line, which has no CR LF, and what the machine is once that is sent. Nothing
+    /// is changed.
     ///
-    /// Returns `AllocError` if an allocation failed, and the machine is unchanged then.
-    fn answer(&mut self, alloc: A, line: &[u8]) -> Result<Reply<A>, AllocError>
-        ensures turn { IfOk result (λ r.
-            IsReply r (turn (shown self.old) line.now).send (turn (shown self.old) line.now).status ×
-            (shown self.new ≡ (turn (shown self.old) line.now).next)) }
-        ensures err { OnErr result (shown self.new ≡ shown self.old) };
+    /// Returns `AllocError` if an allocation failed.
+    fn answer(&self, alloc: A, line: &[u8]) -> Result<(Reply<A>, Self::Next), AllocError>
+        ensures { IfOk result (λ t.
+            IsReply t.0 (turn (shown self.now) line.now).send (turn (shown self.now) line.now).counts
+            (turn (shown self.now) line.now).status ×
+            (shown_as self.now t.1 ≡ (turn (shown self.now) line.now).next)) };
+
+    /// Goes on so.
+    fn go_on(&mut self, next: Self::Next)
+        ensures { shown self.new ≡ shown_as self.old next };
 }
 
 /// An end, with its state machine. It keeps the bytes of an unfinished line, at most 16,383.
@@ -45,10 +57,12 @@ pub struct End<M, A: Allocator> {
     pub(crate) started: bool,
     kept: Vec<u8, A>,
     pub(crate) status: Status,
+    left: Option<Bounds>,
     ghost asks_for_more: { cut kept.items ≡ More },
 }
 
 impl<M: Machine<A>, A: Allocator + Copy> End<M, A> {
+    ghost use Rattle.dbus_auth.specs.Bounded.{within};
     ghost use Rattle.dbus_auth.specs.Ends.{not_started, cuts, takes};
     ghost use Rattle.dbus_auth.specs.EndStepViews.{end_state, DidStep};
 
@@ -63,7 +77,16 @@ impl<M: Machine<A>, A: Allocator + Copy> End<M, A> {
             started: false,
             kept: Vec::new(alloc),
             status: Status::Talking,
+            left: None,
         }
+    }
+
+    /// Bounds what the end sends from here on.
+    pub(crate) fn set_bounds(&mut self, bounds: Bounds)
+        ensures bounded { end_state M.shown self.new ≡ within bounds (end_state M.shown self.old) }
+        ensures started { self.new.started ≡ self.old.started }
+    {
+        self.left = Some(bounds);
     }
 
     /// Takes at most one line of the piece, with the byte 0 before it if the end has not started,
@@ -137,11 +160,22 @@ impl<M: Machine<A>, A: Allocator + Copy> End<M, A> {
             Found::Ends(size) => {
                 // all that can fail comes before the first change
                 let line = line_of(self.alloc, &self.kept, piece, size)?;
-                let Reply { send, status } = self.machine.answer(self.alloc, &line)?;
+                let (reply, next) = self.machine.answer(self.alloc, &line)?;
+                let Reply {
+                    send,
+                    counts,
+                    status,
+                } = reply;
+                let Some(left) = left_after(self.left, counts) else {
+                    self.status = Status::Closed;
+                    return Ok(self.nothing());
+                };
                 let taken = skipped + (size - self.kept.len());
+                self.machine.go_on(next);
                 self.kept.clear();
                 self.started = true;
                 self.status = status;
+                self.left = left;
                 Ok(EndStep {
                     taken,
                     send,

@@ -4,10 +4,12 @@
 //!
 //! D-Bus Specification, section "Authentication Protocol".
 
-ghost use Rattle.std.specs.Prelude.{List, ℕ, ◌≡◌, ◌↔◌, IsTrue};
+ghost use Rattle.std.specs.Prelude.{List, ℕ, Option, ◌≡◌, ◌↔◌, IsTrue};
 ghost use Rattle.std.specs.List.{AllByRecursion};
 ghost use Rattle.dbus_auth.specs.Machines.{ServerMachine, ClientMachine, IsServer, IsMechanism};
-ghost use Rattle.dbus_auth.specs.World.{Event, run, at_first, server_at_first, Handshake, run_server, IsFinished, LooksAlike, LastIsOk};
+ghost use Rattle.dbus_auth.specs.World.{Event, run, at_first, client_at_first, server_at_first, Handshake, run_client, run_server, IsFinished, LooksAlike, LastIsOk};
+ghost use Rattle.dbus_auth.specs.Bounded.{StaysWithin, at_first_within, client_most, server_most, server_within, within};
+ghost use Rattle.dbus_auth.specs.declared.bounds.Bounds.{Bounds};
 ghost use Rattle.dbus_auth.specs.ClientViews.{client_action, client_mechanism};
 ghost use Rattle.dbus_auth.specs.EndStepViews.{end_answer};
 ghost use Rattle.dbus_auth.specs.ServerViews.{server_action};
@@ -59,6 +61,33 @@ pub fn any_peer_law()
     // some way of cutting comes to an end
     ensures some_cut { (s : ServerMachine) (bytes : List ℕ) →
         (ns : List ℕ) × IsFinished (run_server (server_at_first s) bytes ns) }
+{}
+
+/// What [`handshake_law`] and [`any_peer_law`] say holds of ends with bounds too; and whoever the
+/// peer of an end with bounds is and whatever it sends, the end sends few lines: a server's at most
+/// 3 * `rejections` + `errors` + 2, and a client's at most 3 for each of its mechanisms, `errors`,
+/// BEGIN and, if it was told to, NEGOTIATE_UNIX_FD. Once it is handed all that came, it has begun, is
+/// closed, or waits for its peer, for it keeps no whole line.
+pub fn bounds_law()
+    ensures handshake { (s : ServerMachine) (c : ClientMachine) (server client : Option Bounds)
+        (events : List Event) →
+        IsServer s → AllByRecursion IsMechanism c.left →
+        Handshake s c (run events (at_first_within server client s c)) }
+    ensures last_ok { (left : Option Bounds) (s : ServerMachine) (bytes ns : List ℕ) →
+        (run_server (server_within left s) bytes ns).after.status ≡ status.Begun →
+        LastIsOk s (run_server (server_within left s) bytes ns).after.machine.agreed
+        (run_server (server_within left s) bytes ns).said }
+    ensures any_cut { (left : Option Bounds) (s : ServerMachine) (bytes ns ms : List ℕ) →
+        IsFinished (run_server (server_within left s) bytes ns) →
+        IsFinished (run_server (server_within left s) bytes ms) →
+        LooksAlike (run_server (server_within left s) bytes ns)
+        (run_server (server_within left s) bytes ms) }
+    ensures some_cut { (left : Option Bounds) (s : ServerMachine) (bytes : List ℕ) →
+        (ns : List ℕ) × IsFinished (run_server (server_within left s) bytes ns) }
+    ensures server { (s : ServerMachine) (b : Bounds) (bytes ns : List ℕ) →
+        StaysWithin (server_most b) (run_server (within b (server_at_first s)) bytes ns) }
+    ensures client { (c : ClientMachine) (b : Bounds) (bytes ns : List ℕ) →
+        StaysWithin (client_most c b) (run_client (within b (client_at_first c)) bytes ns) }
 {}
 
 /// `==` of two steps of ends: they are equal exactly if they took as many bytes, send the same

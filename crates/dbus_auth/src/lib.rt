@@ -16,6 +16,9 @@
 //! made with a user that it did not learn from the transport lets anybody in as that user. A server
 //! whose transport reports no user is made with `None`, and then offers no EXTERNAL.
 //!
+//! **A server for anybody gives its ends [`Bounds`],** 6 and 6: without them an end answers for as
+//! long as its peer asks.
+//!
 //! # This profile
 //!
 //! EXTERNAL and ANONYMOUS are the mechanisms. A line has at most 16,384 bytes with its CR LF. Unless
@@ -27,6 +30,7 @@
 //! All is from the D-Bus Specification, section "Authentication Protocol".
 #![tactic(auto)]
 
+mod bounds;
 mod client;
 mod client_end;
 mod copies;
@@ -37,6 +41,7 @@ mod server;
 mod server_end;
 mod states;
 
+pub use bounds::Bounds;
 pub use client::{Client, ClientAct, Mechanism};
 pub use client_end::ClientEnd;
 pub use dbus_auth_lines::{

@@ -1,16 +1,19 @@
 //! The server's end of a connection: its state machine over bytes that come in pieces.
 
 ghost use Rattle.std.specs.Prelude.{◌≡◌, IfOk, OnErr};
-ghost use Rattle.dbus_auth.specs.Ends.{server_sends, server_takes, server_turn, status_after};
+ghost use Rattle.dbus_auth.specs.Bounded.{within};
+ghost use Rattle.dbus_auth.specs.Ends.{counts_as, server_counts, server_sends, server_takes, server_turn, status_after};
 ghost use Rattle.dbus_auth.specs.EndStepViews.{DidStep, IsReply};
 ghost use Rattle.dbus_auth.specs.Machines.{ServerMachine};
-ghost use Rattle.dbus_auth.specs.ServerViews.{server_action, server_machine};
+ghost use Rattle.dbus_auth.specs.ServerViews.{server_action, server_at, server_machine};
+ghost use Rattle.dbus_auth_lines.specs.Lines.{server_command};
 
+use crate::bounds::{Bounds, Counted};
 use crate::end::{End, Machine, Reply};
 use crate::end_step::{EndStep, Status};
-use crate::server::{Server, ServerAct};
-use dbus_auth_lines::read_client;
+use crate::server::{Server, ServerAct, ServerStage};
 use dbus_auth_lines::writing::server_bytes;
+use dbus_auth_lines::{ServerLine, read_client};
 use std::alloc::{AllocError, Allocator, Global};
 
 impl<A: Allocator + Copy> Machine<A> for Server {
@@ -18,28 +21,50 @@ impl<A: Allocator + Copy> Machine<A> for Server {
 
     ghost shown = { server_machine };
 
+    ghost shown_as = { server_at };
+
     ghost turn = { server_turn };
 
-    fn answer(&mut self, alloc: A, line: &[u8]) -> Result<Reply<A>, AllocError> {
+    type Next = ServerStage;
+
+    fn answer(&self, alloc: A, line: &[u8]) -> Result<(Reply<A>, ServerStage), AllocError> {
         let said = read_client(alloc, line)?;
         let (act, next) = self.step(alloc, &said)?;
-        let reply = reply_to(alloc, &act)?;
+        Ok((reply_to(alloc, &act)?, next))
+    }
+
+    fn go_on(&mut self, next: ServerStage) {
         self.go_to(next);
-        Ok(reply)
     }
 }
 
 /// What an act sends, and the status of the end after it.
 fn reply_to<A: Allocator + Copy>(alloc: A, act: &ServerAct<A>) -> Result<Reply<A>, AllocError>
     ensures { IfOk result (λ r.
-        IsReply r (server_sends (server_action act.now)) (status_after (server_action act.now))) }
+        IsReply r (server_sends (server_action act.now))
+        (counts_as server_counts (server_action act.now)) (status_after (server_action act.now))) }
 {
-    let (send, status) = match act {
-        ServerAct::Send(line) => (server_bytes(alloc, line)?, Status::Talking),
-        ServerAct::Begin => (Vec::new(alloc), Status::Begun),
-        ServerAct::Disconnect => (Vec::new(alloc), Status::Closed),
+    let (send, counts, status) = match act {
+        ServerAct::Send(line) => (server_bytes(alloc, line)?, counted(line), Status::Talking),
+        ServerAct::Begin => (Vec::new(alloc), Counted::Step, Status::Begun),
+        ServerAct::Disconnect => (Vec::new(alloc), Counted::Step, Status::Closed),
     };
-    Ok(Reply { send, status })
+    Ok(Reply {
+        send,
+        counts,
+        status,
+    })
+}
+
+/// What a line counts as.
+fn counted<A: Allocator>(line: &ServerLine<A>) -> Counted
+    ensures { result ≡ server_counts (server_command line.now) }
+{
+    match line {
+        ServerLine::Rejected(_) => Counted::Rejection,
+        ServerLine::Error(_) | ServerLine::Agree => Counted::Stay,
+        ServerLine::Accepted(_) | ServerLine::DataOf(_) | ServerLine::Other => Counted::Step,
+    }
 }
 
 /// The server's end of a connection. It keeps the bytes of an unfinished line, at most 16,383.
@@ -61,6 +86,15 @@ impl<A: Allocator + Copy> ServerEnd<A> {
         ServerEnd {
             end: End::new(alloc, server),
         }
+    }
+
+    /// Bounds what the end sends, from here on: how often it rejects a client, and how many lines
+    /// leave it in its state. Past that it closes, as [`Bounds`] says. A server for anybody needs
+    /// bounds: [`crate::laws::bounds_law`] says how many lines it sends then.
+    pub fn set_bounds(&mut self, bounds: Bounds)
+        ensures { server_end_state self.new ≡ within bounds (server_end_state self.old) }
+    {
+        self.end.set_bounds(bounds);
     }
 
     /// Takes at most one line of the piece, with the byte 0 before the first line, and answers it.

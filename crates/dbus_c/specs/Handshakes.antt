@@ -3,9 +3,10 @@
 use Rattle.std.specs.Prelude.{◌≡◌, ◌↔◌, IsTrue, ℕ, ◌<◌, ◌≤◌, Bool, true, false, List, ◌++◌, length, drop, Option, Some, None, Result, Ok, Err, ◌+◌, ◌==◌, if◌then◌else◌}
 use Rattle.std.specs.declared.alloc.AllocError.{AllocError}
 use Rattle.hex.specs.Hex.{encode_lower}
+use Rattle.dbus_auth.specs.declared.bounds.Bounds.{Bounds}
 use Rattle.dbus_auth.specs.declared.end_step.Status.{Status}
 use Rattle.dbus_auth.specs.declared.end_step.Status.TheVariants as status
-use Rattle.dbus_c_auth.specs.Handshakes.{agreed_in, guid_in}
+use Rattle.dbus_c_auth.specs.Handshakes.{agreed_in, bounded, guid_in}
 use Rattle.dbus_c_auth.specs.declared.guid_text.TheConstants.{GUID_ROOM}
 use Rattle.dbus_c_auth.specs.declared.handshake.Handshake.{Handshake}
 use Rattle.dbus_c_auth.specs.declared.step.Step.{Step}
@@ -81,6 +82,11 @@ IsGuidTold (Some guid) answer old new = IsGuidWritten guid answer old new
 abbrev pub TellsGuidText : Option Handshake → ℕ → List ℕ → List ℕ → Type 0
 TellsGuidText None answer old new = (answer ≡ NO_HANDSHAKE) × (new ≡ old)
 TellsGuidText (Some h) answer old new = IsGuidTold (guid_in h) answer old new
+
+-- the end that is kept may send so much; or there is none, and nothing is changed
+abbrev pub IsBoundTold : Bounds → Option Handshake → (old new : Option Kept) → ℕ → Type 0
+IsBoundTold b (Some h) old new answer = (new ≡ kept_as (Some (bounded b h))) × (answer ≡ WHOLE)
+IsBoundTold b None old new answer = (new ≡ old) × (answer ≡ NO_HANDSHAKE)
 
 -- whether both ends agreed to pass descriptors, by the end that is kept
 abbrev pub agreed_told : Option Handshake → ℕ

@@ -27,7 +27,7 @@ state_numbered n =
     else at.Closed
 
 abbrev pub watch_in : HandshakeWatch → WatchState
-watch_in w = record { server = state_numbered w.server; unanswered = w.unanswered }
+watch_in w = record { server = state_numbered w.server; unanswered = w.unanswered; asked = w.asked }
 
 -- what becomes of a line, by its number
 abbrev pub passage_number : Result Passage WatchFault → ℕ

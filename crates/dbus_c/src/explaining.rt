@@ -8,6 +8,8 @@ ghost use Rattle.dbus_c.specs.Explaining.{explained_told, part_told, text_told};
 ghost use Rattle.dbus_c.specs.GivenLimits.{limits_of};
 ghost use Rattle.dbus_c.specs.Outcomes.{IsTold};
 ghost use Rattle.dbus_explain.specs.declared.message.Refused.{Refused as RefusedBytes};
+ghost use Rattle.dbus_header.specs.MessageOutcomes.{IsRefused};
+ghost use Rattle.dbus_value_model.specs.declared.fault.Fault.{Fault as FaultOf};
 
 use crate::answers::{NO_VALUE, PARTIAL};
 use crate::checking::{Checked, check_all};
@@ -66,6 +68,8 @@ pub extern "C" fn dbus_wire_explain(
     told: &mut Checked,
 ) -> u32
     ensures checked { IsChecked (limits_of limits.now) bytes.now (checked_answer result) told.new }
+    ensures refused { (fault : FaultOf) → IsRefused (limits_of limits.now) bytes.now fault →
+        IsTold result }
     ensures explained { IsTold result → (refused : RefusedBytes) ×
         IsRefusedAt (limits_of limits.now) bytes.now place.now refused ×
         IsExplainedIn refused out.old out.new explained.new result }

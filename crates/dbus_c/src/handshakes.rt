@@ -2,12 +2,12 @@
 #![tactic(auto)]
 
 ghost use Rattle.std.specs.Prelude.{◌≡◌, None};
-ghost use Rattle.dbus_c.specs.Handshakes.{IsEndMade, TellsGuidText, TellsStep, agreed_told, fault_number, made_told, number_of, step_told};
+ghost use Rattle.dbus_c.specs.Handshakes.{IsBoundTold, IsEndMade, TellsGuidText, TellsStep, agreed_told, fault_number, made_told, number_of, step_told};
 ghost use Rattle.dbus_c_auth.specs.Handshakes.{client_made, server_made};
 ghost use Rattle.dbus_c_handle.specs.Checkers.{handshake_of};
 
 use crate::answers::{NO_HANDSHAKE, NO_MEMORY, NO_ROOM, NO_VALUE, PARTIAL, REFUSED, WHOLE};
-use dbus_auth::Status;
+use dbus_auth::{Bounds, Status};
 use dbus_c_auth::{Mechanisms, Step, TakeFault, write_guid};
 use dbus_c_handle::WireHandle;
 use std::alloc::{AllocError, Global};
@@ -82,6 +82,26 @@ pub extern "C" fn dbus_wire_handshake_take(
             *out = step_told(step);
             number_of(step.status)
         }
+    }
+}
+
+/// Bounds what the end sends from here on: at most this many lines of REJECTED, and this many that
+/// leave it in its state, which are ERROR and AGREE_UNIX_FD. At the line that it would answer by
+/// one more, it fails, takes nothing and sends nothing. [`WHOLE`], or [`NO_HANDSHAKE`] if there is
+/// no end. D-Bus Specification, "Server states".
+#[unsafe(no_mangle)]
+pub extern "C" fn dbus_wire_handshake_bound(
+    handshake: &mut WireHandle,
+    rejections: u32,
+    errors: u32,
+) -> u32
+    ensures { IsBoundTold (record { rejections = rejections; errors = errors })
+        (handshake_of handshake.old.state) handshake.old.state handshake.new.state result }
+{
+    if handshake.set_bounds(Bounds { rejections, errors }) {
+        WHOLE
+    } else {
+        NO_HANDSHAKE
     }
 }
 

@@ -68,8 +68,9 @@ pub use from_json::dbus_wire_from_json;
 pub use given_limits::{ANY_INDEX, INDEX_BELOW_COUNT, WireLimits, dbus_wire_specification_limits};
 pub use handshake_lines::{HandshakeLine, dbus_wire_client_line, dbus_wire_server_line};
 pub use handshakes::{
-    HandshakeStep, dbus_wire_client_new, dbus_wire_handshake_agreed, dbus_wire_handshake_free,
-    dbus_wire_handshake_guid, dbus_wire_handshake_take, dbus_wire_server_new,
+    HandshakeStep, dbus_wire_client_new, dbus_wire_handshake_agreed, dbus_wire_handshake_bound,
+    dbus_wire_handshake_free, dbus_wire_handshake_guid, dbus_wire_handshake_take,
+    dbus_wire_server_new,
 };
 pub use json_lines::{WireLinePlace, dbus_wire_json};
 pub use json_reasons::{

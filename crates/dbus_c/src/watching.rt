@@ -29,8 +29,9 @@ pub struct HandshakeWatch {
     pub unanswered: u32,
     /// 0 until the client's byte 0 came.
     pub started: u32,
-    /// 0.
-    pub reserved: u32,
+    /// Which of these is NEGOTIATE_UNIX_FD, the first one if there are several, counted from 1; 0
+    /// if none is.
+    pub asked: u32,
 }
 
 /// Looks at what the bytes of a client begin with, and writes it: the byte 0 before its first line,
@@ -68,7 +69,7 @@ pub extern "C" fn dbus_wire_watch_client(
 }
 
 /// The same of the bytes of a server, which sends no byte 0. A line that answers none of the client
-/// is refused.
+/// is refused, and one that answers NEGOTIATE_UNIX_FD and is neither AGREE_UNIX_FD nor ERROR.
 #[unsafe(no_mangle)]
 pub extern "C" fn dbus_wire_watch_server(
     watch: &mut HandshakeWatch,
@@ -171,6 +172,7 @@ fn state_in(watch: &HandshakeWatch) -> Watch
     Watch {
         server: state_of(watch.server),
         unanswered: watch.unanswered,
+        asked: watch.asked,
     }
 }
 
@@ -187,6 +189,7 @@ fn keep(watch: &mut HandshakeWatch, state: Watch)
         ServerState::Closed => 4,
     };
     watch.unanswered = state.unanswered;
+    watch.asked = state.asked;
 }
 
 // The server's state that has this number.

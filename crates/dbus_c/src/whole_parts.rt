@@ -40,6 +40,8 @@ pub extern "C" fn dbus_wire_flatten_whole(
     told: &mut Checked,
 ) -> u32
     ensures checked { IsChecked (limits_of limits.now) bytes.now (checked_answer result) told.new }
+    ensures refused { (fault : FaultOf) → IsRefused (limits_of limits.now) bytes.now fault →
+        IsTold result }
     ensures flat { IsTold result → (fault : FaultOf) ×
         IsRefused (limits_of limits.now) bytes.now fault ×
         AreWholeFlat bytes.now fault first items.old items.new count.new }

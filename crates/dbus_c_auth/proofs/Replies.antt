@@ -1,6 +1,6 @@
 -- What an end sends is short, and it stays an end of the same server or of a client of some
 -- mechanisms.
-use Rattle.std.proofs.Common.{◌≡◌, ℕ, ◌^◌, ◌<◌, ◌≤◌, ◌&&◌, ◌||◌, Bool, true, false, List, [], ◌∷◌, ◌++◌, length, Option, Some, None, if◌then◌else◌, refl, sym, ap, ◌∙◌, subst, arith, lit≤, length-append}
+use Rattle.std.proofs.Common.{◌≡◌, ℕ, ◌+◌, ◌^◌, ◌<◌, ◌≤◌, ◌&&◌, ◌||◌, Bool, true, false, List, [], ◌∷◌, ◌++◌, length, Option, Some, None, if◌then◌else◌, refl, sym, ap, ◌∙◌, subst, arith, lit≤, length-append}
 use Rattle.std.specs.Prelude.{codes, bytes_eq, decimal, take, ◌-◌, Result, Ok, Err, IfOk, OnErr}
 use Rattle.std.specs.List.{AllByRecursion}
 use Rattle.std.proofs.lemmas.Fmt.{length-decimal-le}
@@ -13,7 +13,7 @@ use Rattle.dbus_auth_lines.specs.Cut.{Cut, Ends, Bad, More, cut}
 use Rattle.dbus_auth_lines.proofs.PrintedWords.{length-hex_word}
 use Rattle.dbus_auth.specs.Machines.{ServerMachine, ServerStep, IsServer, server_step, server_step_at, by_mechanism, rejects, accepts, replies, is_user, is_empty, offers_external, external_words, ClientMachine, ClientMechanism, External, Anonymous, ClientStep, client_step, client_step_at, auth_line, next_among, IsMechanism}
 use Rattle.dbus_auth.specs.Ends.{EndState, ServerEndState, ClientEndState, EndOutcome, Turn, cuts, takes, server_sends, server_turn, server_takes, client_sends, client_turn, client_greets, client_starts, status_after}
-use Rattle.dbus_auth.proofs.Stages.{takes_by}
+use Rattle.dbus_auth.proofs.Stages.{answers_as, takes_by}
 use Rattle.dbus_c_auth.specs.Handshakes.{client_goes_on, client_goes_on_at}
 use Rattle.dbus_auth.specs.declared.states.ServerState.{ServerState}
 use Rattle.dbus_auth.specs.declared.states.ServerState.TheVariants as at
@@ -95,7 +95,10 @@ pub record Reply {M : Type 0} (P : M → Type 0) (outcome : EndOutcome (EndState
 module _ {M : Type 0} (turn : M → List ℕ → Turn M) (P : M → Type 0) (short : (m : M) (line : List ℕ) → P m → (length (turn m line).send ≤ REPLY_ROOM) × P (turn m line).next)
     (e : EndState M) (is : P e.machine) where
   at_cut : (skipped : ℕ) (bs : List ℕ) (how : Cut) → Reply P (cuts turn e skipped bs how)
-  at_cut skipped bs (Ends size) = let s = short e.machine (take (size - 2) (e.kept ++ bs)) is in record { fits = s.0; machine = s.1 }
+  at_cut skipped bs (Ends size) =
+      let line = take (size - 2) (e.kept ++ bs) in
+      let s = short e.machine line is in
+      answers_as turn (Reply P) e (skipped + (size - length e.kept)) (turn e.machine line) (record { fits = lit≤ tt; machine = is }) (λ left. record { fits = s.0; machine = s.1 })
   at_cut skipped bs (Bad fault) = record { fits = lit≤ tt; machine = is }
   at_cut skipped bs More = record { fits = lit≤ tt; machine = is }
 
@@ -147,7 +150,7 @@ module _ (c : ClientMachine) (h : AllByRecursion IsMechanism c.left) where
   tries_at now.WaitingForOk server.Other = (lit≤ tt, h)
   tries_at now.WaitingForAgree (server.DataOf bytes) = (lit≤ tt, h)
   tries_at now.WaitingForAgree (server.Accepted guid) = (lit≤ tt, h)
-  tries_at now.WaitingForAgree (server.Rejected words) = tries_next c.descriptors c.left h
+  tries_at now.WaitingForAgree (server.Rejected words) = (lit≤ tt, h)
   tries_at now.WaitingForAgree (server.Error text) = (lit≤ tt, h)
   tries_at now.WaitingForAgree server.Agree = (lit≤ tt, h)
   tries_at now.WaitingForAgree server.Other = (lit≤ tt, h)

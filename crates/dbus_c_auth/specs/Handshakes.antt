@@ -4,6 +4,8 @@ use Rattle.std.specs.Prelude.{ℕ, List, Option, Some, None, Result, Ok, Err, �
 use Rattle.hex.specs.Hex.{decode_sized}
 use Rattle.hex.specs.declared.error.FromHexError.{FromHexError}
 use Rattle.dbus_auth.specs.Ends.{ClientEndState, EndOutcome, client_starts, client_takes, ServerEndState, server_takes}
+use Rattle.dbus_auth.specs.Bounded.{within}
+use Rattle.dbus_auth.specs.declared.bounds.Bounds.{Bounds}
 use Rattle.dbus_auth.specs.declared.end_step.Status.{Status}
 use Rattle.dbus_auth.specs.World.{server_at_first, client_at_first}
 use Rattle.dbus_auth.specs.Machines.{unaccepted}
@@ -92,6 +94,11 @@ asked o = record { after = end.Client o.after; taken = o.taken; send = o.send }
 abbrev pub takes : Handshake → List ℕ → EndOutcome Handshake
 takes (end.Server e) piece = served (server_takes e piece)
 takes (end.Client e) piece = asked (client_goes_on e piece)
+
+-- an end that may send so much from here on
+abbrev pub bounded : Bounds → Handshake → Handshake
+bounded b (end.Server e) = end.Server (within b e)
+bounded b (end.Client e) = end.Client (within b e)
 
 abbrev pub stands_as : Handshake → Status
 stands_as (end.Server e) = e.status

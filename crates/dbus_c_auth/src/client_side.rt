@@ -2,6 +2,7 @@
 #![tactic(auto)]
 
 ghost use Rattle.std.specs.Prelude.{◌≡◌, ◌<◌, ◌≤◌, ℕ, IfOk, IfErr, OnErr, length, option_map, if◌then◌else◌};
+ghost use Rattle.dbus_auth.specs.Bounded.{within};
 ghost use Rattle.dbus_auth.specs.EndStepViews.{DidStep};
 ghost use Rattle.dbus_auth.specs.Machines.{is_empty};
 ghost use Rattle.dbus_auth.specs.declared.end_step.Status.TheVariants as status;
@@ -10,7 +11,7 @@ ghost use Rattle.dbus_c_auth.specs.Handshakes.{client_of, Did, IsFault, client_g
 
 use crate::mechanisms::Mechanisms;
 use crate::step::{REPLY_ROOM, Step, TakeFault, step_in};
-use dbus_auth::{Client, ClientEnd, EndStep, Guid, Status};
+use dbus_auth::{Bounds, Client, ClientEnd, EndStep, Guid, Status};
 use std::alloc::{AllocError, Global};
 use std::marker::Model;
 
@@ -28,13 +29,14 @@ impl Model for ClientSide {
     ghost use Rattle.dbus_auth.specs.EndViews.{client_end_state};
     ghost use Rattle.dbus_auth.specs.Ends.{ClientEndState};
     ghost use Rattle.dbus_auth.specs.Machines.{IsMechanism};
+    ghost use Rattle.dbus_auth.specs.contracts.bounds.Bounds as bounds;
     ghost use Rattle.dbus_auth.specs.contracts.states.ClientState as state;
     ghost use Rattle.dbus_auth.specs.contracts.end_step.Status as status;
     ghost use Rattle.dbus_c_auth.specs.Mechanisms.{coded_mechanism};
 
     ghost Value = { ClientEndState };
 
-    ghost coded = { Prim.hlevel (codes, coded_mechanism, state.the_row.coded, status.the_row.coded) };
+    ghost coded = { Prim.hlevel (codes, coded_mechanism, bounds.the_row.coded, state.the_row.coded, status.the_row.coded) };
 
     ghost view = { λ c. client_end_state c.end };
 
@@ -86,6 +88,13 @@ impl ClientSide {
         }
         let step = self.go_on(piece)?;
         Ok(step_in(&step, reply))
+    }
+
+    /// Bounds what the end sends from here on, as [`ClientEnd::set_bounds`] does.
+    pub fn set_bounds(&mut self, bounds: Bounds)
+        ensures { self.new ≡ within bounds self.old }
+    {
+        self.end.set_bounds(bounds);
     }
 
     /// The GUID of the server, once it has accepted the client.

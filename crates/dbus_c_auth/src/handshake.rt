@@ -2,12 +2,12 @@
 #![tactic(auto)]
 
 ghost use Rattle.std.specs.Prelude.{◌≡◌, option_map};
-ghost use Rattle.dbus_c_auth.specs.Handshakes.{TakesIn, agreed_in, guid_in};
+ghost use Rattle.dbus_c_auth.specs.Handshakes.{TakesIn, agreed_in, bounded, guid_in};
 
 use crate::client_side::ClientSide;
 use crate::server_side::ServerSide;
 use crate::step::{Step, TakeFault};
-use dbus_auth::Guid;
+use dbus_auth::{Bounds, Guid};
 
 /// An end of a handshake.
 #[derive(Drop)]
@@ -30,6 +30,17 @@ impl Handshake {
         match self {
             Handshake::Server(server) => server.take(piece, reply),
             Handshake::Client(client) => client.take(piece, reply),
+        }
+    }
+
+    /// Bounds what the end sends from here on, as [`ServerSide::set_bounds`] and
+    /// [`ClientSide::set_bounds`] do.
+    pub fn set_bounds(&mut self, bounds: Bounds)
+        ensures { self.new ≡ bounded bounds self.old }
+    {
+        match self {
+            Handshake::Server(server) => server.set_bounds(bounds),
+            Handshake::Client(client) => client.set_bounds(bounds),
         }
     }
 

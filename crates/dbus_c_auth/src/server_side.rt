@@ -2,12 +2,13 @@
 #![tactic(auto)]
 
 ghost use Rattle.std.specs.Prelude.{◌≡◌, ◌<◌, ◌≤◌, ℕ, IfOk, IfErr, OnErr, length};
+ghost use Rattle.dbus_auth.specs.Bounded.{within};
 ghost use Rattle.dbus_auth.specs.Ends.{server_takes};
 ghost use Rattle.dbus_c_auth.specs.Handshakes.{server_of, Did, IsFault};
 
 use crate::mechanisms::Mechanisms;
 use crate::step::{REPLY_ROOM, Step, TakeFault, step_in};
-use dbus_auth::{Guid, Server, ServerEnd};
+use dbus_auth::{Bounds, Guid, Server, ServerEnd};
 use std::alloc::Global;
 use std::marker::Model;
 
@@ -22,12 +23,13 @@ impl Model for ServerSide {
     ghost use Rattle.dbus_auth.specs.Ends.{ServerEndState};
     ghost use Rattle.dbus_auth.specs.Machines.{IsServer};
     ghost use Rattle.dbus_auth.specs.EndViews.{server_end_state};
+    ghost use Rattle.dbus_auth.specs.contracts.bounds.Bounds as bounds;
     ghost use Rattle.dbus_auth.specs.contracts.states.ServerState as state;
     ghost use Rattle.dbus_auth.specs.contracts.end_step.Status as status;
 
     ghost Value = { ServerEndState };
 
-    ghost coded = { Prim.hlevel (codes, state.the_row.coded, status.the_row.coded) };
+    ghost coded = { Prim.hlevel (codes, bounds.the_row.coded, state.the_row.coded, status.the_row.coded) };
 
     ghost view = { λ s. server_end_state s.end };
 
@@ -47,6 +49,13 @@ impl ServerSide {
         ServerSide {
             end: ServerEnd::new(alloc, server),
         }
+    }
+
+    /// Bounds what the end sends from here on, as [`ServerEnd::set_bounds`] does.
+    pub fn set_bounds(&mut self, bounds: Bounds)
+        ensures { self.new ≡ within bounds self.old }
+    {
+        self.end.set_bounds(bounds);
     }
 
     /// Whether both ends agreed to pass descriptors, as [`ServerEnd::agreed`] says.

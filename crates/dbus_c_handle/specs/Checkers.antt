@@ -5,7 +5,8 @@ use Rattle.dbus_value_model.specs.declared.limits.Limits.{Limits}
 use Rattle.dbus_check.specs.Checks.{CheckerState, Stands, Takes, IsExact, taken, limits_of}
 use Rattle.dbus_check.specs.declared.check.Check.{Check}
 use Rattle.dbus_auth_lines.specs.declared.lines.Guid.{Guid}
-use Rattle.dbus_c_auth.specs.Handshakes.{TakesIn, guid_in}
+use Rattle.dbus_auth.specs.declared.bounds.Bounds.{Bounds}
+use Rattle.dbus_c_auth.specs.Handshakes.{TakesIn, bounded, guid_in}
 use Rattle.dbus_c_auth.specs.declared.handshake.Handshake.{Handshake}
 use Rattle.dbus_c_auth.specs.declared.step.Step.{Step}
 use Rattle.dbus_c_auth.specs.declared.step.TakeFault.{TakeFault}
@@ -70,6 +71,11 @@ GoesOn h (Some k) piece old_room new_room (Some result) = TakesIn h k piece old_
 abbrev pub Goes : Option Handshake → (old new : Option Kept) → List ℕ → List ℕ → List ℕ → Option (Result Step TakeFault) → Type 0
 Goes (Some h) old new piece old_room new_room answer = GoesOn h (handshake_of new) piece old_room new_room answer
 Goes None old new piece old_room new_room answer = (new ≡ old) × (new_room ≡ old_room) × (answer ≡ None)
+
+-- a handle's end is bounded; or it keeps none, and stays as it is
+abbrev pub IsBounded : Bounds → Option Handshake → (old new : Option Kept) → Bool → Type 0
+IsBounded b (Some h) old new answer = (new ≡ Some (kept.Handshake (bounded b h))) × (answer ≡ true)
+IsBounded b None old new answer = (new ≡ old) × (answer ≡ false)
 
 -- the server's GUID, of a client that has begun; of no end nothing is answered
 abbrev pub TellsGuid : Option Handshake → Option (Option Guid) → Type 0

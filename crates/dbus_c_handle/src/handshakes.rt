@@ -3,14 +3,14 @@
 
 use crate::handle::WireHandle;
 use crate::kept::Kept;
-use dbus_auth::Guid;
+use dbus_auth::{Bounds, Guid};
 use dbus_c_auth::{ClientSide, Handshake, Mechanisms, ServerSide, Step, TakeFault, guid_of};
 use std::alloc::{AllocError, Global};
 
 impl WireHandle {
     ghost use Rattle.std.specs.Prelude.{◌≡◌, None, MatchResult, is_some, option_map};
     ghost use Rattle.dbus_c_auth.specs.Handshakes.{agreed_in, client_made, server_made};
-    ghost use Rattle.dbus_c_handle.specs.Checkers.{Goes, TellsGuid, handshake_of, kept_as};
+    ghost use Rattle.dbus_c_handle.specs.Checkers.{Goes, IsBounded, TellsGuid, handshake_of, kept_as};
 
     /// Keeps the end of a new server, of the GUID that the text spells, which offers these
     /// mechanisms. Whether the text spells one; if not, the handle keeps nothing. An error if
@@ -73,6 +73,23 @@ impl WireHandle {
         match self.kept()? {
             Kept::Handshake(handshake) => Some(handshake.take(piece, reply)),
             _ => None,
+        }
+    }
+
+    /// Bounds what the end sends from here on, as [`Handshake::set_bounds`] does. Whether the
+    /// handle keeps an end; if not, it stays as it is.
+    pub fn set_bounds(&mut self, bounds: Bounds) -> bool
+        ensures { IsBounded bounds (handshake_of self.old.state) self.old.state self.new.state result }
+    {
+        let Some(kept) = self.kept() else {
+            return false;
+        };
+        match kept {
+            Kept::Handshake(handshake) => {
+                handshake.set_bounds(bounds);
+                true
+            }
+            _ => false,
         }
     }
 

@@ -1,17 +1,20 @@
 -- What a capture takes of its file in several turns.
-use Rattle.std.proofs.Common.{◌≡◌, ◌≢◌, ◌≤◌, ◌<◌, ◌+◌, ◌^◌, ◌-◌, ℕ, zero, suc, true, false, List, [], ◌∷◌, ◌++◌, length, take, drop, Option, None, Some, Result, Ok, Err, MatchResult, is_some, inl, inr, refl, sym, ap, ◌∙◌, subst, arith, append_assoc, append-nil, length-append, take-append-drop}
+use Rattle.std.proofs.Common.{⊎_elim, ◌≡◌, ◌≢◌, ◌≤◌, ◌<◌, ◌+◌, ◌^◌, ◌-◌, ℕ, zero, suc, true, false, List, [], ◌∷◌, ◌++◌, length, take, drop, Option, None, Some, Result, Ok, Err, IfOk, MatchResult, is_some, inl, inr, refl, sym, ap, ◌∙◌, subst, arith, append_assoc, append-nil, length-append, take-append-drop}
 use Rattle.std.specs.Io.KnownBytes.{Consumes, Keeps, IsAtEnd, ReadConsumes, prepend_known}
 use Rattle.std.proofs.KnownBytes.{Consumes-nil, Consumes-trans}
 use Rattle.std.specs.List.{slice_range}
 use Rattle.std.proofs.lemmas.List.{drop-take, drop-drop, length-take, length-take-le}
 use Rattle.std.proofs.Math.Nat.{min-le_left}
+use Rattle.std.specs.List.{All}
+use Rattle.std.proofs.lemmas.List.Elements.{All-cons, All-nil}
 use Rattle.dbus_device.specs.Device.{one_more, ReadCounts}
+use Rattle.dbus_device.specs.Calls.{joined, HasByte, ReadsPiece, ReadsPieces}
 use Rattle.dbus_device.specs.declared.device_fault.DeviceFault.{DeviceFault}
 use Rattle.dbus_device.specs.declared.packet.Packet.{Packet}
 use Rattle.dbus_capture.specs.declared.scan.Scan.{Scan}
 use Rattle.dbus_capture.specs.declared.capture.Capture.{Capture}
 use Rattle.dbus_capture.specs.Steps.{Turn, turn_of, may_end, run, told, given, ended, IsPart}
-use Rattle.dbus_capture.specs.Captures.{given_of, source_of, scan_of, kept_of, file_of, left_of, gave_up_of, calls_of, last_packet_of, failures_of, HandsOn, Reads, GivesPart, Ends, IsUnfailed, GivesUp, ReadsPart, Waits}
+use Rattle.dbus_capture.specs.Captures.{given_of, source_of, scan_of, kept_of, file_of, left_of, gave_up_of, calls_of, last_packet_of, failures_of, Fills, HandsOn, Reads, GivesPart, Ends, IsUnfailed, GivesUp, ReadsPart, AreNeeded, Asks}
 use Rattle.dbus_capture.specs.Stages.{is_raw}
 use Rattle.dbus_capture.proofs.Choices.{when_true}
 use Rattle.dbus_capture.proofs.StepLaws.{run-append, given-append, run_stopped, run_raw, none_of, turn_passes}
@@ -170,7 +173,7 @@ module _ {R : Type 0} (left : R → Option (List ℕ)) (failures : R → ℕ) wh
   pub part_counted : (old new : Capture R) (n : ℕ) (p : old.start ≤ old.end) (q : old.end ≤ 65536) (r : Result ℕ DeviceFault) (buffer : List ℕ)
       → ReadsPart left failures (record old { calls = n; in_order = p; in_room = q }) new r buffer → ReadsPart left failures old new r buffer
   unfolding recounted
-  part_counted old new n p q (Err e) buffer (inl f) = inl (record { reads = recounted old new n p q [] f.reads; source = f.source; gave_up = f.gave_up })
+  part_counted old new n p q (Err e) buffer (inl f) = inl (record { reads = recounted old new n p q [] f.reads; source = f.source; gave_up = f.gave_up; nothing = f.nothing })
   part_counted old new n p q (Err e) buffer (inr f) = inr (record { reads = recounted old new n p q [] f.reads; many = f.many; source = f.source; gave_up = f.gave_up })
   part_counted old new n p q (Ok k) buffer (u, inl w) = (
     record { source = u.source; gave_up = u.gave_up },
@@ -190,7 +193,7 @@ module _ {R : Type 0} (left : R → Option (List ℕ)) (failures : R → ℕ) wh
   pub part_repacked : (old new : Capture R) (packet : Option Packet) (p : new.start ≤ new.end) (q : new.end ≤ 65536) (r : Result ℕ DeviceFault) (buffer : List ℕ)
       → ReadsPart left failures old new r buffer → ReadsPart left failures old (record new { packet = packet; in_order = p; in_room = q }) r buffer
   unfolding repacked
-  part_repacked old new packet p q (Err e) buffer (inl f) = inl (record { reads = repacked old new packet p q [] f.reads; source = f.source; gave_up = f.gave_up })
+  part_repacked old new packet p q (Err e) buffer (inl f) = inl (record { reads = repacked old new packet p q [] f.reads; source = f.source; gave_up = f.gave_up; nothing = f.nothing })
   part_repacked old new packet p q (Err e) buffer (inr f) = inr (record { reads = repacked old new packet p q [] f.reads; many = f.many; source = f.source; gave_up = f.gave_up })
   part_repacked old new packet p q (Ok k) buffer (u, inl w) = (
     record { source = u.source; gave_up = u.gave_up },
@@ -210,65 +213,47 @@ pub record Passes {R : Type 0} (left : R → Option (List ℕ)) (failures : R �
   pub unfailed : IsUnfailed failures old new
   pub calls : calls_of new ≡ calls_of old
   pub packet : last_packet_of new ≡ last_packet_of old
-  pub waits : given (scan_of old) (kept_of old) ≢ [] → (source_of new ≡ source_of old) × (given (scan_of new) (kept_of new) ≢ [])
+
+-- the calls of the source below were needed, and each gave a byte; these of all bytes were taken
+pub record Asked {R : Type 0} (left : R → Option (List ℕ)) (asked : R → ℕ) (old new : Capture R) (used : List ℕ) : Type 0 where
+  pub pieces : List (List ℕ)
+  pub called : ReadsPieces left asked (source_of old) pieces (source_of new)
+  pub needed : AreNeeded (scan_of old) (kept_of old) pieces
+  pub found : All HasByte pieces
+  pub split : kept_of old ++ joined pieces ≡ used ++ kept_of new
+
+-- both
+pub record Goes {R : Type 0} (left : R → Option (List ℕ)) (asked failures : R → ℕ) (turns : ℕ) (old new : Capture R) : Type 0 where
+  pub passes : Passes left failures turns old new
+  pub asked_for : Asked left asked old new passes.reads.used
 
 module _ {R : Type 0} (left : R → Option (List ℕ)) (failures : R → ℕ) where
-  pub passes_nothing : (s : Capture R) → Passes left failures 0 s s
-  passes_nothing s = record {
-    reads = reads_nothing left s;
-    many = omega arith;
-    unfailed = record { source = refl; gave_up = refl };
-    calls = refl;
-    packet = refl;
-    waits = λ some. (refl, some);
-  }
-
-  some_kept : (s : Capture R) → given (scan_of s) (kept_of s) ≢ [] → kept_of s ≢ []
-  unfolding given told
-  some_kept s some e = some (ap (given (scan_of s)) e)
-
   pub passes_filled : (turns : ℕ) (old mid new : Capture R) → Passes left failures turns old mid → Consumes (file_of left mid) (file_of left new) [] → scan_of new ≡ scan_of mid
-      → failures (source_of new) ≡ failures (source_of mid) → gave_up_of new ≡ gave_up_of mid → calls_of new ≡ calls_of mid → last_packet_of new ≡ last_packet_of mid → (kept_of mid ≢ [] → new ≡ mid)
+      → failures (source_of new) ≡ failures (source_of mid) → gave_up_of new ≡ gave_up_of mid → calls_of new ≡ calls_of mid → last_packet_of new ≡ last_packet_of mid
       → Passes left failures turns old new
   unfolding reads_filled
-  passes_filled turns old mid new p c same source gave_up calls packet keeps = record {
+  passes_filled turns old mid new p c same source gave_up calls packet = record {
     reads = reads_filled left old mid new [] p.reads c same;
     many = p.many;
     unfailed = record { source = source ∙ p.unfailed.source; gave_up = gave_up ∙ p.unfailed.gave_up };
     calls = calls ∙ p.calls;
     packet = packet ∙ p.packet;
-    waits = λ some.
-        let w = p.waits some in
-        subst (λ (s : Capture R). (source_of s ≡ source_of old) × (given (scan_of s) (kept_of s) ≢ [])) (sym (keeps (some_kept mid w.1))) w;
   }
 
-  pub passes_more : (turns : ℕ) (old mid new : Capture R) (n : ℕ) → Passes left failures turns old mid → HandsOn mid new n [] → length (kept_of new) < length (kept_of mid)
+  passes_more : (turns : ℕ) (old mid new : Capture R) (n : ℕ) → Passes left failures turns old mid → HandsOn mid new n [] → length (kept_of new) < length (kept_of mid)
       → source_of new ≡ source_of mid → gave_up_of new ≡ gave_up_of mid → calls_of new ≡ calls_of mid → last_packet_of new ≡ last_packet_of mid → Passes left failures (turns + 1) old new
   unfolding reads_more
   passes_more turns old mid new n p h fewer source gave_up calls packet =
       let split = ap length h.front ∙ length-append h.used (kept_of new) in
       let joined = length-append p.reads.used h.used in
       let many = p.many in
-      let rest : given (scan_of mid) (kept_of mid) ≡ given (scan_of new) (kept_of new) =
-      ap (given (scan_of mid)) h.front ∙ given-append (scan_of mid) h.used (kept_of new)
-      ∙ ap (λ (l : List ℕ). l ++ given (run (scan_of mid) h.used) (kept_of new)) h.gave ∙ ap (λ (s : Scan). given s (kept_of new)) (sym h.ran) in
       record {
         reads = reads_more left old mid new n [] p.reads h source;
         many = omega (arith, split, joined, many, fewer);
         unfailed = record { source = ap failures source ∙ p.unfailed.source; gave_up = gave_up ∙ p.unfailed.gave_up };
         calls = calls ∙ p.calls;
         packet = packet ∙ p.packet;
-        waits = λ some.
-            let w = p.waits some in
-            (source ∙ w.0, λ e. w.1 (rest ∙ e));
       }
-
-  -- nothing was kept that holds a byte of a packet, if nothing is kept at last
-  pub none_kept : (turns : ℕ) (old mid new : Capture R) → Passes left failures turns old mid → (kept_of mid ≢ [] → new ≡ mid) → kept_of new ≡ [] → Waits old new
-  none_kept turns old mid new p keeps none some =
-      let w = p.waits some in
-      let there = some_kept mid w.1 in
-      absurd (there (subst (λ (s : Capture R). kept_of s ≡ []) (keeps there) none))
 
   pub part_end : (turns : ℕ) (old mid new : Capture R) (buffer : List ℕ) → Passes left failures turns old mid → source_of new ≡ source_of mid → kept_of new ≡ kept_of mid → gave_up_of new ≡ gave_up_of mid
       → scan_of new ≡ ended (scan_of mid) → (kept_of mid ≡ []) × IsAtEnd (left (source_of mid)) → ReadsPart left failures old new (Ok 0) buffer
@@ -287,7 +272,100 @@ module _ {R : Type 0} (left : R → Option (List ℕ)) (failures : R → ℕ) wh
     gave_up = gave_up ∙ ap one_more p.unfailed.gave_up;
   }
 
+some_there : (l : List ℕ) → l ≢ [] → HasByte l
+some_there [] some = absurd (some refl)
+some_there (x ∷ l) some = omega arith
+
+module _ {R : Type 0} (left : R → Option (List ℕ)) (asked failures : R → ℕ) where
+  pub goes_nowhere : (s : Capture R) → Goes left asked failures 0 s s
+  unfolding reads_nothing
+  goes_nowhere s = record {
+    passes = record { reads = reads_nothing left s; many = omega arith; unfailed = record { source = refl; gave_up = refl }; calls = refl; packet = refl };
+    asked_for = record { pieces = []; called = refl; needed = tt; found = All-nil HasByte; split = append-nil (kept_of s) };
+  }
+
+  -- what was asked holds no byte of a packet, if nothing of it is kept
+  asked_none : (turns : ℕ) (old mid : Capture R) (g : Goes left asked failures turns old mid) → kept_of mid ≡ [] → given (scan_of old) (kept_of old ++ joined g.asked_for.pieces) ≡ []
+  asked_none turns old mid g none =
+      ap (given (scan_of old)) (g.asked_for.split ∙ ap (λ l. g.passes.reads.used ++ l) none ∙ append-nil g.passes.reads.used) ∙ g.passes.reads.gave
+
+  pub goes_filled : (turns : ℕ) (old mid new : Capture R) → Goes left asked failures turns old mid → Consumes (file_of left mid) (file_of left new) [] → scan_of new ≡ scan_of mid
+      → failures (source_of new) ≡ failures (source_of mid) → gave_up_of new ≡ gave_up_of mid → calls_of new ≡ calls_of mid → last_packet_of new ≡ last_packet_of mid
+      → Fills left asked mid new → kept_of new ≢ [] → Goes left asked failures turns old new
+  unfolding passes_filled reads_filled
+  goes_filled turns old mid new g c same source gave_up calls packet (inl f) some = subst (Goes left asked failures turns old) (sym f.1) g
+  goes_filled turns old mid new g c same source gave_up calls packet (inr f) some =
+      let a = g.asked_for in
+      let used = g.passes.reads.used in
+      record {
+        passes = passes_filled left failures turns old mid new g.passes c same source gave_up calls packet;
+        asked_for = record {
+          pieces = kept_of new ∷ a.pieces;
+          called = (source_of mid, a.called, f.1);
+          needed = (asked_none turns old mid g f.0, a.found);
+          found = All-cons HasByte (kept_of new) a.pieces (some_there (kept_of new) some) a.found;
+          split = sym (append_assoc (kept_of old) (joined a.pieces) (kept_of new)) ∙ ap (λ l. l ++ kept_of new) (a.split ∙ ap (λ l. used ++ l) f.0 ∙ append-nil used);
+        };
+      }
+
+  pub goes_more : (turns : ℕ) (old mid new : Capture R) (n : ℕ) → Goes left asked failures turns old mid → HandsOn mid new n [] → length (kept_of new) < length (kept_of mid)
+      → source_of new ≡ source_of mid → gave_up_of new ≡ gave_up_of mid → calls_of new ≡ calls_of mid → last_packet_of new ≡ last_packet_of mid → Goes left asked failures (turns + 1) old new
+  unfolding passes_more reads_more
+  goes_more turns old mid new n g h fewer source gave_up calls packet =
+      let a = g.asked_for in
+      let used = g.passes.reads.used in
+      record {
+        passes = passes_more left failures turns old mid new n g.passes h fewer source gave_up calls packet;
+        asked_for = record {
+          pieces = a.pieces;
+          called = subst (ReadsPieces left asked (source_of old) a.pieces) (sym source) a.called;
+          needed = a.needed;
+          found = a.found;
+          split = a.split ∙ ap (λ l. used ++ l) h.front ∙ sym (append_assoc used h.used (kept_of new));
+        };
+      }
+
+  -- ---- what was asked
+
+  pub asks_nothing : (s : Capture R) (r : Result ℕ DeviceFault) → Asks left asked s s r
+  asks_nothing s r = record { pieces = []; called = refl; needed = tt; found = inl (All-nil HasByte) }
+
+  pub asks_all : (turns : ℕ) (old mid new : Capture R) (r : Result ℕ DeviceFault) → Goes left asked failures turns old mid → source_of new ≡ source_of mid → Asks left asked old new r
+  asks_all turns old mid new r g same = record {
+    pieces = g.asked_for.pieces;
+    called = subst (ReadsPieces left asked (source_of old) g.asked_for.pieces) (sym same) g.asked_for.called;
+    needed = g.asked_for.needed;
+    found = inl g.asked_for.found;
+  }
+
+  -- a call gave none
+  pub asks_last : (turns : ℕ) (old mid filled new : Capture R) (r : Result ℕ DeviceFault) → Goes left asked failures turns old mid → Fills left asked mid filled → kept_of filled ≡ [] → source_of new ≡ source_of filled
+      → IfOk r (λ n. (n ≡ 0) × Ends left old new) → Asks left asked old new r
+  asks_last turns old mid filled new r g (inl f) none same ends = absurd (f.0 (sym (ap kept_of f.1) ∙ none))
+  asks_last turns old mid filled new r g (inr f) none same ends = record {
+    pieces = kept_of filled ∷ g.asked_for.pieces;
+    called = (source_of mid, g.asked_for.called, subst (ReadsPiece left asked (source_of mid) (kept_of filled)) (sym same) f.1);
+    needed = (asked_none turns old mid g f.0, g.asked_for.found);
+    found = inr ends;
+  }
+
+  -- how often it was called does not matter, nor which packet what it handed on was of
+  pub asks_counted : (old new : Capture R) (n : ℕ) (p : old.start ≤ old.end) (q : old.end ≤ 65536) (packet : Option Packet) (u : new.start ≤ new.end) (v : new.end ≤ 65536) (r : Result ℕ DeviceFault)
+      → Asks left asked (record old { calls = n; in_order = p; in_room = q }) new r → Asks left asked old (record new { packet = packet; in_order = u; in_room = v }) r
+  asks_counted old new n p q packet u v (Err e) a = record { pieces = a.pieces; called = a.called; needed = a.needed; found = ⊎_elim inl (λ w. inr tt) a.found }
+  asks_counted old new n p q packet u v (Ok k) a = record {
+    pieces = a.pieces;
+    called = a.called;
+    needed = a.needed;
+    found = ⊎_elim inl (λ w. inr (w.0, record { used = w.1.used; consumed = w.1.consumed; gave = w.1.gave; ran = w.1.ran; nothing = w.1.nothing; at_end = w.1.at_end })) a.found;
+  }
+
 -- ---- a stream with no file around it
+
+-- of nothing that is kept nothing is given
+none_given : {R : Type 0} (s : Capture R) → kept_of s ≡ [] → given (scan_of s) (kept_of s ++ []) ≡ []
+unfolding given told
+none_given s none = ap (λ l. given (scan_of s) (l ++ [])) none
 
 consumed_below : (a b : Option (List ℕ)) (k l used : List ℕ) → k ≡ [] → l ≡ [] → Consumes a b used → Consumes (prepend_known k a) (prepend_known l b) used
 consumed_below None b k l used p q c = tt
@@ -356,7 +434,7 @@ module _ {R : Type 0} (left : R → Option (List ℕ)) (failures : R → ℕ) wh
       → ReadConsumes (left (source_of old)) (left (source_of new)) r buffer → ReadCounts (failures (source_of old)) (failures (source_of new)) r
       → ReadsPart left failures old new r buffer
   raw_part old new (Err e) buffer p b c f =
-      inl (record { reads = raw_reads old new [] p (consumes_kept (left (source_of old)) (left (source_of new)) c); source = f; gave_up = p.gave_up })
+      inl (record { reads = raw_reads old new [] p (consumes_kept (left (source_of old)) (left (source_of new)) c); source = f; gave_up = p.gave_up; nothing = p.empty })
   raw_part old new (Ok (suc n)) buffer p b c f =
       (record { source = f; gave_up = p.gave_up }, inl (raw_gives old new (suc n) buffer b p c.0, λ zero room. absurd (omega (arith, zero))))
   raw_part old new (Ok zero) [] p b c f =
@@ -364,7 +442,24 @@ module _ {R : Type 0} (left : R → Option (List ℕ)) (failures : R → ℕ) wh
   raw_part old new (Ok zero) (x ∷ xs) p b c f =
       (record { source = f; gave_up = p.gave_up }, inr (refl, raw_ends old new p c.0 (c.1 refl (omega arith))))
 
--- of nothing that is kept nothing is given
-pub none_given : {R : Type 0} (s : Capture R) → kept_of s ≡ [] → given (scan_of s) (kept_of s) ≡ []
-unfolding given told
-none_given s none = ap (given (scan_of s)) none
+  -- and it is asked once
+  pub raw_asks : (asked : R → ℕ) (old new : Capture R) (r : Result ℕ DeviceFault) (buffer : List ℕ) → PassesOn old new → 0 < length buffer → MatchResult r (λ n. n ≤ length buffer) (λ e. Unit {0})
+      → ReadConsumes (left (source_of old)) (left (source_of new)) r buffer → asked (source_of new) ≡ one_more (asked (source_of old)) → Asks left asked old new r
+  raw_asks asked old new (Err e) buffer p room b c counted = record {
+    pieces = [] ∷ [];
+    called = (source_of old, refl, record { gave = consumes_kept (left (source_of old)) (left (source_of new)) c; counted = counted });
+    needed = (none_given old p.none, All-nil HasByte);
+    found = inr tt;
+  }
+  raw_asks asked old new (Ok (suc n)) buffer p room b c counted = record {
+    pieces = take (suc n) buffer ∷ [];
+    called = (source_of old, refl, record { gave = c.0; counted = counted });
+    needed = (none_given old p.none, All-nil HasByte);
+    found = inl (All-cons HasByte (take (suc n) buffer) [] (let size = length-take-le (suc n) buffer b in omega (arith, size)) (All-nil HasByte));
+  }
+  raw_asks asked old new (Ok zero) buffer p room b c counted = record {
+    pieces = [] ∷ [];
+    called = (source_of old, refl, record { gave = c.0; counted = counted });
+    needed = (none_given old p.none, All-nil HasByte);
+    found = inr (refl, raw_ends old new p c.0 (c.1 refl room));
+  }

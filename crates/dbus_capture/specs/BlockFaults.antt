@@ -1,7 +1,7 @@
 -- Why bytes are no pcapng file, and at which place: in the first block of a section, or in another
 -- block. "PCAP Now Generic (pcapng) Capture File Format", "General File Structure" and "Block
 -- Definition".
-use Rattle.std.specs.Prelude.{◌≡◌, ◌≢◌, ℕ, ◌+◌, ◌-◌, ◌<◌, ◌≤◌, ◌%◌, ◌⊎◌, ◌==◌, nat_lt, Bool, true, false, if◌then◌else◌, List, [], ◌∷◌, ◌++◌, length, Option, Some, None, take, drop, slice_get}
+use Rattle.std.specs.Prelude.{◌≡◌, ◌≢◌, ℕ, ◌+◌, ◌-◌, ◌<◌, ◌≤◌, ◌%◌, ◌⊎◌, ◌==◌, nat_lt, Bool, false, if◌then◌else◌, List, [], ◌∷◌, ◌++◌, length, Option, Some, None, take, drop, slice_get}
 use Rattle.dbus_capture.specs.declared.byte_order.ByteOrder.{ByteOrder}
 use Rattle.dbus_capture.specs.declared.byte_order.ByteOrder.TheVariants.{Little}
 use Rattle.dbus_capture.specs.declared.fault.CaptureFault.{CaptureFault}

@@ -1,7 +1,9 @@
 -- What a capture reads of its file, and what it hands on.
-use Rattle.std.specs.Prelude.{◌≡◌, ◌≢◌, ℕ, ◌+◌, ◌<◌, ◌≤◌, ◌^◌, ◌%◌, ◌⊎◌, ◌++◌, Bool, true, false, List, [], take, length, slice_range, Option, Some, None, is_some, Result, Ok, Err}
+use Rattle.std.specs.Prelude.{◌≡◌, ◌≢◌, ℕ, ◌+◌, ◌<◌, ◌≤◌, ◌^◌, ◌%◌, ◌⊎◌, ◌++◌, Bool, true, false, List, [], ◌∷◌, take, length, slice_range, Option, Some, None, is_some, Result, Ok, Err, IfOk}
 use Rattle.std.specs.Io.KnownBytes.{Consumes, IsAtEnd, prepend_known}
+use Rattle.std.specs.List.{All}
 use Rattle.dbus_device.specs.Device.{one_more}
+use Rattle.dbus_device.specs.Calls.{joined, HasByte, ReadsPiece, ReadsPieces}
 use Rattle.dbus_device.specs.declared.device_fault.DeviceFault.{DeviceFault}
 use Rattle.dbus_device.specs.declared.packet.Packet.{Packet}
 use Rattle.dbus_device.specs.Packets.{Packets}
@@ -64,6 +66,11 @@ HasBytes left new (Ok true) = kept_of new ≢ []
 HasBytes left new (Ok false) = (kept_of new ≡ []) × IsAtEnd (left (source_of new))
 HasBytes left new (Err e) = kept_of new ≡ []
 
+-- bytes are kept, and the source below is not called; or none are, and a call of it gave what is
+-- kept then
+abbrev pub Fills : {R : Type 0} → (R → Option (List ℕ)) → (R → ℕ) → Capture R → Capture R → Type 0
+Fills left calls old new = ((kept_of old ≢ []) × (new ≡ old)) ⊎ ((kept_of old ≡ []) × ReadsPiece left calls (source_of old) (kept_of new) (source_of new))
+
 -- bytes that were kept were taken, and these n of them are a packet's
 pub record HandsOn {R : Type 0} (old new : Capture R) (n : ℕ) (out : List ℕ) : Type 0 where
   pub used : List ℕ
@@ -98,11 +105,12 @@ pub record IsUnfailed {R : Type 0} (failures : R → ℕ) (old new : Capture R) 
   pub source : failures (source_of new) ≡ failures (source_of old)
   pub gave_up : gave_up_of new ≡ gave_up_of old
 
--- the source below failed, and no byte of a packet was taken
+-- the source below failed, no byte of a packet was taken, and none is kept
 pub record SourceFails {R : Type 0} (left : R → Option (List ℕ)) (failures : R → ℕ) (old new : Capture R) : Type 0 where
   pub reads : Reads left old new []
   pub source : failures (source_of new) ≡ one_more (failures (source_of old))
   pub gave_up : gave_up_of new ≡ gave_up_of old
+  pub nothing : kept_of new ≡ []
 
 -- 2^64 - 1 bytes of the file were taken, or more, none of which is a packet's
 pub record GivesUp {R : Type 0} (left : R → Option (List ℕ)) (failures : R → ℕ) (old new : Capture R) : Type 0 where
@@ -119,9 +127,19 @@ ReadsPart left failures old new (Ok n) buffer = IsUnfailed failures old new
     ⊎ ((n ≡ 0) × Ends left old new))
 ReadsPart left failures old new (Err e) buffer = SourceFails left failures old new ⊎ GivesUp left failures old new
 
--- the source below is not called if bytes that are kept hold some of a packet
-abbrev pub Waits : {R : Type 0} → Capture R → Capture R → Type 0
-Waits old new = given (scan_of old) (kept_of old) ≢ [] → source_of new ≡ source_of old
+-- No call of the source below was made but where the bytes that were kept, and then those that the
+-- calls before it gave, hold none of a packet; and each of these calls gave a byte.
+abbrev pub AreNeeded : Scan → (kept : List ℕ) → (pieces : List (List ℕ)) → Type 0
+AreNeeded s kept [] = Unit {0}
+AreNeeded s kept (last ∷ before) = (given s (kept ++ joined before) ≡ []) × All HasByte before
+
+-- What a read asks of the source below. A call of it gives no byte only if the read fails, or finds
+-- the end.
+pub record Asks {R : Type 0} (left : R → Option (List ℕ)) (calls : R → ℕ) (old new : Capture R) (result : Result ℕ DeviceFault) : Type 0 where
+  pub pieces : List (List ℕ)
+  pub called : ReadsPieces left calls (source_of old) pieces (source_of new)
+  pub needed : AreNeeded (scan_of old) (kept_of old) pieces
+  pub found : All HasByte pieces ⊎ IfOk result (λ n. (n ≡ 0) × Ends left old new)
 
 -- after a fault nothing is read and nothing changes
 pub record IsStill {R : Type 0} (old new : Capture R) (result : Result ℕ DeviceFault) : Type 0 where

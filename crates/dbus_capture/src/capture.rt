@@ -55,7 +55,7 @@ impl<R: Source> Capture<R> {
     ghost use Rattle.dbus_capture.specs.Stages.{is_raw};
     ghost use Rattle.std.specs.Io.KnownBytes.{Consumes};
     ghost use Rattle.dbus_capture.specs.Scans.{fresh};
-    ghost use Rattle.dbus_capture.specs.Captures.{source_of, scan_of, last_packet_of, kept_of, gave_up_of, calls_of, file_of, HasBytes, HandsOn, ReadsPart, Waits, Stops};
+    ghost use Rattle.dbus_capture.specs.Captures.{source_of, scan_of, last_packet_of, kept_of, gave_up_of, calls_of, file_of, HasBytes, Fills, HandsOn, ReadsPart, Asks, Stops};
 
     /// The capture that this source gives. It has read nothing yet.
     ///
@@ -114,7 +114,7 @@ impl<R: Source> Capture<R> {
     // Reads once if no bytes are kept. It is false at the end of the input.
     fn fill(&mut self) -> Result<bool, DeviceFault>
         ensures has { HasBytes R.left self.new result }
-        ensures keeps { kept_of self.old ≢ [] → self.new ≡ self.old }
+        ensures fills { Fills R.left R.calls self.old self.new }
         ensures file { Consumes (file_of R.left self.old) (file_of R.left self.new) [] }
         ensures scan { scan_of self.new ≡ scan_of self.old }
         ensures failed { ReadCounts (R.failures (source_of self.old))
@@ -164,12 +164,15 @@ impl<R: Source> Capture<R> {
     fn read_part(&mut self, buffer: &mut [u8]) -> Result<usize, DeviceFault>
         ensures bound { IfOk result (λ n. n ≤ length buffer.new) }
         ensures part { ReadsPart R.left R.failures self.old self.new result buffer.new }
-        ensures waits { Waits self.old self.new }
+        ensures asks { Asks R.left R.calls self.old self.new result }
         ensures stops { Stops self.old self.new result }
         ensures called { calls_of self.new ≡ calls_of self.old }
         ensures packet { last_packet_of self.new ≡ last_packet_of self.old }
     {
         if self.is_stopped() {
+            return Ok(0);
+        }
+        if buffer.is_empty() {
             return Ok(0);
         }
         if self.passes_on() {
@@ -181,7 +184,7 @@ impl<R: Source> Capture<R> {
                 return Ok(0);
             }
             let count = self.hand_on(buffer);
-            if count > 0 || buffer.is_empty() || self.is_stopped() {
+            if count > 0 || self.is_stopped() {
                 return Ok(count);
             }
         }
@@ -195,7 +198,7 @@ impl<R: Source> Source for Capture<R> {
     ghost use Rattle.std.specs.Io.KnownBytes.{ReadConsumes};
     ghost use Rattle.dbus_device.specs.Device.{one_more};
     ghost use Rattle.dbus_device.specs.Packets.{ReadsOfPacket, LeavesPacket};
-    ghost use Rattle.dbus_capture.specs.Captures.{scan_of, left_of, failures_of, calls_of, packets_of, last_packet_of, ReadsPart, Waits, Stops};
+    ghost use Rattle.dbus_capture.specs.Captures.{scan_of, left_of, failures_of, calls_of, packets_of, last_packet_of, ReadsPart, Asks, Stops};
 
     ghost left = { λ s. left_of R.left s };
 
@@ -220,10 +223,12 @@ impl<R: Source> Source for Capture<R> {
     /// Fills a prefix of the buffer with bytes of one packet, and returns their number.
     ///
     /// 0 bytes are the end of the input, a fault of the file, or the buffer has no room. The source
-    /// below is not called while bytes that it gave hold one of a packet, nor after a fault.
+    /// below is called only while the bytes that it gave hold none of a packet, so each packet of a
+    /// live file is given as it comes. It is not called after a fault, nor if there is no room.
     ///
-    /// `DeviceFault`: the source below failed. No byte is lost, and the call may be made again. It
-    /// also comes if at least 2^64 - 1 bytes of the file in a row have none of a packet.
+    /// `DeviceFault`: the source below failed. No byte is lost, none of a packet is kept, and the
+    /// call may be made again. It also comes if at least 2^64 - 1 bytes of the file in a row have
+    /// none of a packet.
     fn read(&mut self, buffer: &mut [u8]) -> Result<usize, DeviceFault>
         ensures bound { IfOk result (λ n. n ≤ length buffer.new) }
         ensures bytes { ReadConsumes (left_of R.left self.old) (left_of R.left self.new)
@@ -237,7 +242,7 @@ impl<R: Source> Source for Capture<R> {
             result }
         // What the file has to do with it, and which packet the bytes are of.
         ensures part { ReadsPart R.left R.failures self.old self.new result buffer.new }
-        ensures waits { Waits self.old self.new }
+        ensures asks { Asks R.left R.calls self.old self.new result }
         ensures stops { Stops self.old self.new result }
         ensures packet { last_packet_of self.new ≡
             last_packet result (scan_of self.new).packet (last_packet_of self.old) }

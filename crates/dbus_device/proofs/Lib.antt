@@ -1,1 +1,2 @@
 mod WriteSteps
+pub mod CallLaws

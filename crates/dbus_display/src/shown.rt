@@ -27,7 +27,8 @@ impl fmt::Display for Shown<'_, '_> {
     ghost use Rattle.dbus_values.specs.States.{AreLeft};
     ghost use Rattle.dbus_show.specs.ShownValues.{joined, value_texts};
 
-    /// Writes the text. The error is the formatter's.
+    /// Writes the text. The error is the formatter's: no clause says so, since those of `fmt::Write`
+    /// tell nothing of a write that failed.
     fn fmt<W: fmt::Write>(&self, f: &mut fmt::Formatter<W>) -> fmt::Result
         ensures shown { (vs : ValueTrees) (rest : List ℕ) → AreLeft self.now.0.now vs rest →
             WritesOnOk W.write_str_gives f.old result (joined (value_texts vs)) f.new }

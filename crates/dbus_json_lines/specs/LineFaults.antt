@@ -18,11 +18,13 @@ abbrev pub IsPlaced : (line : List ℕ) → Unread → NoMessage → Type 0
 IsPlaced line unread.Memory why = why ≡ fault.Memory
 IsPlaced line (unread.Unspelled broken) why = why ≡ fault.Refused (record { reason = broken.reason; at = start_of line broken.at })
 
--- The place is in the line, or its end. A line that is not UTF-8 is refused for that, where it stops
--- being so; one that is no JSON is refused for that; and any other one is refused where a token
--- begins, or at its end.
+-- The place is in the line, or its end. A line that is not UTF-8, and no other one, is refused for
+-- that, where it stops being so; one that is UTF-8 and no JSON, and no other one, is refused for
+-- that; and any other one is refused where a token begins, or at its end.
 pub record IsPlaceOf (line : List ℕ) (f : LineFault) : Type 0 where
   pub within : f.at ≤ length line
   pub not_utf8 : (IsUtf8 line → ⊥) → (f.reason ≡ reason.NotUtf8) × (f.at ≡ utf8_valid_len line)
+  pub only_not_utf8 : f.reason ≡ reason.NotUtf8 → IsUtf8 line → ⊥
   pub not_json : IsUtf8 line → json_of line ≡ None → f.reason ≡ reason.NotJson
+  pub only_not_json : f.reason ≡ reason.NotJson → IsUtf8 line × (json_of line ≡ None)
   pub token : IsUtf8 line → (json : Json) → json_of line ≡ Some json → (number : ℕ) × (f.at ≡ start_of line number)

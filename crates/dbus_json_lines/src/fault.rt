@@ -14,7 +14,8 @@ pub struct LineFault {
     /// Why.
     pub reason: JsonReason,
     /// The place, in bytes from the start of the line: of the byte at which it is no UTF-8, or of
-    /// the first byte of the token that shows the reason; the line's end if a token is missing.
+    /// the first byte of the token that shows the reason, as of a name that no colon follows; the
+    /// line's end if no token shows it.
     pub at: usize,
 }
 

@@ -1,5 +1,5 @@
 -- The names of the reasons why JSON spells no value or no message.
-use Rattle.std.specs.Prelude.{ℕ, List, ◌++◌, codes, decimal}
+use Rattle.std.specs.Prelude.{ℕ, List, ◌++◌, Bool, true, false, codes, decimal}
 use Rattle.dbus_json_reader.specs.declared.reasons.JsonReason.{JsonReason}
 use Rattle.dbus_json_reader.specs.declared.reasons.JsonReason.TheVariants as reason
 
@@ -37,3 +37,9 @@ json_reason_text (reason.FieldMissing code) = codes "FieldMissing(" ++ (decimal 
 json_reason_text reason.ArrayTooLong = codes "ArrayTooLong"
 json_reason_text reason.MessageTooLong = codes "MessageTooLong"
 json_reason_text reason.FdIndex = codes "FdIndex"
+
+-- a value of JSON shows it: it is not why a line is no JSON
+abbrev pub is_of_json : JsonReason → Bool
+is_of_json reason.NotUtf8 = false
+is_of_json reason.NotJson = false
+is_of_json other = true

@@ -2,6 +2,9 @@
 //! to pay for. RFC 8259; D-Bus Specification, "Type System", "Message Format" and "Header Fields".
 #![tactic(auto)]
 
+ghost use Rattle.std.specs.Prelude.{IsTrue};
+ghost use Rattle.dbus_json_reader.specs.JsonReasons.{is_of_json};
+
 use crate::integers::{signed_in, unsigned_in};
 use crate::known::named;
 use crate::names::has_name;
@@ -20,7 +23,9 @@ use std::alloc::Allocator;
 // ---- numbers and texts
 
 /// Why the text of a number is none of an integer's type.
-fn no_integer(text: &[u8]) -> JsonReason {
+fn no_integer(text: &[u8]) -> JsonReason
+    ensures { IsTrue (is_of_json result) }
+{
     if text == b"-0".as_slice() || text.iter().any(|byte| matches!(*byte, b'.' | b'e' | b'E')) {
         return JsonReason::NotInteger;
     }
@@ -29,7 +34,9 @@ fn no_integer(text: &[u8]) -> JsonReason {
 
 /// Why the text of a number is no integer of a type of 64 bits that is taken. One of the type is
 /// not taken only if it may be no number.
-fn no_wide<A: Allocator>(ty: &SigType<A>, text: &[u8]) -> JsonReason {
+fn no_wide<A: Allocator>(ty: &SigType<A>, text: &[u8]) -> JsonReason
+    ensures { IsTrue (is_of_json result) }
+{
     let is_integer = match ty {
         SigType::I64 => signed_in(text).is_some(),
         _ => unsigned_in(text).is_some(),
@@ -52,7 +59,9 @@ fn is_decimal(text: &[u8]) -> bool {
 }
 
 /// Why a value is no unsigned number that is wanted.
-pub(crate) fn no_unsigned<A: Allocator>(json: &Json<'_, A>) -> JsonReason {
+pub(crate) fn no_unsigned<A: Allocator>(json: &Json<'_, A>) -> JsonReason
+    ensures { IsTrue (is_of_json result) }
+{
     match json {
         Json::Number(text) => no_integer(text.as_bytes()),
         _ => JsonReason::Form,
@@ -60,7 +69,9 @@ pub(crate) fn no_unsigned<A: Allocator>(json: &Json<'_, A>) -> JsonReason {
 }
 
 /// Why a value spells no number of a type.
-pub(crate) fn no_number<A: Allocator>(ty: &SigType<A>, json: &Json<'_, A>) -> JsonReason {
+pub(crate) fn no_number<A: Allocator>(ty: &SigType<A>, json: &Json<'_, A>) -> JsonReason
+    ensures { IsTrue (is_of_json result) }
+{
     match json {
         Json::Number(text) => match ty {
             SigType::Bool => JsonReason::Form,
@@ -84,7 +95,9 @@ pub(crate) fn no_number<A: Allocator>(ty: &SigType<A>, json: &Json<'_, A>) -> Js
 }
 
 /// Why a value is no text of a kind.
-pub(crate) fn no_text<A: Allocator>(json: &Json<'_, A>, kind: TextKind) -> JsonReason {
+pub(crate) fn no_text<A: Allocator>(json: &Json<'_, A>, kind: TextKind) -> JsonReason
+    ensures { IsTrue (is_of_json result) }
+{
     match json {
         Json::String(_) => match kind {
             TextKind::Path => JsonReason::Path,
@@ -96,7 +109,9 @@ pub(crate) fn no_text<A: Allocator>(json: &Json<'_, A>, kind: TextKind) -> JsonR
 }
 
 /// Why a value names no byte order.
-pub(crate) fn no_order<A: Allocator>(json: &Json<'_, A>) -> JsonReason {
+pub(crate) fn no_order<A: Allocator>(json: &Json<'_, A>) -> JsonReason
+    ensures { IsTrue (is_of_json result) }
+{
     match json {
         Json::String(_) => JsonReason::Order,
         _ => JsonReason::Form,
@@ -104,7 +119,9 @@ pub(crate) fn no_order<A: Allocator>(json: &Json<'_, A>) -> JsonReason {
 }
 
 /// Why a value names no message type.
-pub(crate) fn no_kind<A: Allocator>(json: &Json<'_, A>) -> JsonReason {
+pub(crate) fn no_kind<A: Allocator>(json: &Json<'_, A>) -> JsonReason
+    ensures { IsTrue (is_of_json result) }
+{
     match json {
         Json::String(_) => JsonReason::Kind,
         _ => no_unsigned(json),
@@ -129,7 +146,9 @@ pub(crate) fn before_value<A: Allocator>(json: &Json<'_, A>, name: &str) -> usiz
 }
 
 /// The reason, shown by the value of a name, or by the object if it has no such member.
-pub(crate) fn at_value<A: Allocator>(json: &Json<'_, A>, name: &str, reason: JsonReason) -> Unread {
+pub(crate) fn at_value<A: Allocator>(json: &Json<'_, A>, name: &str, reason: JsonReason) -> Unread
+    requires { IsTrue (is_of_json reason) }
+{
     Unread::here(reason).after(before_value(json, name))
 }
 
@@ -182,7 +201,9 @@ pub(crate) fn not_counted<A: Allocator>(json: &Json<'_, A>) -> Unread {
 // ---- messages
 
 /// What the text of a known field is to be.
-fn name_reason(code: u8) -> JsonReason {
+fn name_reason(code: u8) -> JsonReason
+    ensures { IsTrue (is_of_json result) }
+{
     match code {
         INTERFACE => JsonReason::Interface,
         MEMBER => JsonReason::Member,

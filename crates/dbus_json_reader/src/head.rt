@@ -2,7 +2,7 @@
 //! "Message Format".
 #![tactic(auto)]
 
-ghost use Rattle.std.specs.Prelude.{◌≡◌, ◌<◌, ◌≤◌, ◌^◌, ℕ, Some, IfOk, IfErr, codes};
+ghost use Rattle.std.specs.Prelude.{◌≡◌, ◌<◌, ◌≤◌, ◌^◌, ℕ, Some, IsTrue, IfOk, IfErr, codes};
 ghost use Rattle.json.specs.Find.{get};
 ghost use Rattle.json.specs.Json.{Json as JsonTree};
 ghost use Rattle.json.specs.Value.{value_view};
@@ -10,6 +10,7 @@ ghost use Rattle.dbus_value_model.specs.declared.order.Order.{Order as TheOrder}
 ghost use Rattle.dbus_json_reader.specs.JsonMessages.{SpellsOrder, SpellsOr};
 ghost use Rattle.dbus_json_reader.specs.JsonMembers.{SpellsKind};
 ghost use Rattle.dbus_json_reader.specs.JsonParts.{IsHead};
+ghost use Rattle.dbus_json_reader.specs.JsonReasons.{is_of_json};
 
 use crate::blame::{at_value, no_kind, no_order, no_unsigned};
 use crate::members::{kind, order};
@@ -42,7 +43,8 @@ pub(crate) fn unsigned_or<A: Allocator>(
     most: u64,
     past: JsonReason,
 ) -> Result<u64, Unread>
-    requires { default ≤ most }
+    requires few { default ≤ most }
+    requires reason { IsTrue (is_of_json past) }
     ensures ok { IfOk result (λ n.
         (n ≤ most) × SpellsOr default n (get name.now (value_view json.now))) }
     ensures refused { IfErr result (λ _. (n : ℕ) → n ≤ most →

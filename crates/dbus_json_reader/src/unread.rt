@@ -1,23 +1,23 @@
 //! Why a value of JSON is not read.
 #![tactic(auto)]
 
-ghost use Rattle.std.specs.Prelude.{◌≡◌};
-ghost use Rattle.dbus_json_reader.specs.JsonFaults.{IsUnspelled};
-ghost use Rattle.dbus_json_reader.specs.declared.unread.Unread.TheVariants.{Memory};
+ghost use Rattle.std.specs.Prelude.{◌≡◌, IsTrue};
+ghost use Rattle.dbus_json_reader.specs.JsonReasons.{is_of_json};
 
 use crate::reasons::JsonReason;
 use std::alloc::{AllocError, AllocFailed};
 use thiserror::Error;
 
-/// Where a value of JSON, or a line of it, shows that it spells no value or no message, and why.
+/// Where a value of JSON shows that it spells no value or no message, and why.
 #[derive(Clone, Copy, PartialEq, Eq, Debug)]
 pub struct Broken {
-    /// Why.
+    /// Why. It is JSON, so this is neither [`JsonReason::NotUtf8`] nor [`JsonReason::NotJson`].
     pub reason: JsonReason,
     /// The number of tokens before the one that shows it, from the first one of the value. A
     /// bracket, a brace, a name, a string, a number and a literal is one token each; a comma and a
     /// colon is none. It is the greatest `usize` if there are more.
     pub at: usize,
+    pub ghost of_json: { IsTrue (is_of_json reason) },
 }
 
 /// Why a value of JSON is not read.
@@ -33,8 +33,12 @@ pub enum Unread {
 }
 
 impl Unread {
+    ghost use Rattle.dbus_json_reader.specs.JsonFaults.{IsUnspelled};
+
     /// The first token of the value shows it.
-    pub(crate) fn here(reason: JsonReason) -> Self {
+    pub(crate) fn here(reason: JsonReason) -> Self
+        requires { IsTrue (is_of_json reason) }
+    {
         Unread::Unspelled(Broken { reason, at: 0 })
     }
 
@@ -53,6 +57,8 @@ impl Unread {
 }
 
 impl From<AllocError> for Unread {
+    ghost use Rattle.dbus_json_reader.specs.declared.unread.Unread.TheVariants.{Memory};
+
     ghost from_gives = { λ _ e. e ≡ Memory };
 
     fn from(_: AllocError) -> Self {
@@ -61,6 +67,8 @@ impl From<AllocError> for Unread {
 }
 
 impl<T: Drop> From<AllocFailed<T>> for Unread {
+    ghost use Rattle.dbus_json_reader.specs.declared.unread.Unread.TheVariants.{Memory};
+
     ghost from_gives = { λ _ e. e ≡ Memory };
 
     fn from(_: AllocFailed<T>) -> Self {

@@ -1,14 +1,15 @@
 -- The steps of a reader of lines.
-use Rattle.std.proofs.Common.{◌≡◌, ◌≢◌, ◌⊎◌, ℕ, ◌+◌, ◌-◌, ◌<◌, List, [], ◌∷◌, ◌++◌, true, false, Bool, not, ◌↔◌, IsTrue, Result, Option, None, Some, Ok, length, take, drop, get_or, refl, sym, ap, ◌∙◌, subst, inl, inr, append_assoc, append-nil, length-append, length-take, take-append-drop, eq-eqb, arith}
+use Rattle.std.proofs.Common.{◌≡◌, ◌≢◌, ◌⊎◌, ℕ, ◌+◌, ◌-◌, ◌<◌, ◌≤◌, List, [], ◌∷◌, ◌++◌, true, false, Bool, not, ◌↔◌, IsTrue, Result, Option, None, Some, Ok, length, take, drop, get_or, refl, sym, ap, ◌∙◌, subst, inl, inr, append_assoc, append-nil, length-take, take-append-drop, eq-eqb, arith}
 use Rattle.std.specs.Prelude.{slice_range}
 use Rattle.std.proofs.lemmas.List.{drop_more, get_or-take, get_or_default, drop-drop}
-use Rattle.std.proofs.lemmas.List.Elements.{All-append, All-nil}
+use Rattle.std.proofs.lemmas.List.Elements.{All-append, All-nil, All-cons}
 use Rattle.std.proofs.lemmas.Slice.{between_is}
 use Rattle.memchr.specs.Find.{IsFirstByte, is_byte}
 use borrow.Author.Tests.{eqb-true}
-use Rattle.std.specs.Io.KnownBytes.{Consumes, IsAtEnd}
-use Rattle.std.proofs.KnownBytes.{Consumes-nil, Consumes-trans}
-use Rattle.dbus_device.specs.Device.{RisesBy}
+use Rattle.std.specs.Io.KnownBytes.{IsAtEnd}
+use Rattle.std.specs.List.{All}
+use Rattle.dbus_device.specs.Device.{one_more}
+use Rattle.dbus_device.specs.Calls.{HasByte, ReadsPieces}
 use Rattle.dbus_lines.specs.Gathering.{IsWithin}
 use Rattle.dbus_lines.specs.Lines.{line_feed, IsUnbroken, BeginsWithLine, IsLastLine}
 use Rattle.dbus_lines.specs.LineReading.{source_of, part_of, line_of, most_of, is_ended, Calls, Fills, Gathers, GivesLine, Keeps, KeptAnswers, NextAnswers, Reads, ReadsNothing}
@@ -152,25 +153,22 @@ module _ {R A : Type 0} where
         kept = inl (given, part);
       }
 
-  module _ (left : R → Option (List ℕ)) (calls : R → ℕ) (w : List ℕ) where
+  module _ (left : R → Option (List ℕ)) (calls : R → ℕ) (failures : R → ℕ) (w : List ℕ) where
     -- so much was read, and no line was given
     pub record HasRead (old now : LineReader R A) : Type 0 where
-      pub reads : Reads left calls w old now
+      pub reads : Reads left calls failures w old now
       pub kept : Keeps now (w ++ reads.bytes)
 
-    abbrev pub reads_none : (old new : LineReader R A) → ReadsNothing old new → Reads left calls w old new
+    abbrev pub reads_none : (old new : LineReader R A) → ReadsNothing old new → Reads left calls failures w old new
     reads_none old new n = record {
       bytes = [];
-      count = 0;
-      before = [];
-      last = [];
-      consumed = subst (λ (s : R). Consumes (left (source_of old)) (left s) []) (sym n.source) (Consumes-nil (left (source_of old)));
-      joined = refl;
-      needed = λ some. absurd (omega (arith, some));
-      few = omega arith;
-      all_few = omega arith;
+      pieces = [];
+      called = n.source;
+      joined_are = refl;
+      needed = tt;
+      found = inl (All-nil HasByte);
+      few = All-nil (λ piece. length piece ≤ 65536);
       reads = n.reads ∙ omega arith;
-      called = let same = ap calls n.source in omega (arith, same);
       most_reads = n.most_reads;
       most = n.most;
       settled = λ e. (refl, n.ended ∙ e);
@@ -180,20 +178,25 @@ module _ {R A : Type 0} where
     pub has_begun : (old new : LineReader R A) → ReadsNothing old new → Keeps new w → HasRead old new
     has_begun old new n kept = record { reads = reads_none old new n; kept = subst (Keeps new) (sym (append-nil w)) kept }
 
+    -- what a read found, if a step came that reads nothing
+    pub found_still : (pieces : List (List ℕ)) (old mid new : LineReader R A) → ReadsNothing mid new
+        → All HasByte pieces ⊎ ((is_ended mid ≡ true) ⊎ (failures (source_of mid) ≡ one_more (failures (source_of old))))
+        → All HasByte pieces ⊎ ((is_ended new ≡ true) ⊎ (failures (source_of new) ≡ one_more (failures (source_of old))))
+    found_still pieces old mid new n (inl all) = inl all
+    found_still pieces old mid new n (inr (inl ended)) = inr (inl (n.ended ∙ ended))
+    found_still pieces old mid new n (inr (inr failed)) = inr (inr (ap failures n.source ∙ failed))
+
     -- a step that reads nothing
-    abbrev pub reads_still : (old mid new : LineReader R A) (r : Reads left calls w old mid) → ReadsNothing mid new → Reads left calls w old new
+    abbrev pub reads_still : (old mid new : LineReader R A) (r : Reads left calls failures w old mid) → ReadsNothing mid new → Reads left calls failures w old new
     reads_still old mid new r n = record {
       bytes = r.bytes;
-      count = r.count;
-      before = r.before;
-      last = r.last;
-      consumed = subst (λ (s : R). Consumes (left (source_of old)) (left s) r.bytes) (sym n.source) r.consumed;
-      joined = r.joined;
+      pieces = r.pieces;
+      called = subst (ReadsPieces left calls (source_of old) r.pieces) (sym n.source) r.called;
+      joined_are = r.joined_are;
       needed = r.needed;
+      found = found_still r.pieces old mid new n r.found;
       few = r.few;
-      all_few = r.all_few;
       reads = n.reads ∙ r.reads;
-      called = subst (λ (s : R). RisesBy r.count (calls (source_of old)) (calls s)) (sym n.source) r.called;
       most_reads = n.most_reads ∙ r.most_reads;
       most = n.most ∙ r.most;
       settled = λ e. ((r.settled e).0, n.ended ∙ (r.settled e).1);
@@ -208,20 +211,24 @@ module _ {R A : Type 0} where
     pub wants : (old mid new : LineReader R A) (h : HasRead old mid) → ReadsNothing mid new → IsUnbroken (w ++ h.reads.bytes) × Keeps new (w ++ h.reads.bytes) → Wants old new
     wants old mid new h n k = record { so_far = record { reads = reads_still old mid new h.reads n; kept = k.1 }; unbroken = k.0 }
 
+    pub found_after : (pieces : List (List ℕ)) (old mid new : LineReader R A) → ReadsNothing old mid
+        → All HasByte pieces ⊎ ((is_ended new ≡ true) ⊎ (failures (source_of new) ≡ one_more (failures (source_of mid))))
+        → All HasByte pieces ⊎ ((is_ended new ≡ true) ⊎ (failures (source_of new) ≡ one_more (failures (source_of old))))
+    found_after pieces old mid new n (inl all) = inl all
+    found_after pieces old mid new n (inr (inl ended)) = inr (inl ended)
+    found_after pieces old mid new n (inr (inr failed)) = inr (inr (failed ∙ ap (λ (s : R). one_more (failures s)) n.source))
+
     -- what is read after a step that reads nothing
-    abbrev pub reads_after : (old mid new : LineReader R A) → ReadsNothing old mid → Reads left calls w mid new → Reads left calls w old new
+    abbrev pub reads_after : (old mid new : LineReader R A) → ReadsNothing old mid → Reads left calls failures w mid new → Reads left calls failures w old new
     reads_after old mid new n r = record {
       bytes = r.bytes;
-      count = r.count;
-      before = r.before;
-      last = r.last;
-      consumed = subst (λ (s : R). Consumes (left s) (left (source_of new)) r.bytes) n.source r.consumed;
-      joined = r.joined;
+      pieces = r.pieces;
+      called = subst (λ (s : R). ReadsPieces left calls s r.pieces (source_of new)) n.source r.called;
+      joined_are = r.joined_are;
       needed = r.needed;
+      found = found_after r.pieces old mid new n r.found;
       few = r.few;
-      all_few = r.all_few;
-      reads = r.reads ∙ ap (λ k. k + r.count) n.reads;
-      called = subst (λ (s : R). RisesBy r.count (calls s) (calls (source_of new))) n.source r.called;
+      reads = r.reads ∙ ap (λ k. k + length r.pieces) n.reads;
       most_reads = r.most_reads ∙ n.most_reads;
       most = r.most ∙ n.most;
       settled = λ e. r.settled (n.ended ∙ e);
@@ -230,28 +237,48 @@ module _ {R A : Type 0} where
 
     -- an answer after a step that reads nothing
     pub answers : (old mid new : LineReader R A) (h : HasRead old mid) (result : Result Bool NoLine) → ReadsNothing mid new
-        → NextAnswers (w ++ h.reads.bytes) new result → (r : Reads left calls w old new) × NextAnswers (w ++ r.bytes) new result
+        → NextAnswers (w ++ h.reads.bytes) new result → (r : Reads left calls failures w old new) × NextAnswers (w ++ r.bytes) new result
     answers old mid new h result n a = (reads_still old mid new h.reads n, a)
+
+    -- each read gave a byte, if none failed and none found the end
+    pub all_gave : (pieces : List (List ℕ)) (old mid : LineReader R A) → is_ended mid ≡ false → failures (source_of mid) ≡ failures (source_of old)
+        → All HasByte pieces ⊎ ((is_ended mid ≡ true) ⊎ (failures (source_of mid) ≡ one_more (failures (source_of old)))) → All HasByte pieces
+    all_gave pieces old mid open_ same (inl all) = all
+    all_gave pieces old mid open_ same (inr (inl ended)) = absurd (both_ways (is_ended mid) ended open_)
+    all_gave pieces old mid open_ same (inr (inr failed)) = absurd (omega (arith, same, failed))
+
+    -- what one more read found
+    abbrev pub Found : LineReader R A → List ℕ → LineReader R A → Type 0
+    Found old bytes new = HasByte bytes ⊎ ((is_ended new ≡ true) ⊎ (failures (source_of new) ≡ one_more (failures (source_of old))))
+
+    pub found_one : (pieces : List (List ℕ)) (old mid new : LineReader R A) (bytes : List ℕ) → All HasByte pieces → failures (source_of mid) ≡ failures (source_of old) → Found mid bytes new
+        → All HasByte (bytes ∷ pieces) ⊎ ((is_ended new ≡ true) ⊎ (failures (source_of new) ≡ one_more (failures (source_of old))))
+    found_one pieces old mid new bytes all same (inl some) = inl (All-cons HasByte bytes pieces some all)
+    found_one pieces old mid new bytes all same (inr (inl ended)) = inr (inl ended)
+    found_one pieces old mid new bytes all same (inr (inr failed)) = inr (inr (failed ∙ ap one_more same))
+
+    -- a read gave a byte, or found the end
+    pub gave_or_ended : (old new : LineReader R A) (bytes : List ℕ) (ended : Bool) → is_ended new ≡ ended → (ended ≡ false → HasByte bytes) → Found old bytes new
+    gave_or_ended old new bytes true is some = inr (inl is)
+    gave_or_ended old new bytes false is some = inl (some refl)
 
     -- one more read
     abbrev pub reads_one : (old mid new : LineReader R A) (h : HasRead old mid) (bytes : List ℕ) → IsUnbroken (w ++ h.reads.bytes) → mid.given ≡ false → part_of mid ≡ [] → is_ended mid ≡ false
-        → Calls calls mid new → Fills left bytes mid new → HasRead old new
-    reads_one old mid new h bytes unbroken g none open_ c f =
+        → failures (source_of mid) ≡ failures (source_of old) → Calls calls mid new → Fills left bytes mid new → Found mid bytes new → HasRead old new
+    reads_one old mid new h bytes unbroken g none open_ same c f gave =
         let r = h.reads in
         let (line, l, e) = gathers mid (w ++ r.bytes) g h.kept in
+        let all = all_gave r.pieces old mid open_ same r.found in
         record {
           reads = record {
             bytes = r.bytes ++ bytes;
-            count = r.count + 1;
-            before = r.bytes;
-            last = bytes;
-            consumed = Consumes-trans _ _ _ _ _ r.consumed f.consumed;
-            joined = refl;
-            needed = λ _. unbroken;
-            few = f.few;
-            all_few = let a = r.all_few in let b = f.few in let all = length-append r.bytes bytes in omega (arith, a, b, all);
-            reads = omega (arith, c.reads, r.reads);
-            called = let a = r.called in let b = c.called in omega (arith, a, b);
+            pieces = bytes ∷ r.pieces;
+            called = (source_of mid, r.called, record { gave = f.consumed; counted = c.called });
+            joined_are = ap (λ l. l ++ bytes) r.joined_are;
+            needed = (subst (λ l. IsUnbroken (w ++ l)) r.joined_are unbroken, all);
+            found = found_one r.pieces old mid new bytes all same gave;
+            few = All-cons (λ piece. length piece ≤ 65536) bytes r.pieces f.few r.few;
+            reads = c.reads ∙ omega (arith, r.reads);
             most_reads = c.most_reads ∙ r.most_reads;
             most = c.most ∙ r.most;
             settled = λ ended. absurd (both_ways (is_ended mid) (r.settled ended).1 open_);

@@ -1,7 +1,9 @@
 -- What a reader of lines keeps, reads and gives.
-use Rattle.std.specs.Prelude.{◌≡◌, ◌⊎◌, ℕ, ◌+◌, ◌*◌, ◌<◌, ◌≤◌, List, [], ◌++◌, Bool, true, false, length, slice_range, Option, Result, Ok, Err}
+use Rattle.std.specs.Prelude.{◌≡◌, ◌⊎◌, ℕ, ◌+◌, ◌≤◌, List, [], ◌∷◌, ◌++◌, Bool, true, false, length, slice_range, Option, Result, Ok, Err}
 use Rattle.std.specs.Io.KnownBytes.{Consumes, IsAtEnd}
-use Rattle.dbus_device.specs.Device.{one_more, RisesBy}
+use Rattle.std.specs.List.{All}
+use Rattle.dbus_device.specs.Device.{one_more}
+use Rattle.dbus_device.specs.Calls.{joined, HasByte, ReadsPieces}
 use Rattle.dbus_device.specs.declared.device_fault.DeviceFault.{DeviceFault}
 use Rattle.std.specs.declared.alloc.AllocError.{AllocError}
 use Rattle.dbus_lines.specs.Gathering.{gathered, IsWithin}
@@ -14,6 +16,12 @@ use Rattle.dbus_lines.specs.declared.line_reader.LineReader.{LineReader}
 abbrev pub Counts : {T : Type 0} → ℕ → ℕ → Result T NoLine → Type 0
 Counts old new (Err Device) = new ≡ one_more old
 Counts old new result = new ≡ old
+
+-- No read was made but where no line ended in what was kept, w at first, and then what the reads
+-- before it gave; and each of these gave a byte.
+abbrev pub AreNeeded : (w : List ℕ) → (pieces : List (List ℕ)) → Type 0
+AreNeeded w [] = Unit {0}
+AreNeeded w (last ∷ before) = IsUnbroken (w ++ joined before) × All HasByte before
 
 module _ {R A : Type 0} where
   abbrev pub source_of : LineReader R A → R
@@ -72,23 +80,20 @@ module _ {R A : Type 0} where
     pub most : most_of new ≡ most_of old
     pub ended : is_ended new ≡ is_ended old
 
-  module _ (left : R → Option (List ℕ)) (calls : R → ℕ) where
-    -- what a call read where w was kept. No line feed came before the last read
+  module _ (left : R → Option (List ℕ)) (calls : R → ℕ) (failures : R → ℕ) where
+    -- What a call read where w was kept. A read gave no byte only if it failed, or found the end
     pub record Reads (w : List ℕ) (old new : LineReader R A) : Type 0 where
       pub bytes : List ℕ
-      pub count : ℕ
-      pub before : List ℕ
-      pub last : List ℕ
-      pub consumed : Consumes (left (source_of old)) (left (source_of new)) bytes
-      pub joined : bytes ≡ before ++ last
-      pub needed : 0 < count → IsUnbroken (w ++ before)
-      pub few : length last ≤ 65536
-      pub all_few : length bytes ≤ 65536 * count
-      pub reads : reads_of new ≡ reads_of old + count
-      pub called : RisesBy count (calls (source_of old)) (calls (source_of new))
+      pub pieces : List (List ℕ)
+      pub called : ReadsPieces left calls (source_of old) pieces (source_of new)
+      pub joined_are : bytes ≡ joined pieces
+      pub needed : AreNeeded w pieces
+      pub found : All HasByte pieces ⊎ ((is_ended new ≡ true) ⊎ (failures (source_of new) ≡ one_more (failures (source_of old))))
+      pub few : All (λ piece. length piece ≤ 65536) pieces
+      pub reads : reads_of new ≡ reads_of old + length pieces
       pub most_reads : most_reads_of new ≡ most_reads_of old
       pub most : most_of new ≡ most_of old
-      pub settled : is_ended old ≡ true → (count ≡ 0) × (is_ended new ≡ true)
+      pub settled : is_ended old ≡ true → (pieces ≡ []) × (is_ended new ≡ true)
       -- if it ended, the device has nothing left
       pub at_end : (is_ended old ≡ true → IsAtEnd (left (source_of old))) → is_ended new ≡ true → IsAtEnd (left (source_of new))
 
@@ -126,7 +131,7 @@ module _ {R A : Type 0} where
     pub at_end : is_ended new ≡ true → IsAtEnd (left (source_of new))
 
   abbrev pub FillsOrNot : (R → Option (List ℕ)) → LineReader R A → LineReader R A → Result (Unit {0}) DeviceFault → Type 0
-  FillsOrNot left old new (Ok x) = (bytes : List ℕ) × Fills left bytes old new
+  FillsOrNot left old new (Ok x) = (bytes : List ℕ) × Fills left bytes old new × (is_ended new ≡ false → HasByte bytes)
   FillsOrNot left old new (Err e) = Fills left [] old new
 
   -- one more read

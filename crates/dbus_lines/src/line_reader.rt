@@ -99,7 +99,7 @@ impl<R: Source, A: Allocator> LineReader<R, A> {
     /// that was read is kept.
     pub fn next(&mut self) -> Result<bool, NoLine>
         ensures read { (w : List ℕ) → Keeps self.old w →
-            (r : Reads R.left R.calls w self.old self.new) ×
+            (r : Reads R.left R.calls R.failures w self.old self.new) ×
             NextAnswers (w ++ r.bytes) self.new result }
         ensures failed { Counts (R.failures (source_of self.old)) (R.failures (source_of self.new))
             result }

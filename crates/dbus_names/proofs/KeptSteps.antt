@@ -2,6 +2,12 @@
 use Rattle.std.proofs.Common.{◌≡◌, ℕ, List, Bool, true, false, Option, None, Some, Result, Ok, Err, OnErr, OnOk, option_map, if◌then◌else◌, refl, ap, ◌∙◌}
 use Rattle.std.specs.Str.{bytes_eq}
 use Rattle.dbus_calls.specs.Answering.{may_answer}
+use Rattle.dbus_calls.specs.Events.{event_seen}
+use Rattle.dbus_calls.specs.declared.event.CallSeen.{CallSeen}
+use Rattle.dbus_calls.specs.declared.event.Event.{Event as EventSeen}
+use Rattle.dbus_calls.specs.declared.event.Event.TheVariants as event
+use Rattle.dbus_names.specs.NameCalls.{NameCall}
+use Rattle.dbus_names.specs.NameStates.{calls_after}
 use Rattle.dbus_calls.specs.Waiting.{Waiting, after_reply, answered, is_same, with_call, without_call, without_caller}
 
 pub on_ok : {T E P Q : Type 0} (r : Result T E) → (P → Q) → OnOk r P → OnOk r Q
@@ -11,6 +17,10 @@ on_ok (Err e) f p = p
 pub on_err : {T E P Q : Type 0} (r : Result T E) → (P → Q) → OnErr r P → OnErr r Q
 on_err (Ok x) f p = p
 on_err (Err e) f p = f p
+
+pub any_err : {T E P : Type 0} (r : Result T E) → P → OnErr r P
+any_err (Ok x) p = tt
+any_err (Err e) p = p
 
 pub both_ok : {T E : Type 0} (P Q : Type 0) (r : Result T E) → OnOk r P → OnOk r Q → OnOk r (P × Q)
 both_ok P Q (Ok x) p q = (p, q)
@@ -44,3 +54,10 @@ module _ {T U : Type 0} (f : T → U) where
     after_seen (Some x) c s w d t =
         either_seen (may_answer (to (f x)) sender) (without_call c s w d t) (w d t)
         ∙ ap (λ l. if may_answer (to (f x)) sender then l else seen w d t) (without_seen c s w d t)
+
+-- what is no call asks nothing
+pub no_call : (w : Waiting NameCall) (e : EventSeen) (asked : Option NameCall) → ((x : CallSeen) → e ≡ event.Call x → ⊥) → (c : List ℕ) (s : ℕ) → calls_after w (event_seen e) None c s ≡ calls_after w (event_seen e) asked c s
+no_call w (event.Call x) asked other c s = absurd (other x refl)
+no_call w (event.Reply r) asked other c s = refl
+no_call w (event.Departure name) asked other c s = refl
+no_call w (event.Other change) asked other c s = refl

@@ -127,3 +127,26 @@ module _ (os : OwnerSet) (name u : List ℕ) where
       by : (b : Bool) → bytes_eq name u ≡ b → if_had (without_unique name os) u (if b then None else x) ≡ (if b then None else if_had os u x)
       by true is = refl
       by false is = others_had x is
+
+-- ---- a name was noted, and then there was no memory for its owner
+
+none_there : (x : Option (List ℕ)) → is_none x ≡ true → None ≡ x
+none_there None e = refl
+none_there (Some n) e = absurd (false≢true e)
+
+module _ (os : OwnerSet) (name w u : List ℕ) (old noted : List ℕ → Option (List ℕ)) (is : noted u ≡ (if bytes_eq w u && is_none (if_had os u (old u)) then Some name else old u)) where
+  -- the connection was known by another one, so that nothing was noted
+  pub not_noted : is_none (if_had os w (old w)) ≡ false → noted u ≡ old u
+  not_noted some = is ∙ by (bytes_eq w u) refl
+    where
+      by : (b : Bool) → bytes_eq w u ≡ b → (if b && is_none (if_had os u (old u)) then Some name else old u) ≡ old u
+      by true same = ap (λ c. if c then Some name else old u) (subst (λ v. is_none (if_had os v (old v)) ≡ false) ((bytes_eq-Decides w u).0 same) some)
+      by false other = refl
+
+  -- it was known by none, and what was noted is forgotten
+  pub taken_back : is_none (if_had os w (old w)) ≡ true → (back : Option (List ℕ)) → back ≡ (if bytes_eq w u then None else noted u) → if_had os u back ≡ if_had os u (old u)
+  taken_back none back e = by (bytes_eq w u) refl is e
+    where
+      by : (b : Bool) → bytes_eq w u ≡ b → noted u ≡ (if b && is_none (if_had os u (old u)) then Some name else old u) → back ≡ (if b then None else noted u) → if_had os u back ≡ if_had os u (old u)
+      by true same n g = ap (if_had os u) g ∙ none_there (if_had os u (old u)) (subst (λ v. is_none (if_had os v (old v)) ≡ true) ((bytes_eq-Decides w u).0 same) none)
+      by false other n g = ap (if_had os u) (g ∙ n)

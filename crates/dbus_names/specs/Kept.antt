@@ -4,6 +4,7 @@ use Rattle.std.specs.BTreeMap.{get_by_text}
 use Rattle.dbus_rule_set.specs.Owners.{OwnerSet}
 use Rattle.dbus_calls.specs.Kept.{waiting}
 use Rattle.dbus_calls.specs.Waiting.{Waiting}
+use Rattle.dbus_calls.specs.declared.open_calls.OpenCalls.{OpenCalls}
 use Rattle.dbus_names.specs.NameCalls.{NameCall}
 use Rattle.dbus_names.specs.NameStates.{KnownNames, NameState, if_had}
 use Rattle.dbus_names.specs.declared.name_call.NameCall.{NameCall as CallSeen}
@@ -18,8 +19,11 @@ abbrev pub call_kept : KeptCall → NameCall
 call_kept call = record { name = string_bytes call.name; holder = call.holder }
 
 -- the open calls that it keeps
+abbrev pub calls_in : OpenCalls KeptCall → Waiting NameCall
+calls_in calls caller serial = option_map call_kept (waiting calls caller serial)
+
 abbrev pub calls_of : Names → Waiting NameCall
-calls_of names caller serial = option_map call_kept (waiting names.calls caller serial)
+calls_of names = calls_in names.calls
 
 -- the name that a connection was said to have, when it was known by none
 abbrev pub first_of : FirstNames → (unique : List ℕ) → Option (List ℕ)

@@ -1,7 +1,7 @@
 //! The names by which connections are known.
 #![tactic(auto)]
 
-ghost use Rattle.std.specs.Prelude.{◌≡◌, ◌&&◌, ℕ, List, Option, None, Some, OnOk, if◌then◌else◌, option_map};
+ghost use Rattle.std.specs.Prelude.{◌≡◌, ◌&&◌, ℕ, List, Option, None, Some, IfOk, OnErr, OnOk, if◌then◌else◌, option_map};
 ghost use Rattle.std.specs.Option.{is_none};
 ghost use Rattle.std.specs.Str.{bytes_eq};
 ghost use Rattle.dbus_names.specs.Kept.{first_of, kept_names};
@@ -42,26 +42,30 @@ impl FirstNames {
         }
     }
 
-    /// Notes that the connection has this name from now on: it is known by it, if by no other name.
+    /// Notes that the connection has this name from now on: it is known by it, if by no other name,
+    /// which is what it returns.
     ///
-    /// `AllocError`: an allocation failed.
+    /// `AllocError`: an allocation failed. Then each is known as before.
     pub(crate) fn note(
         &mut self,
         name: &str,
         unique: &str,
         owners: &Owners,
-    ) -> Result<(), AllocError>
-        ensures { OnOk result ((u : List ℕ) → first_of self.new u ≡
+    ) -> Result<bool, AllocError>
+        ensures noted { OnOk result ((u : List ℕ) → first_of self.new u ≡
             (if bytes_eq unique.now u && is_none (kept_names self.old owners.now u) then Some name.now
             else first_of self.old u)) }
+        ensures is_first { IfOk result (λ is_first.
+            is_first ≡ is_none (kept_names self.old owners.now unique.now)) }
+        ensures unchanged { OnErr result ((u : List ℕ) → first_of self.new u ≡ first_of self.old u) }
     {
         if self.of(unique, owners).is_some() {
-            return Ok(());
+            return Ok(false);
         }
         let key = String::from_str(self.alloc, unique)?;
         let name = String::from_str(self.alloc, name)?;
         match self.names.insert(key, name) {
-            Ok(_) => Ok(()),
+            Ok(_) => Ok(true),
             Err(_) => Err(AllocError),
         }
     }

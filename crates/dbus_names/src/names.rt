@@ -1,14 +1,14 @@
 //! Who has which name.
 #![tactic(auto)]
 
-ghost use Rattle.std.specs.Prelude.{◌≡◌, ℕ, List, Bool, Some, IfOk, OnErr, OnOk, option_map};
+ghost use Rattle.std.specs.Prelude.{◌≡◌, ℕ, List, Some, None, OnErr, OnOk, option_map};
 ghost use Rattle.dbus_value_model.specs.declared.order.Order.{Order};
 ghost use Rattle.dbus_message_model.specs.Messages.{MessageTree};
 ghost use Rattle.dbus_view.specs.Views.{Views};
 ghost use Rattle.dbus_calls.specs.Changes.{change_seen, owner_seen};
 ghost use Rattle.dbus_calls.specs.Events.{event_of, event_seen};
 ghost use Rattle.dbus_calls.specs.Events.Event.{Calls};
-ghost use Rattle.dbus_names.specs.Kept.{call_kept, call_seen, calls_of, kept_names, state_of};
+ghost use Rattle.dbus_names.specs.Kept.{call_kept, call_seen, calls_in, calls_of, kept_names, state_of};
 ghost use Rattle.dbus_names.specs.NameStates.{answered_by, asked_by, calls_after, known_after, known_first, named_by, names_left, owners_after, owners_by, owners_left, told_by, wanted_change};
 ghost use Rattle.dbus_names.specs.Telling.{reply_told};
 ghost use Rattle.dbus_calls.specs.OwnerChanges.{change_of};
@@ -20,7 +20,7 @@ use crate::first_names::FirstNames;
 use crate::kept_call::KeptCall;
 use crate::name_call::{NameCall, name_call_of};
 use crate::telling::holder_told;
-use dbus_calls::{CallSeen, Event, EventView, NameOwner, OpenCalls, OwnerChange};
+use dbus_calls::{CallSeen, Event, EventView, NameOwner, OpenCalls, OwnerChange, Sent, may_answer};
 use dbus_rule_set::Owners;
 use dbus_view::MessageView;
 use std::alloc::{AllocError, Global};
@@ -85,53 +85,43 @@ impl Names {
     /// bus, or by a reply to a call that was taken before. D-Bus Specification, "Message Bus
     /// Messages".
     ///
-    /// `AllocError`: an allocation failed. Then the owners are those from before, and it may have
-    /// lost the call that the message answers.
+    /// `AllocError`: an allocation failed. Then it knows what it knew.
     #[tactic(auto, unfolding(crate::specs::Kept::state_of))]
     pub fn take<F: NameFilter>(&mut self, message: &EventView, filter: &F) -> Result<(), AllocError>
         ensures learns { (order : Order) (m : MessageTree) → Views message.now order m →
             OnOk result (state_of self.new ≡ known_after (F.wanted filter.now) (state_of self.old) m) }
-        ensures unchanged { OnErr result ((state_of self.new).owners ≡ (state_of self.old).owners) }
+        ensures unchanged { OnErr result (state_of self.new ≡ state_of self.old) }
     {
-        let answered = self.pair(message, filter)?;
-        note_told(
-            message,
-            &answered,
-            filter,
-            &mut self.owners,
-            &mut self.first,
-        )?;
-        let_go(message.event(), &mut self.owners, &mut self.first);
+        let event = message.event();
+        if let Event::Call(call) = event {
+            return self.take_call(call, asked_by(message.view(), filter));
+        }
+        let answered = answered_by(&self.calls, event);
+        // What may fail comes first.
+        note_told(message, answered, filter, &mut self.owners, &mut self.first)?;
+        self.close_calls(event);
+        let_go(event, &mut self.owners, &mut self.first);
         Ok(())
     }
 
-    // Opens and closes calls by the message. Returns the one that it answers.
-    fn pair<F: NameFilter>(
-        &mut self,
-        message: &EventView,
-        filter: &F,
-    ) -> Result<Option<KeptCall>, AllocError>
+    // Closes the calls that are over by the event.
+    fn close_calls(&mut self, event: Event<'_>)
         ensures owners { self.new.owners ≡ self.old.owners }
         ensures names { self.new.first ≡ self.old.first }
-        ensures calls { (order : Order) (m : MessageTree) → Views message.now order m →
-            OnOk result ((c : List ℕ) (s : ℕ) → calls_of self.new c s ≡
-            calls_after (calls_of self.old) (event_of m) (asked_by (F.wanted filter.now) m) c s) }
-        ensures answered { (order : Order) (m : MessageTree) → Views message.now order m →
-            IfOk result (λ call. option_map call_kept call ≡ answered_by (calls_of self.old) (event_of m)) }
+        ensures calls { (c : List ℕ) (s : ℕ) →
+            calls_of self.new c s ≡ calls_after (calls_of self.old) (event_seen event.entry) None c s }
     {
-        match message.event() {
+        match event {
             Event::Call(call) => {
-                self.take_call(call, asked_by(message.view(), filter))?;
-                Ok(None)
+                self.calls.close(call.caller, call.serial);
             }
             Event::Reply(reply) => {
-                Ok(self.calls.answer(reply.caller, reply.serial, reply.sender))
+                self.calls.answer(reply.caller, reply.serial, reply.sender);
             }
             Event::Departure(name) => {
                 self.calls.close_all(name);
-                Ok(None)
             }
-            Event::Other(_) => Ok(None),
+            Event::Other(_) => {}
         }
     }
 
@@ -148,6 +138,8 @@ impl Names {
             calls_after (calls_of self.old)
             (Calls call.entry.caller.now call.entry.serial call.entry.wants_reply)
             (option_map call_seen asked.entry) c s) }
+        ensures unchanged { OnErr result ((c : List ℕ) (s : ℕ) →
+            calls_of self.new c s ≡ calls_of self.old c s) }
     {
         match asked {
             Some(name_call) if call.wants_reply => {
@@ -176,20 +168,38 @@ pub fn asked_by<'a, F: NameFilter>(view: &MessageView<'a>, filter: &F) -> Option
     }
 }
 
+// The open call that the event answers, if it answers one.
+fn answered_by<'k>(calls: &'k OpenCalls<KeptCall>, event: Event<'_>) -> Option<&'k KeptCall>
+    ensures { option_map (λ call. call_kept call.now) result ≡
+        answered_by (calls_in calls.now) (event_seen event.entry) }
+{
+    let Event::Reply(reply) = event else {
+        return None;
+    };
+    let call = calls.get(reply.caller, reply.serial)?;
+    if may_answer(call.destination(), reply.sender) {
+        Some(call)
+    } else {
+        None
+    }
+}
+
 // Changes the owners and the names of connections by the message, which answers this call, or none.
 fn note_told<F: NameFilter>(
     message: &EventView,
-    answered: &Option<KeptCall>,
+    answered: Option<&KeptCall>,
     filter: &F,
     owners: &mut Owners,
     first: &mut FirstNames,
 ) -> Result<(), AllocError>
     ensures noted { (order : Order) (m : MessageTree) → Views message.now order m →
-        OnOk result (owners.new ≡ owners_after (told_by (F.wanted filter.now) (option_map call_kept answered.now) m) owners.old) }
+        OnOk result (owners.new ≡ owners_after (told_by (F.wanted filter.now) (option_map (λ call. call_kept call.now) answered.entry) m) owners.old) }
     ensures named { (order : Order) (m : MessageTree) → Views message.now order m →
         OnOk result ((u : List ℕ) → kept_names first.new owners.new u ≡
-        named_by (told_by (F.wanted filter.now) (option_map call_kept answered.now) m) owners.new (kept_names first.old owners.old) u) }
+        named_by (told_by (F.wanted filter.now) (option_map (λ call. call_kept call.now) answered.entry) m) owners.new (kept_names first.old owners.old) u) }
     ensures unchanged { OnErr result (owners.new ≡ owners.old) }
+    ensures unnamed { OnErr result ((u : List ℕ) →
+        kept_names first.new owners.new u ≡ kept_names first.old owners.old u) }
 {
     match answered {
         Some(call) => note_reply(message.view(), call, owners, first),
@@ -211,6 +221,8 @@ fn note_reply(
         OnOk result ((u : List ℕ) → kept_names first.new owners.new u ≡
         named_by (reply_told (call_kept call.now) m) owners.new (kept_names first.old owners.old) u) }
     ensures unchanged { OnErr result (owners.new ≡ owners.old) }
+    ensures unnamed { OnErr result ((u : List ℕ) →
+        kept_names first.new owners.new u ≡ kept_names first.old owners.old u) }
 {
     let Some(unique) = holder_told(view, call.holder) else {
         return Ok(());
@@ -232,6 +244,8 @@ fn note_signal<F: NameFilter>(
         OnOk result ((u : List ℕ) → kept_names first.new owners.new u ≡
         named_by (wanted_change (F.wanted filter.now) (change_of m)) owners.new (kept_names first.old owners.old) u) }
     ensures unchanged { OnErr result (owners.new ≡ owners.old) }
+    ensures unnamed { OnErr result ((u : List ℕ) →
+        kept_names first.new owners.new u ≡ kept_names first.old owners.old u) }
 {
     let Some(change) = message.event().change() else {
         return Ok(());
@@ -253,6 +267,8 @@ fn note(
     ensures named { OnOk result ((u : List ℕ) → kept_names first.new owners.new u ≡
         named_by (Some (change_seen change.entry)) owners.new (kept_names first.old owners.old) u) }
     ensures unchanged { OnErr result (owners.new ≡ owners.old) }
+    ensures unnamed { OnErr result ((u : List ℕ) →
+        kept_names first.new owners.new u ≡ kept_names first.old owners.old u) }
 {
     match change {
         OwnerChange::Owned(owner) => note_owner(owner, owners, first),
@@ -289,7 +305,17 @@ fn note_owner(
     ensures named { OnOk result ((u : List ℕ) → kept_names first.new owners.new u ≡
         named_by (Some (Owned (owner_seen owner.entry))) owners.new (kept_names first.old owners.old) u) }
     ensures unchanged { OnErr result (owners.new ≡ owners.old) }
+    ensures unnamed { OnErr result ((u : List ℕ) →
+        kept_names first.new owners.new u ≡ kept_names first.old owners.old u) }
 {
-    first.note(owner.name, owner.unique, owners)?;
-    owners.set(owner.name, owner.unique)
+    let is_first = first.note(owner.name, owner.unique, owners)?;
+    match owners.set(owner.name, owner.unique) {
+        Ok(()) => Ok(()),
+        Err(AllocError) => {
+            if is_first {
+                first.forget(owner.unique);
+            }
+            Err(AllocError)
+        }
+    }
 }

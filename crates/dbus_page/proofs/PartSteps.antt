@@ -12,7 +12,7 @@ use Rattle.dbus_page.specs.Parts.{AreTimed, time_in, time_of}
 use Rattle.dbus_page.specs.declared.unpacking.PagePart.{PagePart}
 
 -- one part more
-pub timed_more : (packets : Packets) (begin end next : ℕ) (parts : List PagePart) (part : PagePart) → AreTimed packets begin parts end → part.start ≡ end → end ≤ next
+pub timed_more : (packets : Packets) (begin end next : ℕ) (parts : List PagePart) (part : PagePart) → AreTimed packets begin parts end → part.start ≡ end → end < next
     → ((i : ℕ) → end ≤ i → i < next → time_in (packets i) ≡ time_of part) → AreTimed packets begin (parts ++ part ∷ []) next
 timed_more packets begin end next [] part are starts le timed = (next, starts ∙ sym are, omega (arith, are, le), λ i from to. timed i (omega (arith, are, from)) to, refl)
 timed_more packets begin end next (p ∷ parts) part are starts le timed = (are.0, are.1, are.2, are.3, timed_more packets are.0 end next parts part are.4 starts le timed)
@@ -61,17 +61,17 @@ module _ {S : Type 0} (left : S → Option (List ℕ)) (packets : S → Option P
       subst (λ (l : List ℕ). Consumes (left old) (left new) l) (nothing ∙ sym front) (Consumes-trans _ _ _ _ _ u.read consumed)
 
   pub more_read : (old now new : S) (room part : List ℕ) (size m count : ℕ) (parts : List PagePart) (number : ℕ) (x : PagePart) (packet : Option Packet)
-      → ReadsUpTo left packets old now room size parts number → count ≤ length part → number < length parts
+      → ReadsUpTo left packets old now room size parts number → 0 < count → count ≤ length part → number < length parts
       → Consumes (left now) (left new) (take count part) → PacketsAfter count (packets now) (packets new) → AreOfPacket count (packets now) packet
       → x.start ≡ size → time_of x ≡ time_in packet
       → take (size + count) (put_mid size m room part) ≡ take size room ++ take count part
       → ReadsUpTo left packets old new (put_mid size m room part) (size + count) (set parts number x) (number + 1)
-  more_read old now new room part size m count parts number x packet u within place consumed after of starts timed front = record {
+  more_read old now new room part size m count parts number x packet u some within place consumed after of starts timed front = record {
     within = omega (arith, ap length front, length-append (take size room) (take count part), length-take (size + count) (put_mid size m room part), length-take size room, length-take count part, u.within, within);
     read = subst (λ (l : List ℕ). Consumes (left old) (left new) l) (sym front) (Consumes-trans _ _ _ _ _ u.read consumed);
     after = after_both size count (packets old) (packets now) (packets new) u.after after;
     timed = λ p is.
         let known = subst (λ (o : Option Packets). PacketsAfter size o (packets now)) is u.after in
         subst (λ (l : List PagePart). AreTimed p 0 l (size + count)) (sym (take_more_set parts number x place))
-        (timed_more p 0 size (size + count) (take number parts) x (u.timed p is) starts (omega arith) (λ i from to. ap time_in (of_packet size count p (packets now) packet known of i from to) ∙ sym timed));
+        (timed_more p 0 size (size + count) (take number parts) x (u.timed p is) starts (omega (arith, some)) (λ i from to. ap time_in (of_packet size count p (packets now) packet known of i from to) ∙ sym timed));
   }

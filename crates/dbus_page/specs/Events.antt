@@ -16,17 +16,18 @@ use Rattle.dbus_page.specs.declared.event.PageEvent.{PageEvent}
 use Rattle.dbus_page.specs.declared.event.Told.{Told}
 use Rattle.dbus_page.specs.declared.event.TheConstants as the
 
--- the number of an event, its serial, its caller and the sender of a reply
+-- the number of an event, its serial, its caller and the sender of a reply; of those that it has not,
+-- 0 and no text
 abbrev pub IsEvent : (number serial : ℕ) (caller sender : List ℕ) → Event → Type 0
-IsEvent number serial caller sender (Calls c s wants) = (number ≡ (if wants then the.CALL else the.CALL_WITHOUT_REPLY)) × (serial ≡ s) × (caller ≡ c)
+IsEvent number serial caller sender (Calls c s wants) = (number ≡ (if wants then the.CALL else the.CALL_WITHOUT_REPLY)) × (serial ≡ s) × (caller ≡ c) × (sender ≡ [])
 IsEvent number serial caller sender (Replies c s from) = (number ≡ the.REPLY) × (serial ≡ s) × (caller ≡ c) × (sender ≡ unwrap_or from [])
-IsEvent number serial caller sender (Leaves name) = (number ≡ the.DEPARTURE) × (caller ≡ name)
-IsEvent number serial caller sender Passes = number ≡ the.OTHER
+IsEvent number serial caller sender (Leaves name) = (number ≡ the.DEPARTURE) × (serial ≡ 0) × (caller ≡ name) × (sender ≡ [])
+IsEvent number serial caller sender Passes = (number ≡ the.OTHER) × (serial ≡ 0) × (caller ≡ []) × (sender ≡ [])
 
--- the number of what is said of the owner of a name
+-- the number of what is said of the owner of a name, the name, and the owner, if it tells one
 abbrev pub IsChange : (number : ℕ) (name unique : List ℕ) → Change → Type 0
 IsChange number name unique (Owned o) = (number ≡ the.OWNED) × (name ≡ o.name) × (unique ≡ o.unique)
-IsChange number name unique (Free n) = (number ≡ the.FREE) × (name ≡ n)
+IsChange number name unique (Free n) = (number ≡ the.FREE) × (name ≡ n) × (unique ≡ [])
 IsChange number name unique (Lost o) = (number ≡ the.LOST) × (name ≡ o.name) × (unique ≡ o.unique)
 
 -- the number of what a call asks of a name
@@ -35,13 +36,14 @@ asks Caller = the.ASKED_FOR_CALLER
 asks Value = the.ASKED_FOR_OWNER
 asks Sender = the.ASKED_BY_NAME
 
-abbrev pub IsAsked : (number : ℕ) (name : List ℕ) → Option NameCall → Type 0
-IsAsked number name None = number ≡ the.NOTHING
-IsAsked number name (Some call) = (number ≡ asks call.holder) × (name ≡ call.name)
+-- the number of what a message asks of a name, and the name; it tells no owner
+abbrev pub IsAsked : (number : ℕ) (name unique : List ℕ) → Option NameCall → Type 0
+IsAsked number name unique None = (number ≡ the.NOTHING) × (name ≡ []) × (unique ≡ [])
+IsAsked number name unique (Some call) = (number ≡ asks call.holder) × (name ≡ call.name) × (unique ≡ [])
 
 -- what a message says of a name, or else asks
 abbrev pub IsSaid : (number : ℕ) (name unique : List ℕ) → Option Change → (asked : Option NameCall) → Type 0
-IsSaid number name unique None asked = IsAsked number name asked
+IsSaid number name unique None asked = IsAsked number name unique asked
 IsSaid number name unique (Some change) asked = IsChange number name unique change
 
 -- the owner that a message tells as the reply to a call of each kind, or no text
@@ -65,6 +67,7 @@ pub record Tells (e : PageEvent) (text : List ℕ) (m : MessageTree) : Type 0 wh
   pub call_lengths : (e.caller ≡ length caller) × (e.sender ≡ length sender)
   pub name_lengths : (e.name ≡ length name) × (e.unique ≡ length unique)
   pub holder_lengths : (e.for_caller ≡ length for_caller) × (e.for_owner ≡ length for_owner) × (e.by_name ≡ length by_name)
+  pub reserved : e.reserved ≡ 0
   pub event : IsEvent e.event e.serial caller sender (event_of m)
   pub said : IsSaid e.says name unique (wanted_change is_well_known (change_of m)) (asked_by is_well_known m)
   pub holders : AreHolders for_caller for_owner by_name m
@@ -74,5 +77,6 @@ pub record IsTold (e : PageEvent) (t : Told) : Type 0 where
   pub call_lengths : (e.caller ≡ length t.event.caller.now) × (e.sender ≡ length t.event.sender.now)
   pub name_lengths : (e.name ≡ length t.said.name.now) × (e.unique ≡ length t.said.unique.now)
   pub holder_lengths : (e.for_caller ≡ length t.holders.for_caller.now) × (e.for_owner ≡ length t.holders.for_owner.now) × (e.by_name ≡ length t.holders.by_name.now)
+  pub reserved : e.reserved ≡ 0
   pub event : (e.event ≡ t.event.event) × (e.serial ≡ t.event.serial)
   pub says : e.says ≡ t.said.says

@@ -15,12 +15,12 @@ time_in (Some packet) = packet.time
 abbrev pub time_of : PagePart → Option ℕ
 time_of part = time_if part.has_time part.time
 
--- The parts are those of the bytes from a place on up to another: each begins where the one before
--- it ends, and has the time of the packet of each of its bytes.
+-- The parts are those of the bytes from a place on up to another: each has bytes, begins where the
+-- one before it ends, and has the time of the packet of each of its bytes.
 abbrev pub AreTimed : Packets → (begin : ℕ) → List PagePart → (end : ℕ) → Type 0
 AreTimed packets begin [] end = begin ≡ end
 AreTimed packets begin (part ∷ parts) end =
-    (next : ℕ) × (part.start ≡ begin) × (begin ≤ next) × ((i : ℕ) → begin ≤ i → i < next → time_in (packets i) ≡ time_of part)
+    (next : ℕ) × (part.start ≡ begin) × (begin < next) × ((i : ℕ) → begin ≤ i → i < next → time_in (packets i) ≡ time_of part)
     × AreTimed packets next parts end
 
 -- there is no more room: each byte of it, or each part, is filled

@@ -221,7 +221,7 @@ fn change_said(change: OwnerChange<'_>) -> Said<'_>
 // What it asks of a name that is wanted.
 fn asked<'a>(view: &MessageView<'a>) -> Said<'a>
     ensures { (order : Order) (m : MessageTree) → Views view.now order m →
-        IsAsked result.says result.name.now (asked_by is_well_known m) }
+        IsAsked result.says result.name.now result.unique.now (asked_by is_well_known m) }
 {
     match asked_by(view, &WellKnownNames) {
         Some(call) => Said {

@@ -166,6 +166,7 @@ pub extern "C" fn dbus_page_unpack(
         given (fresh false stages.Start) file.now ≡ take unpacked.new.length room.new }
     ensures timed { AreTimed (packet_given (fresh false stages.Start) file.now) 0
         (take unpacked.new.parts parts.new) unpacked.new.length }
+    ensures answers { (result ≡ WHOLE) ⊎ (result ≡ NO_ROOM) }
     ensures full { result ≡ NO_ROOM →
         IsFull room.new parts.new unpacked.new.length unpacked.new.parts }
     ensures fault { result ≡ WHOLE →

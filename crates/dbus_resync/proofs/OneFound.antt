@@ -4,7 +4,8 @@ use Rattle.std.specs.Prelude.{sum, slice_index}
 use Rattle.std.proofs.lemmas.List.{drop-drop, length-drop}
 use Rattle.std.proofs.lemmas.List.Sums.{sum_by-append}
 use Rattle.dbus_value_model.specs.declared.limits.Limits.{Limits}
-use Rattle.dbus_resync.specs.Search.{AreLooked, Looks, LooksBefore, OneFound, Searches}
+use Rattle.dbus_resync.specs.Search.{AreLooked, Finds, KeepsEffort, Looks, LooksBefore, OneFound}
+use Rattle.dbus_resync.specs.declared.found.Found.{Found}
 use Rattle.dbus_resync.specs.declared.found.Found.TheVariants.{At, Nowhere, Spent}
 use Rattle.dbus_resync.proofs.DamagedLaws.{begins_inside, not_before, one_first}
 use Rattle.dbus_resync.proofs.Steps.{looks_once, looks_nothing}
@@ -59,36 +60,53 @@ module _ (limits : Limits) where
       let few = past_looked bytes a.0 b.0 a.1 b.1 (omega (arith, a.2)) in
       omega (arith, few, a.3, b.3)
 
+  -- as much is looked at for as many offsets
+  same_looked : (bytes : List ℕ) (offset further total more : ℕ) → LooksBefore limits bytes offset total → LooksBefore limits bytes further more → offset ≡ further → total ≡ more
+  same_looked bytes offset further total more a b same =
+      let up = up_to bytes offset further total more a b (omega (arith, same)) in
+      let down = up_to bytes further offset more total b a (omega (arith, same)) in
+      omega (arith, up, down)
+
   module _ (bytes : List ℕ) (effort : ℕ) where
+    abbrev Is : (looked : ℕ) → Found → Type 0
+    Is looked found = Finds limits bytes found × KeepsEffort limits bytes effort looked found
+
     -- a message that is found begins before the bytes' end
-    at_none : (offset : ℕ) → Searches limits bytes effort (At offset) → Searches limits bytes effort Nowhere → ⊥
-    at_none offset a n =
-        let inside = begins_inside limits bytes offset a.finds.begins in
-        let after = not_before limits bytes (length bytes) offset n.finds a.finds.begins in
+    at_none : (offset looked more : ℕ) → Is looked (At offset) → Is more Nowhere → ⊥
+    at_none offset looked more a n =
+        let inside = begins_inside limits bytes offset a.0.begins in
+        let after = not_before limits bytes (length bytes) offset n.0 a.0.begins in
         omega (arith, inside, after)
 
-    at_spent : (offset : ℕ) → Searches limits bytes effort (At offset) → Searches limits bytes effort Spent → ⊥
-    at_spent offset a s =
-        let k = a.keeps_effort in
-        let l = s.keeps_effort in
-        let after = not_before limits bytes l.0 offset l.1 a.finds.begins in
-        let few = up_to bytes (l.0 + 1) (offset + 1) l.2 k.0 l.3 k.1 (omega (arith, after)) in
-        omega (arith, few, k.2, l.4)
+    at_spent : (offset looked more : ℕ) → Is looked (At offset) → Is more Spent → ⊥
+    at_spent offset looked more a s =
+        let k = a.1 in
+        let l = s.1 in
+        let after = not_before limits bytes l.1 offset l.2 a.0.begins in
+        let few = up_to bytes (l.1 + 1) (offset + 1) l.3 looked l.4 k.0 (omega (arith, after)) in
+        omega (arith, few, k.1, l.5)
 
-    none_spent : Searches limits bytes effort Nowhere → Searches limits bytes effort Spent → ⊥
-    none_spent n s =
-        let k = n.keeps_effort in
-        let l = s.keeps_effort in
-        let few = past bytes (l.0 + 1) k.0 l.2 k.1 l.3 in
-        omega (arith, few, k.2, l.4)
+    none_spent : (looked more : ℕ) → Is looked Nowhere → Is more Spent → ⊥
+    none_spent looked more n s =
+        let k = n.1 in
+        let l = s.1 in
+        let few = past bytes (l.1 + 1) looked l.3 k.0 l.4 in
+        omega (arith, few, k.1, l.5)
+
+    one : (found other : Found) (looked more : ℕ) → Is looked found → Is more other → (found ≡ other) × (looked ≡ more)
+    one (At n) (At k) looked more s t =
+        let same = one_first limits bytes n k s.0 t.0 in
+        (ap At same, same_looked bytes (n + 1) (k + 1) looked more s.1.0 t.1.0 (ap (λ (m : ℕ). m + 1) same))
+    one (At n) Nowhere looked more s t = absurd (at_none n looked more s t)
+    one (At n) Spent looked more s t = absurd (at_spent n looked more s t)
+    one Nowhere (At k) looked more s t = absurd (at_none k more looked t s)
+    one Nowhere Nowhere looked more s t = (refl, same_looked bytes (length bytes) (length bytes) looked more s.1.0 t.1.0 refl)
+    one Nowhere Spent looked more s t = absurd (none_spent looked more s t)
+    one Spent (At k) looked more s t = absurd (at_spent k more looked t s)
+    one Spent Nowhere looked more s t = absurd (none_spent more looked t s)
+    one Spent Spent looked more s t = (refl, s.1.0 ∙ sym t.1.0)
 
 pub one_found : OneFound
-one_found limits bytes effort (At n) (At k) s t = ap At (one_first limits bytes n k s.finds t.finds)
-one_found limits bytes effort (At n) Nowhere s t = absurd (at_none limits bytes effort n s t)
-one_found limits bytes effort (At n) Spent s t = absurd (at_spent limits bytes effort n s t)
-one_found limits bytes effort Nowhere (At k) s t = absurd (at_none limits bytes effort k t s)
-one_found limits bytes effort Nowhere Nowhere s t = refl
-one_found limits bytes effort Nowhere Spent s t = absurd (none_spent limits bytes effort s t)
-one_found limits bytes effort Spent (At k) s t = absurd (at_spent limits bytes effort k t s)
-one_found limits bytes effort Spent Nowhere s t = absurd (none_spent limits bytes effort t s)
-one_found limits bytes effort Spent Spent s t = refl
+one_found limits bytes effort s t a b =
+    let same = one limits bytes effort s.found t.found s.looked t.looked (a.finds, a.keeps_effort) (b.finds, b.keeps_effort) in
+    λ i. record { found = same.0 i; looked = same.1 i }

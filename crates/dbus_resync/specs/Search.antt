@@ -9,6 +9,7 @@ use Rattle.dbus_header.specs.NoMessage.{BeginsWithNone}
 use Rattle.dbus_header.specs.StatedLengths.{StatesLength}
 use Rattle.dbus_resync.specs.declared.found.Found.{Found}
 use Rattle.dbus_resync.specs.declared.found.Found.TheVariants.{At, Nowhere, Spent}
+use Rattle.dbus_resync.specs.declared.found.Searched.{Searched}
 
 -- a message within the limits begins at the offset, and all of it is there
 abbrev pub BeginsAt : Limits → List ℕ → (offset : ℕ) → Type 0
@@ -44,19 +45,20 @@ pub record AreLooked (limits : Limits) (bytes : List ℕ) (looked : List ℕ) : 
 abbrev pub LooksBefore : Limits → List ℕ → (offset total : ℕ) → Type 0
 LooksBefore limits bytes offset total = (looked : List ℕ) × AreLooked limits bytes looked × (length looked ≡ offset) × (total ≡ sum looked)
 
--- what is looked at keeps to the effort, which alone can keep a message from being found
-abbrev pub KeepsEffort : Limits → List ℕ → (effort : ℕ) → Found → Type 0
-KeepsEffort limits bytes effort (At offset) = (total : ℕ) × LooksBefore limits bytes (offset + 1) total × (total ≤ effort)
-KeepsEffort limits bytes effort Nowhere = (total : ℕ) × LooksBefore limits bytes (length bytes) total × (total ≤ effort)
-KeepsEffort limits bytes effort Spent = (offset : ℕ) × NoneBefore limits bytes offset × (total : ℕ) × LooksBefore limits bytes (offset + 1) total × (effort < total)
+-- so many bytes are looked at in all, which is within the effort; that alone can keep a message from
+-- being found, and all of it counts then
+abbrev pub KeepsEffort : Limits → List ℕ → (effort looked : ℕ) → Found → Type 0
+KeepsEffort limits bytes effort looked (At offset) = LooksBefore limits bytes (offset + 1) looked × (looked ≤ effort)
+KeepsEffort limits bytes effort looked Nowhere = LooksBefore limits bytes (length bytes) looked × (looked ≤ effort)
+KeepsEffort limits bytes effort looked Spent = (looked ≡ effort) × (offset : ℕ) × NoneBefore limits bytes offset × (total : ℕ) × LooksBefore limits bytes (offset + 1) total × (effort < total)
 
 -- what a search within an effort comes to
-pub record Searches (limits : Limits) (bytes : List ℕ) (effort : ℕ) (found : Found) : Type 0 where
-  pub finds : Finds limits bytes found
-  pub keeps_effort : KeepsEffort limits bytes effort found
+pub record Searches (limits : Limits) (bytes : List ℕ) (effort : ℕ) (s : Searched) : Type 0 where
+  pub finds : Finds limits bytes s.found
+  pub keeps_effort : KeepsEffort limits bytes effort s.looked s.found
 
 -- ---- laws
 
 -- A search comes to one thing.
 abbrev pub OneFound : Type 0
-OneFound = (limits : Limits) (bytes : List ℕ) (effort : ℕ) (found other : Found) → Searches limits bytes effort found → Searches limits bytes effort other → found ≡ other
+OneFound = (limits : Limits) (bytes : List ℕ) (effort : ℕ) (s t : Searched) → Searches limits bytes effort s → Searches limits bytes effort t → s ≡ t

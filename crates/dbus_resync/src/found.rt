@@ -11,3 +11,12 @@ pub enum Found {
     /// the next would take more.
     Spent,
 }
+
+/// What a search comes to, and how many bytes it looked at.
+#[derive(Clone, Copy, Debug, PartialEq, Eq)]
+pub struct Searched {
+    /// What it comes to.
+    pub found: Found,
+    /// How many bytes it looked at; all of its effort if that is spent.
+    pub looked: usize,
+}

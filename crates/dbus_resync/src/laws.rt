@@ -8,8 +8,8 @@ pub fn one_way()
     ensures { OneWay }
 {}
 
-/// Damage costs no message after it: whatever the bytes before a valid message are, no more than
-/// these are lost, if the window has all of them and the message.
+/// Whatever the bytes before a valid message are, the next message begins behind them at the
+/// latest, if the window has all of them and that message.
 pub fn next_is_met()
     ensures { NextIsMet }
 {}

@@ -11,5 +11,5 @@ mod found;
 pub mod laws;
 mod search;
 
-pub use found::Found;
-pub use search::first_message;
+pub use found::{Found, Searched};
+pub use search::{first_message, size_there};

@@ -8,17 +8,19 @@ use Rattle.std.proofs.lemmas.List.{nil_from_length, take_min}
 use Rattle.dbus_device.specs.Packets.{Packets, PacketsAfter}
 use Rattle.dbus_device.specs.declared.packet.Packet.{Packet}
 use Rattle.dbus_value_model.specs.declared.limits.Limits.{Limits}
-use Rattle.dbus_resync.specs.declared.found.Found.{Found}
+use Rattle.dbus_resync.specs.Search.{Looks as LooksAt}
 use Rattle.dbus_resync.specs.declared.found.Found.TheVariants.{At}
+use Rattle.dbus_resync.specs.declared.found.Searched.{Searched}
 use Rattle.dbus_resync.proofs.OneFound.{one_found}
+use Rattle.dbus_resync.proofs.Steps.{looks_once}
 use Rattle.dbus_stream.specs.Gathering.{GathererState, gathering, fresh, under_way}
-use Rattle.dbus_stream.specs.GoingOn.{ahead_of, GoesBy, GoesTo, IsFoundIn, Looks, LooksAhead, OneResumed, Seeks, StaysThere}
+use Rattle.dbus_stream.specs.GoingOn.{ahead_of, GoesBy, GoesTo, IsFoundIn, Looks, LooksAhead, LooksBehind, OneResumed, ResumesBehind, Seeks, StaysThere}
 use Rattle.dbus_stream.specs.LookingAhead.{HasAhead, IsFar, ReadsTo, StandsBefore}
 use Rattle.dbus_stream.specs.Next.{ReadsNothing, ReadsWhile}
 use Rattle.dbus_stream.specs.Packets.{KeepsPackets}
 use Rattle.dbus_stream.specs.RawReading as raw
 use Rattle.dbus_stream.specs.Reading.{source_of, part_of, done_of, read_of, last_of, is_ended, packed_of, stopped_of}
-use Rattle.dbus_stream.specs.Steps.{Calls, Drops, FillsBy}
+use Rattle.dbus_stream.specs.Steps.{Calls, Drops, EachGave, FillsBy}
 use Rattle.dbus_stream.specs.Taking.{Taking}
 use Rattle.dbus_stream.specs.contracts.buffer.LargeBuffer.TheImpl.{ghosts}
 use Rattle.dbus_stream.specs.declared.buffer.Buffer.{Ghosts}
@@ -27,7 +29,7 @@ use Rattle.dbus_stream.specs.declared.raw_reader.RawReader.{RawReader}
 use Rattle.dbus_stream.specs.declared.read_fault.ReadFault.{ReadFault}
 use Rattle.dbus_stream.specs.declared.read_fault.ReadFault.TheVariants.{Memory, Format, Device, TooManyReads}
 use Rattle.dbus_stream.specs.declared.reader.Reader.{Reader}
-use Rattle.dbus_stream.proofs.NextSteps.{gave, reads_from, reads_none, reads_one, reads_put, reads_still}
+use Rattle.dbus_stream.proofs.NextSteps.{each_more, reads_from, reads_none, reads_one, reads_put, reads_still}
 use Rattle.dbus_stream.proofs.PassSteps.{stands}
 use Rattle.dbus_stream.proofs.SizeSteps.{size_once}
 
@@ -40,7 +42,7 @@ module _ {R T B A G : Type 0} {b : Ghosts B} (k : Taking T G) (left : R → Opti
   pub record HasLooked (bytes : List ℕ) (mid : Reader R T B A b) : Type 0 where
     pub has : HasAhead k left calls far front bytes old mid
     -- each read gave a byte
-    pub paid : is_ended mid ≡ false → has.reads.count ≤ length has.reads.bytes
+    pub each : is_ended mid ≡ false → EachGave left calls has.reads.count (source_of old) has.reads.bytes (source_of mid)
 
   pub looked_none : part_of old ≡ [] → HasLooked front old
   looked_none drained = record {
@@ -53,12 +55,12 @@ module _ {R T B A G : Type 0} {b : Ghosts B} (k : Taking T G) (left : R → Opti
       done = omega arith;
       stopped = refl;
     };
-    paid = λ open_. omega arith;
+    each = λ open_. (refl, refl);
   }
 
   module _ (bytes : List ℕ) (mid filled : Reader R T B A b) (h : HasLooked bytes mid) (short : length bytes < far) (open_ : is_ended mid ≡ false) (c : Calls calls mid filled) (came : List ℕ) (f : FillsBy left came mid filled) where
     abbrev reads_more : ReadsTo k left calls far front old filled
-    reads_more = reads_one k IsShort left calls old mid filled h.has.reads open_ (h.paid open_) (subst (λ (l : List ℕ). length l < far) h.has.bytes_are short) c came f
+    reads_more = reads_one k IsShort left calls old mid filled h.has.reads open_ (h.each open_) (subst (λ (l : List ℕ). length l < far) h.has.bytes_are short) c came f
 
     -- one more read
     pub looked_more : is_ended filled ≡ nat_eq (length came) 0 → (count : ℕ) → count ≡ length (part_of filled) → (new : Reader R T B A b) → Drops count filled new → ReadsNothing k filled new
@@ -73,11 +75,9 @@ module _ {R T B A G : Type 0} {b : Ghosts B} (k : Taking T G) (left : R → Opti
         done = (let all = length-append h.has.reads.bytes came in let part = ap length f.buffers.left in omega (arith, d.done, c.done, h.has.done, size, all, part));
         stopped = d.stopped ∙ (c.stopped ∙ h.has.stopped);
       };
-      paid = λ more.
-          let paid = h.paid open_ in
-          let some = gave came (is_ended filled) ended (sym n.ended ∙ more) in
-          let all = length-append h.has.reads.bytes came in
-          omega (arith, paid, some, all);
+      each = λ more.
+          let each = each_more left calls h.has.reads.count (source_of old) h.has.reads.bytes came mid filled (h.each open_) c f ended (sym n.ended ∙ more) in
+          subst (EachGave left calls (h.has.reads.count + 1) (source_of old) (h.has.reads.bytes ++ came)) (sym n.source) each;
     }
 
     -- or one that failed
@@ -120,7 +120,7 @@ whole_part bytes count is =
 -- ---- a reader of raw messages
 
 -- among the bytes of the window
-pub found_in : (by_size : Bool) (limits : Limits) (window effort looked : ℕ) (ended : Bool) (w part : List ℕ) (found : Found) → part ≡ w → looked ≡ min window (length part) → (ahead_of window ≤ length w) ⊎ (ended ≡ true)
+pub found_in : (by_size : Bool) (limits : Limits) (window effort looked : ℕ) (ended : Bool) (w part : List ℕ) (found : Searched) → part ≡ w → looked ≡ min window (length part) → (ahead_of window ≤ length w) ⊎ (ended ≡ true)
     → Seeks by_size limits window effort (take looked part) found → IsFoundIn by_size limits window effort ended w found
 found_in by_size limits window effort looked ended w part found same size enough s =
     let all : take looked part ≡ take window w = ap (λ (n : ℕ). take n part) size ∙ (take_min window part ∙ ap (take window) same) in
@@ -187,11 +187,11 @@ module _ {R A : Type 0} where
     stays_ahead window l = stays_put l.part l.taker l.done l.stopped
 
     -- an error leaves all there
-    pub fails_ahead : (by_size : Bool) (window effort : ℕ) (fault : ReadFault) → Looks w old new window (Err fault) → GoesBy w old new by_size window effort (Err fault)
-    fails_ahead by_size window effort Memory l = l
-    fails_ahead by_size window effort (Format fault) l = absurd l
-    fails_ahead by_size window effort Device l = l
-    fails_ahead by_size window effort TooManyReads l = l
+    pub fails_ahead : (by_size : Bool) (window : ℕ) (fault : ReadFault) → Looks w old new window (Err fault) → GoesBy w old new by_size window (Err fault)
+    fails_ahead by_size window Memory l = l
+    fails_ahead by_size window (Format fault) l = absurd l
+    fails_ahead by_size window Device l = l
+    fails_ahead by_size window TooManyReads l = l
 
   -- nothing more is read
   pub looks_there : (window : ℕ) (old new : RawReader R A) → old.reader.held ≡ 0 → (window ≤ length (part_of old.reader)) ⊎ (raw.is_ended old ≡ true) → part_of new.reader ≡ part_of old.reader → new.reader.taker ≡ fresh (raw.limits_of old)
@@ -280,8 +280,32 @@ module _ {R A : Type 0} where
 
 -- ---- one place
 
+-- as many are looked at first
+one_behind : (limits : Limits) (bytes : List ℕ) (n k : ℕ) → LooksBehind limits bytes n → LooksBehind limits bytes k → n ≡ k
+one_behind limits bytes n k (inl a) (inl b) =
+    let same = size_once limits bytes b.0 a.0 b.1 a.1 in
+    looks_once limits (drop a.0 bytes) n k a.3 (subst (λ (m : ℕ). LooksAt limits (drop m bytes) k) (sym same) b.3)
+one_behind limits bytes n k (inl a) (inr b) = absurd (let past = b.0 a.0 a.1 in omega (arith, past, a.2))
+one_behind limits bytes n k (inr a) (inl b) = absurd (let past = a.0 b.0 b.1 in omega (arith, past, b.2))
+one_behind limits bytes n k (inr a) (inr b) = a.1 ∙ sym b.1
+
+module _ (limits : Limits) (window effort behind : ℕ) (bytes : List ℕ) (s t : Searched) where
+  one_after : ResumesBehind limits window effort behind bytes s → ResumesBehind limits window effort behind bytes t → s ≡ t
+  one_after (inl a) (inl b) = a.1 ∙ sym b.1
+  one_after (inl a) (inr b) = absurd (omega (arith, a.0, b.0))
+  one_after (inr a) (inl b) = absurd (omega (arith, a.0, b.0))
+  one_after (inr a) (inr b) = elim a.1 [
+    | inl led ↦ elim b.1 [
+      | inl too ↦ led.2 ∙ (ap (λ (n : ℕ). record { found = At n; looked = behind }) (size_once limits bytes too.0 led.0 too.1.states led.1.states) ∙ sym too.2)
+      | inr first ↦ absurd (first.0 led.0 led.1)
+    ]
+    | inr first ↦ elim b.1 [
+      | inl led ↦ absurd (first.0 led.0 led.1)
+      | inr too ↦ first.3 ∙ (ap (λ (f : Searched). record { found = f.found; looked = behind + f.looked }) (one_found limits bytes (effort - behind) first.1 too.1 first.2 too.2) ∙ sym too.3)
+    ]
+  ]
+
 pub one_resumed : OneResumed
-one_resumed limits window effort bytes found other (inl a) (inl b) = a.2 ∙ (ap At (size_once limits bytes b.0 a.0 b.1.states a.1.states) ∙ sym b.2)
-one_resumed limits window effort bytes found other (inl a) (inr b) = absurd (b.0 a.0 a.1)
-one_resumed limits window effort bytes found other (inr a) (inl b) = absurd (a.0 b.0 b.1)
-one_resumed limits window effort bytes found other (inr a) (inr b) = one_found limits bytes effort found other a.1 b.1
+one_resumed limits window effort bytes s t a b =
+    let same = one_behind limits bytes b.0 a.0 b.1 a.1 in
+    one_after limits window effort a.0 bytes s t a.2 (subst (λ (n : ℕ). ResumesBehind limits window effort n bytes t) same b.2)

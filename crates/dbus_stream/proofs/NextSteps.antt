@@ -1,6 +1,6 @@
 -- The steps of `next`: what was read so far, one more read, and the answer.
-use Rattle.std.proofs.Common.{◌≡◌, ℕ, ◌+◌, ◌*◌, ◌<◌, ◌≤◌, ◌^◌, ◌%◌, List, [], ◌∷◌, ◌++◌, Bool, true, false, None, Some, Ok, Err, Option, Result, length, refl, sym, ap, ◌∙◌, subst, arith, append_assoc, append-nil, length-append, inl, inr}
-use Rattle.std.specs.Prelude.{nat_eq}
+use Rattle.std.proofs.Common.{◌≡◌, ℕ, ◌+◌, ◌*◌, ◌<◌, ◌≤◌, ◌^◌, ◌%◌, List, [], ◌∷◌, ◌++◌, Bool, true, false, None, Some, Ok, Err, Option, Result, length, refl, sym, ap, ◌∙◌, subst, arith, append_assoc, append-nil, inl, inr}
+use Rattle.std.specs.Prelude.{nat_eq, ◌-◌, suc}
 use Rattle.std.specs.Io.KnownBytes.{Consumes, IsAtEnd}
 use Rattle.std.proofs.KnownBytes.{Consumes-nil, Consumes-trans, Consumes-kept}
 use Rattle.std.proofs.Math.Nat.{mul-le-mul_left}
@@ -17,7 +17,7 @@ use Rattle.dbus_stream.specs.Lasting.{is_lasting}
 use Rattle.dbus_stream.specs.LookingAhead.{StandsBefore}
 use Rattle.dbus_stream.specs.Next.{NextAnswers, KeptAnswers, DeviceCounts, Reads, ReadsWhile, KeepsAll, IsCutShort, ReadsNothing}
 use Rattle.dbus_stream.specs.Reading.{limits_of, source_of, part_of, done_of, reads_of, most_reads_of, is_ended, stopped_of, Keeps}
-use Rattle.dbus_stream.specs.Steps.{Buffers, Stops, Calls, FillsBy, FillsNone}
+use Rattle.dbus_stream.specs.Steps.{Buffers, Stops, Calls, EachGave, FillsBy, FillsNone}
 use Rattle.dbus_stream.specs.Taking.{Taking}
 
 -- a count that rose by k rises once more
@@ -54,7 +54,7 @@ module _ {R T B A G : Type 0} {b : Ghosts B} (k : Taking T G) (Needed : List ℕ
     bytes = [];
     count = 0;
     consumed = Consumes-nil (left (source_of old));
-    few = omega arith;
+    each = (refl, refl);
     last = [];
     before = [];
     joined = refl;
@@ -76,7 +76,7 @@ module _ {R T B A G : Type 0} {b : Ghosts B} (k : Taking T G) (Needed : List ℕ
   reads_still old mid new r n = record {
     bytes = r.bytes;
     count = r.count;
-    few = r.few;
+    each = r.each;
     last = r.last;
     before = r.before;
     joined = r.joined;
@@ -99,7 +99,7 @@ module _ {R T B A G : Type 0} {b : Ghosts B} (k : Taking T G) (Needed : List ℕ
   reads_put bytes old mid new r n = record {
     bytes = r.bytes;
     count = r.count;
-    few = r.few;
+    each = r.each;
     last = r.last;
     before = r.before;
     joined = r.joined;
@@ -123,7 +123,7 @@ module _ {R T B A G : Type 0} {b : Ghosts B} (k : Taking T G) (Needed : List ℕ
   reads_from Wanted old mid new n wanted r = record {
     bytes = r.bytes;
     count = r.count;
-    few = r.few;
+    each = subst (λ (s : R). EachGave left calls (r.count - 1) s r.before r.between) n.source r.each;
     last = r.last;
     before = r.before;
     joined = r.joined;
@@ -142,13 +142,13 @@ module _ {R T B A G : Type 0} {b : Ghosts B} (k : Taking T G) (Needed : List ℕ
   }
 
   -- one more read, where each gave a byte before
-  abbrev pub reads_one : (old mid new : Reader R T B A b) (r : ReadsWhile k Needed left calls old mid) → is_ended mid ≡ false → r.count ≤ length r.bytes → Needed r.bytes
+  abbrev pub reads_one : (old mid new : Reader R T B A b) (r : ReadsWhile k Needed left calls old mid) → is_ended mid ≡ false → EachGave left calls r.count (source_of old) r.bytes (source_of mid) → Needed r.bytes
       → Calls calls mid new → (bytes : List ℕ) → FillsBy left bytes mid new → ReadsWhile k Needed left calls old new
-  reads_one old mid new r open_ paid wanted c bytes f = record {
+  reads_one old mid new r open_ each wanted c bytes f = record {
     bytes = r.bytes ++ bytes;
     count = r.count + 1;
     consumed = Consumes-trans _ _ _ _ _ r.consumed f.consumed;
-    few = (let all = length-append r.bytes bytes in omega (arith, paid, all));
+    each = (let e : r.count ≡ r.count + 1 - 1 = omega arith in subst (λ (n : ℕ). EachGave left calls n (source_of old) r.bytes (source_of mid)) e each);
     last = bytes;
     before = r.bytes;
     joined = refl;
@@ -164,6 +164,17 @@ module _ {R T B A G : Type 0} {b : Ghosts B} (k : Taking T G) (Needed : List ℕ
     settled = λ e. absurd (both_ways (is_ended mid) (r.settled e).2 open_);
     at_end = λ _ t. f.at_end t;
   }
+
+-- one more call, which is not the end
+pub each_more : {R T B A : Type 0} {b : Ghosts B} (left : R → Option (List ℕ)) (calls : R → ℕ) (n : ℕ) (old : R) (before bytes : List ℕ) (mid new : Reader R T B A b)
+    → EachGave left calls n old before (source_of mid) → Calls calls mid new → FillsBy left bytes mid new → is_ended new ≡ nat_eq (length bytes) 0 → is_ended new ≡ false
+    → EachGave left calls (n + 1) old (before ++ bytes) (source_of new)
+each_more left calls n old before bytes mid new each c f ended more =
+    let some = gave bytes (is_ended new) ended more in
+    let all : EachGave left calls (suc n) old (before ++ bytes) (source_of new)
+    = (source_of mid, before, bytes, refl, (λ none. let nothing = ap length none in absurd (omega (arith, some, nothing))), each, f.consumed, c.called) in
+    let same : suc n ≡ n + 1 = omega arith in
+    subst (λ (m : ℕ). EachGave left calls m old (before ++ bytes) (source_of new)) same all
 
 -- a read that failed adds nothing
 pub adds_none : {R T B A : Type 0} {b : Ghosts B} (left : R → Option (List ℕ)) (old new : Reader R T B A b) → is_ended old ≡ false → FillsNone left old new → FillsBy left [] old new
@@ -203,7 +214,7 @@ module _ {R T B A G : Type 0} {b : Ghosts B} (k : Taking T G) where
       pub kept : Keeps k mid (w ++ reads.bytes)
       pub done : done_of mid ≡ done_of old
       -- each read gave a byte
-      pub paid : is_ended mid ≡ false → reads.count ≤ length reads.bytes
+      pub each : is_ended mid ≡ false → EachGave left calls reads.count (source_of old) reads.bytes (source_of mid)
 
     -- no message ends in what is kept
     pub record Wants (mid : Reader R T B A b) : Type 0 where
@@ -220,7 +231,7 @@ module _ {R T B A G : Type 0} {b : Ghosts B} (k : Taking T G) where
       reads = starts;
       kept = subst (λ l. Keeps k old l) (sym (append-nil w)) kept;
       done = refl;
-      paid = λ open_. omega arith;
+      each = λ open_. (refl, refl);
     }
 
     -- a step that reads nothing
@@ -234,7 +245,7 @@ module _ {R T B A G : Type 0} {b : Ghosts B} (k : Taking T G) where
         reads = unread mid new h.reads n;
         kept = t.0.kept;
         done = t.0.done ∙ h.done;
-        paid = λ open_. h.paid (sym n.ended ∙ open_);
+        each = λ open_. subst (EachGave left calls h.reads.count (source_of old) h.reads.bytes) (sym n.source) (h.each (sym n.ended ∙ open_));
       };
       partial = subst (λ limits. IsPartial limits (w ++ h.reads.bytes)) h.reads.limits t.2;
       rests = t.0.rests;
@@ -304,7 +315,7 @@ module _ {R T B A G : Type 0} {b : Ghosts B} (k : Taking T G) where
     -- one more read, of which these bytes came
     module _ (mid new : Reader R T B A b) (bytes : List ℕ) (h : Wants mid) (drained : part_of mid ≡ []) (open_ : is_ended mid ≡ false) (c : Calls calls mid new) (f : FillsBy left bytes mid new) where
       abbrev reads_more : Reads k left calls w old new
-      reads_more = reads_one k (λ before. IsPartial (limits_of k old) (w ++ before)) left calls old mid new h.so_far.reads open_ (h.so_far.paid open_) h.partial c bytes f
+      reads_more = reads_one k (λ before. IsPartial (limits_of k old) (w ++ before)) left calls old mid new h.so_far.reads open_ (h.so_far.each open_) h.partial c bytes f
 
       keeps_more : Keeps k new (w ++ (h.so_far.reads.bytes ++ bytes))
       keeps_more =
@@ -317,11 +328,7 @@ module _ {R T B A G : Type 0} {b : Ghosts B} (k : Taking T G) where
         reads = reads_more;
         kept = keeps_more;
         done = c.done ∙ h.so_far.done;
-        paid = λ more.
-            let paid = h.so_far.paid open_ in
-            let some = gave bytes (is_ended new) ended_ more in
-            let all = length-append h.so_far.reads.bytes bytes in
-            omega (arith, paid, some, all);
+        each = each_more left calls h.so_far.reads.count (source_of old) h.so_far.reads.bytes bytes mid new (h.so_far.each open_) c f ended_;
       }
 
       -- or none, where it failed

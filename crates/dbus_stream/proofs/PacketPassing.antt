@@ -1,5 +1,5 @@
 -- The steps of passing over to the next packet.
-use Rattle.std.proofs.Common.{◌≡◌, ℕ, ◌+◌, ◌-◌, ◌<◌, ◌≤◌, List, [], false, None, Some, Option, Result, Ok, Err, length, drop, refl, sym, ap, ◌∙◌, arith, length-append, inl, inr}
+use Rattle.std.proofs.Common.{◌≡◌, ℕ, ◌+◌, ◌-◌, ◌<◌, ◌≤◌, List, [], ◌++◌, false, None, Some, Option, Result, Ok, Err, length, drop, refl, sym, ap, ◌∙◌, subst, arith, length-append, inl, inr}
 use Rattle.std.specs.Prelude.{nat_eq}
 use Rattle.std.proofs.Math.Seq.{drop-length}
 use Rattle.std.proofs.lemmas.Bool.{cases_lt}
@@ -13,7 +13,7 @@ use Rattle.dbus_stream.specs.Packets.{HasPackets, KeepsPackets}
 use Rattle.dbus_stream.specs.PassingPackets.{AreOfNumber, DropsAll, IsBeforeOther, IsPast, IsPastAll, PacketAnswers, PastAnswers, ReadsOnward, ReadsPast}
 use Rattle.dbus_stream.specs.RawReading as raw
 use Rattle.dbus_stream.specs.Reading.{source_of, room_of, part_of, done_of, read_of, is_ended, stopped_of}
-use Rattle.dbus_stream.specs.Steps.{Calls, Drops, FillsBy}
+use Rattle.dbus_stream.specs.Steps.{Calls, Drops, EachGave, FillsBy}
 use Rattle.dbus_stream.specs.Taking.{Taking}
 use Rattle.dbus_stream.specs.contracts.buffer.LargeBuffer.TheImpl.{ghosts}
 use Rattle.dbus_stream.specs.declared.buffer.Buffer.{Ghosts}
@@ -24,7 +24,7 @@ use Rattle.dbus_stream.specs.declared.raw_reader.RawReader.{RawReader}
 use Rattle.dbus_stream.specs.declared.read_fault.ReadFault.{ReadFault}
 use Rattle.dbus_stream.specs.declared.read_fault.ReadFault.TheVariants.{Memory, Format, Device, TooManyReads}
 use Rattle.dbus_stream.specs.declared.reader.Reader.{Reader}
-use Rattle.dbus_stream.proofs.NextSteps.{gave, reads_from, reads_none, reads_one, reads_still}
+use Rattle.dbus_stream.proofs.NextSteps.{each_more, reads_from, reads_none, reads_one, reads_still}
 use Rattle.dbus_stream.proofs.PassSteps.{stands}
 
 module _ {R T B A G : Type 0} {b : Ghosts B} (k : Taking T G) (left : R → Option (List ℕ)) (calls : R → ℕ) (packets : R → Option Packets) (packet : R → Option Packet) (number : ℕ) (old : Reader R T B A b) where
@@ -36,14 +36,14 @@ module _ {R T B A G : Type 0} {b : Ghosts B} (k : Taking T G) (left : R → Opti
     pub reads : ReadsPast k left calls packet number old mid
     pub past : IsPastAll k left calls packet number old mid reads
     -- each read gave a byte
-    pub paid : is_ended mid ≡ false → reads.count ≤ length reads.bytes
+    pub each : is_ended mid ≡ false → EachGave left calls reads.count (source_of old) reads.bytes (source_of mid)
     pub of_one : (all : Packets) → HasPackets packets packet all old → AreOfNumber all number (read_of old) (done_of mid)
 
   pub passed_none : part_of old ≡ [] → HasPassed old
   passed_none drained = record {
     reads = reads_none k Always left calls old;
     past = record { taker = refl; held = refl; drained = drained; done = omega arith; stopped = refl };
-    paid = λ open_. omega arith;
+    each = λ open_. (refl, refl);
     of_one = λ all has i from before. absurd (omega (arith, from, before));
   }
 
@@ -63,7 +63,7 @@ module _ {R T B A G : Type 0} {b : Ghosts B} (k : Taking T G) (left : R → Opti
 
   module _ (mid filled : Reader R T B A b) (h : HasPassed mid) (open_ : is_ended mid ≡ false) (c : Calls calls mid filled) (came : List ℕ) (f : FillsBy left came mid filled) where
     abbrev reads_more : ReadsPast k left calls packet number old filled
-    reads_more = reads_one k Always left calls old mid filled h.reads open_ (h.paid open_) tt c came f
+    reads_more = reads_one k Always left calls old mid filled h.reads open_ (h.each open_) tt c came f
 
     -- one more read, of the same packet
     pub passed_more : old.held ≡ 0 → is_ended filled ≡ nat_eq (length came) 0 → KeepsPackets packets packet old filled → (count : ℕ) → count ≡ length (part_of filled) → (0 < count → number_of (packet (source_of filled)) ≡ Some number)
@@ -79,11 +79,9 @@ module _ {R T B A G : Type 0} {b : Ghosts B} (k : Taking T G) (left : R → Opti
             done = (let all = length-append h.reads.bytes came in omega (arith, d.done, c.done, h.past.done, size, all, part));
             stopped = d.stopped ∙ (c.stopped ∙ h.past.stopped);
           };
-          paid = λ more.
-              let paid = h.paid open_ in
-              let some = gave came (is_ended filled) ended (sym n.ended ∙ more) in
-              let all = length-append h.reads.bytes came in
-              omega (arith, paid, some, all);
+          each = λ more.
+              let each = each_more left calls h.reads.count (source_of old) h.reads.bytes came mid filled (h.each open_) c f ended (sym n.ended ∙ more) in
+              subst (EachGave left calls (h.reads.count + 1) (source_of old) (h.reads.bytes ++ came)) (sym n.source) each;
           of_one = λ all has i from before. elim (cases_lt i (done_of mid)) [
             | inl below ↦ h.of_one all has i from below
             | inr above ↦ (

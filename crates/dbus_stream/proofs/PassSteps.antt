@@ -23,12 +23,12 @@ use Rattle.dbus_stream.specs.Lasting.{is_truncated, is_refusal}
 use Rattle.dbus_stream.specs.Next.{ReadsNothing}
 use Rattle.dbus_stream.specs.Passing.{DropsAll, IsRefusal, PassAnswers, ReadsOn, ReadsToSkip, SkipAnswers, Skips, SkipsAll, WasDropped}
 use Rattle.dbus_stream.specs.RawReading.{buffered, limits_of, kept, lent_of, whole_or}
-use Rattle.dbus_stream.specs.Reading.{part_of, done_of, is_ended, stopped_of}
+use Rattle.dbus_stream.specs.Reading.{source_of, part_of, done_of, is_ended, stopped_of}
 use Rattle.dbus_stream.specs.StatedSizes.{StatesNone, StatesSize, WantsMore}
-use Rattle.dbus_stream.specs.Steps.{Drops, Calls, FillsBy}
+use Rattle.dbus_stream.specs.Steps.{Drops, Calls, EachGave, FillsBy}
 use Rattle.dbus_stream.specs.Taking.{Taking}
 use Rattle.dbus_stream.proofs.CutLaws.{no_part, part_size}
-use Rattle.dbus_stream.proofs.NextSteps.{gave, reads_none, reads_still, reads_from, reads_one}
+use Rattle.dbus_stream.proofs.NextSteps.{each_more, reads_none, reads_still, reads_from, reads_one}
 use Rattle.dbus_stream.proofs.SizeSteps.{inside_none, inside_same, inside_wanting}
 
 module _ {R T B A G : Type 0} {b : Ghosts B} (k : Taking T G) (limits : Limits) (gone : List ℕ) (left : R → Option (List ℕ)) (calls : R → ℕ) (old : Reader R T B A b) where
@@ -43,7 +43,7 @@ module _ {R T B A G : Type 0} {b : Ghosts B} (k : Taking T G) (limits : Limits) 
     pub held : mid.held ≡ 0
     pub stopped : stopped_of mid ≡ stopped_of old
     -- each read gave a byte
-    pub paid : is_ended mid ≡ false → reads.count ≤ length reads.bytes
+    pub each : is_ended mid ≡ false → EachGave left calls reads.count (source_of old) reads.bytes (source_of mid)
 
   -- the message's bytes as far as they came
   abbrev pub bytes_of : (mid : Reader R T B A b) → Since mid → List ℕ
@@ -67,7 +67,7 @@ module _ {R T B A G : Type 0} {b : Ghosts B} (k : Taking T G) (limits : Limits) 
   pub skip_held : (mid : Reader R T B A b) (now : Refused) → HasDropped now gone → AreInside limits gone → ReadsNothing k old mid → part_of mid ≡ part_of old → done_of mid ≡ done_of old + old.held
       → mid.taker ≡ old.taker → mid.held ≡ 0 → stopped_of mid ≡ stopped_of old → HasSkipped mid now
   skip_held mid now before inside n part done taker held stopped = record {
-    since = record { reads = reads_still k Short left calls old old mid (reads_none k Short left calls old) n; taker = taker; held = held; stopped = stopped; paid = λ open_. omega arith };
+    since = record { reads = reads_still k Short left calls old old mid (reads_none k Short left calls old) n; taker = taker; held = held; stopped = stopped; each = λ open_. subst (EachGave left calls 0 (source_of old) []) (sym n.source) (refl, refl) };
     more = [];
     all = ap (λ (l : List ℕ). l ++ part_of mid) (append-nil gone) ∙ (ap (λ (l : List ℕ). gone ++ l) part ∙ ap (λ (l : List ℕ). gone ++ l) (sym (append-nil (part_of old))));
     dropped = subst (HasDropped now) (sym (append-nil gone)) before;
@@ -79,7 +79,7 @@ module _ {R T B A G : Type 0} {b : Ghosts B} (k : Taking T G) (limits : Limits) 
     abbrev since_still : ReadsNothing k mid new → new.taker ≡ mid.taker → new.held ≡ mid.held → stopped_of new ≡ stopped_of mid → Since new
     since_still u taker held stopped =
         let s = h.since in
-        record { reads = reads_still k Short left calls old mid new s.reads u; taker = taker ∙ s.taker; held = held ∙ s.held; stopped = stopped ∙ s.stopped; paid = λ open_. s.paid (sym u.ended ∙ open_) }
+        record { reads = reads_still k Short left calls old mid new s.reads u; taker = taker ∙ s.taker; held = held ∙ s.held; stopped = stopped ∙ s.stopped; each = λ open_. subst (EachGave left calls s.reads.count (source_of old) s.reads.bytes) (sym u.source) (s.each (sym u.ended ∙ open_)) }
 
     -- what is left of the buffer is dropped too
     pub skip_rest : (there : Refused) → HasDropped there ((gone ++ h.more) ++ part_of mid) → Drops (length (part_of mid)) mid new → ReadsNothing k mid new
@@ -128,7 +128,7 @@ module _ {R T B A G : Type 0} {b : Ghosts B} (k : Taking T G) (limits : Limits) 
     more_wanted = subst (WantsMore limits) (sym (append_assoc gone (part_of old) h.since.reads.bytes)) wants
 
     abbrev reads_more : ReadsToSkip k limits (gone ++ part_of old) left calls old new
-    reads_more = reads_one k Short left calls old mid new h.since.reads open_ (h.since.paid open_) more_wanted c bytes f
+    reads_more = reads_one k Short left calls old mid new h.since.reads open_ (h.since.each open_) more_wanted c bytes f
 
     -- one more read, which gave bytes, or the end
     pub skip_read : is_ended new ≡ nat_eq (length bytes) 0 → HasSkipped new now
@@ -142,11 +142,7 @@ module _ {R T B A G : Type 0} {b : Ghosts B} (k : Taking T G) (limits : Limits) 
             taker = f.buffers.taker ∙ s.taker;
             held = f.buffers.held ∙ s.held;
             stopped = c.stopped ∙ s.stopped;
-            paid = λ still.
-                let paid = s.paid open_ in
-                let came = gave bytes (is_ended new) ended still in
-                let total = length-append s.reads.bytes bytes in
-                omega (arith, paid, came, total);
+            each = each_more left calls s.reads.count (source_of old) s.reads.bytes bytes mid new (s.each open_) c f ended;
           };
           more = part_of old ++ s.reads.bytes;
           all = ap (λ (l : List ℕ). (gone ++ (part_of old ++ s.reads.bytes)) ++ l) f.buffers.left

@@ -7,6 +7,7 @@ use Rattle.dbus_header.specs.NoMessage.{BeginsWithNone}
 use Rattle.dbus_resync.specs.Search.{BeginsAt, Finds}
 use Rattle.dbus_resync.specs.declared.found.Found.{Found}
 use Rattle.dbus_resync.specs.declared.found.Found.TheVariants.{At}
+use Rattle.dbus_resync.specs.declared.found.Searched.{Searched}
 use Rattle.dbus_resync.proofs.DamagedLaws.{begins_inside}
 use Rattle.dbus_stream.specs.Dropping.{HasDropped}
 use Rattle.dbus_stream.specs.GoingOn.{LeadsNowhere, LeadsOn, Resumes, Seeks}
@@ -61,5 +62,5 @@ module _ (limits : Limits) where
   found_inside bytes found finds offset is = (let inside = begins_inside limits bytes offset (subst (Finds limits bytes) is finds).begins in omega (arith, inside))
 
   -- if that is looked for
-  pub seeks_resumed : (window effort : ℕ) (bytes : List ℕ) (found : Found) (by_size : Bool) → by_size ≡ true → Resumes limits window effort bytes found → Seeks by_size limits window effort bytes found
-  seeks_resumed window effort bytes found by_size on r = subst (λ (b : Bool). Seeks b limits window effort bytes found) (sym on) r
+  pub seeks_resumed : (window effort : ℕ) (bytes : List ℕ) (s : Searched) (by_size : Bool) → by_size ≡ true → Resumes limits window effort bytes s → Seeks by_size limits window effort bytes s
+  seeks_resumed window effort bytes s by_size on r = subst (λ (b : Bool). Seeks b limits window effort bytes s) (sym on) r

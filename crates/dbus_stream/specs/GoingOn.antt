@@ -1,12 +1,13 @@
 -- How a reader goes on behind a message that is refused, where the next message begins. w is what
 -- was kept and then read, and bytes are as many of the input as the window has: fewer only if it
 -- ends there. D-Bus Specification, "Message Format".
-use Rattle.std.specs.Prelude.{◌≡◌, ◌⊎◌, ℕ, ◌+◌, ◌*◌, ◌<◌, ◌≤◌, max, List, [], ◌++◌, Bool, true, false, length, take, drop, Option, None, Some, Result, Ok, Err}
+use Rattle.std.specs.Prelude.{◌≡◌, ◌⊎◌, ℕ, ◌+◌, ◌-◌, ◌*◌, ◌<◌, ◌≤◌, max, min, List, [], ◌++◌, Bool, true, false, length, take, drop, Option, None, Some, Result, Ok, Err}
 use Rattle.dbus_value_model.specs.declared.fault.Fault.{Fault}
 use Rattle.dbus_value_model.specs.declared.limits.Limits.{Limits}
-use Rattle.dbus_resync.specs.Search.{BeginsAt, Searches}
+use Rattle.dbus_resync.specs.Search.{BeginsAt, Looks as LooksAt, Searches}
 use Rattle.dbus_resync.specs.declared.found.Found.{Found}
-use Rattle.dbus_resync.specs.declared.found.Found.TheVariants.{At}
+use Rattle.dbus_resync.specs.declared.found.Found.TheVariants.{At, Spent}
+use Rattle.dbus_resync.specs.declared.found.Searched.{Searched}
 use Rattle.dbus_stream.specs.Gathering.{fresh, gathering}
 use Rattle.dbus_stream.specs.Next as next
 use Rattle.dbus_stream.specs.RawReading as raw
@@ -29,24 +30,61 @@ pub record LeadsOn (limits : Limits) (window : ℕ) (bytes : List ℕ) (size : �
 abbrev pub LeadsNowhere : Limits → (window : ℕ) → List ℕ → Type 0
 LeadsNowhere limits window bytes = (size : ℕ) → LeadsOn limits window bytes size → ⊥
 
--- where messages begin again: where the size leads that the bytes state, or else at the first message
-abbrev pub Resumes : Limits → (window effort : ℕ) → List ℕ → Found → Type 0
-Resumes limits window effort bytes found = ((size : ℕ) × LeadsOn limits window bytes size × (found ≡ At size)) ⊎ (LeadsNowhere limits window bytes × Searches limits bytes effort found)
+-- so many bytes are looked at for a message behind as many as the bytes state; none if these are not
+-- all there
+abbrev pub LooksBehind : Limits → List ℕ → ℕ → Type 0
+LooksBehind limits bytes n = ((size : ℕ) × StatesSize limits bytes size × (size ≤ length bytes) × LooksAt limits (drop size bytes) n)
+    ⊎ (((size : ℕ) → StatesSize limits bytes size → length bytes < size) × (n ≡ 0))
+
+-- where messages begin again: where the size leads that the bytes state, which is looked at first; or
+-- else at the first message; or the effort is spent
+abbrev pub ResumesBehind : Limits → (window effort behind : ℕ) → List ℕ → Searched → Type 0
+ResumesBehind limits window effort behind bytes s = ((effort < behind) × (s ≡ record { found = Spent; looked = effort }))
+    ⊎ ((behind ≤ effort) × (((size : ℕ) × LeadsOn limits window bytes size × (s ≡ record { found = At size; looked = behind }))
+    ⊎ (LeadsNowhere limits window bytes × (first : Searched) × Searches limits bytes (effort - behind) first × (s ≡ record { found = first.found; looked = behind + first.looked }))))
+
+abbrev pub Resumes : Limits → (window effort : ℕ) → List ℕ → Searched → Type 0
+Resumes limits window effort bytes s = (behind : ℕ) × LooksBehind limits bytes behind × ResumesBehind limits window effort behind bytes s
 
 -- the one or the other is looked for
-abbrev pub Seeks : (by_size : Bool) → Limits → (window effort : ℕ) → List ℕ → Found → Type 0
-Seeks true limits window effort bytes found = Resumes limits window effort bytes found
-Seeks false limits window effort bytes found = Searches limits bytes effort found
+abbrev pub Seeks : (by_size : Bool) → Limits → (window effort : ℕ) → List ℕ → Searched → Type 0
+Seeks true limits window effort bytes s = Resumes limits window effort bytes s
+Seeks false limits window effort bytes s = Searches limits bytes effort s
+
+-- ---- how much may be looked at
+
+-- The effort for one message, after so many bytes were looked at: 16 for each of the window; fewer if
+-- those that were looked at are more than 16 for each byte that is done.
+abbrev pub effort_of : (window done looked : ℕ) → ℕ
+effort_of window done looked = 16 * window - (looked - 16 * done)
+
+-- how many count as looked at after so many more: in all at most 16 for each byte that is done and
+-- for each of the window
+abbrev pub counted : (window done looked more : ℕ) → ℕ
+counted window done looked more = min (looked + more) (max looked (16 * (done + window)))
+
+-- how many bytes were looked at to find a fault
+abbrev pub checked : Option ReadFault → ℕ
+checked (Some (Format fault)) = fault.at
+checked stopped = 0
 
 -- so many bytes are looked ahead at: those of the window, and at least those that state a size
 abbrev pub ahead_of : (window : ℕ) → ℕ
 ahead_of window = max window 16
 
 -- this is found among so many bytes of the input as the window has: all are there, or it has ended
-abbrev pub IsFoundIn : (by_size : Bool) → Limits → (window effort : ℕ) → (ended : Bool) → List ℕ → Found → Type 0
-IsFoundIn by_size limits window effort ended w found = ((ahead_of window ≤ length w) ⊎ (ended ≡ true)) × Seeks by_size limits window effort (take window w) found
+abbrev pub IsFoundIn : (by_size : Bool) → Limits → (window effort : ℕ) → (ended : Bool) → List ℕ → Searched → Type 0
+IsFoundIn by_size limits window effort ended w s = ((ahead_of window ≤ length w) ⊎ (ended ≡ true)) × Seeks by_size limits window effort (take window w) s
 
 module _ {R A : Type 0} where
+  -- what is left of the effort
+  abbrev pub effort_in : (window : ℕ) → RawReader R A → ℕ
+  effort_in window r = effort_of window (raw.done_of r) (raw.looked_of r + checked (raw.stopped_of r))
+
+  -- no more bytes were looked at to go on than 16 for each that is done and for each of the window
+  abbrev pub LooksAtFew : (window : ℕ) → RawReader R A → Type 0
+  LooksAtFew window r = raw.looked_of r ≤ 16 * (raw.done_of r + window)
+
   -- what a call read: a read was made only if fewer bytes were there at first than are looked ahead
   -- at, and fewer than twice as many then
   abbrev pub ReadsToGoOn : (window : ℕ) → (R → Option (List ℕ)) → (R → ℕ) → RawReader R A → RawReader R A → Type 0
@@ -69,20 +107,26 @@ module _ {R A : Type 0} where
       pub lent : raw.lent_of old ≡ [] → raw.lent_of new ≡ []
       pub stopped : raw.stopped_of new ≡ raw.stopped_of old
 
-    abbrev pub GoesBy : (by_size : Bool) → (window effort : ℕ) → Result Found ReadFault → Type 0
-    GoesBy by_size window effort (Ok (At offset)) = IsFoundIn by_size (raw.limits_of old) window effort (raw.is_ended new) w (At offset) × GoesTo offset
-    GoesBy by_size window effort (Ok found) = IsFoundIn by_size (raw.limits_of old) window effort (raw.is_ended new) w found × StaysThere
-    GoesBy by_size window effort (Err TooManyReads) = StaysThere × (raw.reads_of new ≡ raw.most_reads_of new) × (raw.is_ended new ≡ false)
-    GoesBy by_size window effort (Err (Format fault)) = ⊥
-    GoesBy by_size window effort (Err fault) = StaysThere
+    -- this is found within what is left of the effort, and what was looked at counts
+    pub record FindsIn (by_size : Bool) (window : ℕ) (found : Found) : Type 0 where
+      pub looked : ℕ
+      pub is_found : IsFoundIn by_size (raw.limits_of old) window (effort_in window old) (raw.is_ended new) w (record { found = found; looked = looked })
+      pub counts : raw.looked_of new ≡ counted window (raw.done_of old) (raw.looked_of old) (checked (raw.stopped_of old) + looked)
+
+    abbrev pub GoesBy : (by_size : Bool) → (window : ℕ) → Result Found ReadFault → Type 0
+    GoesBy by_size window (Ok (At offset)) = FindsIn by_size window (At offset) × GoesTo offset
+    GoesBy by_size window (Ok found) = FindsIn by_size window found × StaysThere
+    GoesBy by_size window (Err TooManyReads) = StaysThere × (raw.reads_of new ≡ raw.most_reads_of new) × (raw.is_ended new ≡ false)
+    GoesBy by_size window (Err (Format fault)) = ⊥
+    GoesBy by_size window (Err fault) = StaysThere
 
     -- a call that goes on to the first message
-    abbrev pub GoesOn : (window effort : ℕ) → Result Found ReadFault → Type 0
-    GoesOn window effort result = GoesBy false window effort result
+    abbrev pub GoesOn : (window : ℕ) → Result Found ReadFault → Type 0
+    GoesOn window result = GoesBy false window result
 
     -- or first where the size leads that the refused message states
-    abbrev pub Resyncs : (window effort : ℕ) → Result Found ReadFault → Type 0
-    Resyncs window effort result = GoesBy true window effort result
+    abbrev pub Resyncs : (window : ℕ) → Result Found ReadFault → Type 0
+    Resyncs window result = GoesBy true window result
 
     -- all that was kept and read is in the buffer, and so many bytes, unless the input ends before
     pub record LooksAhead (many : ℕ) : Type 0 where
@@ -103,4 +147,4 @@ module _ {R A : Type 0} where
 
 -- Bytes are found to go on in one place.
 abbrev pub OneResumed : Type 0
-OneResumed = (limits : Limits) (window effort : ℕ) (bytes : List ℕ) (found other : Found) → Resumes limits window effort bytes found → Resumes limits window effort bytes other → found ≡ other
+OneResumed = (limits : Limits) (window effort : ℕ) (bytes : List ℕ) (s t : Searched) → Resumes limits window effort bytes s → Resumes limits window effort bytes t → s ≡ t

@@ -14,6 +14,7 @@ use Rattle.dbus_stream.specs.declared.read_fault.ReadFault.{ReadFault}
 use Rattle.dbus_stream.specs.declared.read_fault.ReadFault.TheVariants.{Memory, Format, Device, TooManyReads}
 use Rattle.dbus_stream.specs.CutEnds.{truncated}
 use Rattle.dbus_stream.specs.Reading.{limits_of, source_of, room_of, part_of, done_of, read_of, last_of, reads_of, most_reads_of, is_ended, packed_of, stopped_of, Keeps}
+use Rattle.dbus_stream.specs.Steps.{EachGave}
 use Rattle.dbus_stream.specs.Taking.{Taking}
 
 -- the fault of bytes after which nothing comes
@@ -36,11 +37,11 @@ module _ {R T B A G : Type 0} {b : Ghosts B} (k : Taking T G) where
     pub last : List ℕ
     pub before : List ℕ
     pub joined : bytes ≡ before ++ last
-    -- the reads are at most one more than the bytes that came before those of the last one
-    pub few : count ≤ length before + 1
     pub last_fits : length last ≤ b.room.size
     pub between : R
     pub came : Consumes (left (source_of old)) (left between) before
+    -- each of these gave a byte or more
+    pub each : EachGave left calls (count - 1) (source_of old) before between
     pub one_call : 0 < count → calls (source_of new) ≡ one_more (calls between)
     pub needed : 0 < count → Needed before
     pub reads : reads_of new ≡ reads_of old + count

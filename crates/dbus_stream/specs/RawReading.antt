@@ -47,6 +47,10 @@ module _ {R A : Type 0} where
   abbrev pub done_of : RawReader R A → ℕ
   done_of r = r.reader.done
 
+  -- how many bytes count as looked at to go on behind others that are no message
+  abbrev pub looked_of : RawReader R A → ℕ
+  looked_of r = r.looked
+
   -- how many bytes were read in all, and how many of them the last read gave
   abbrev pub read_of : RawReader R A → ℕ
   read_of r = reading.read_of r.reader
@@ -84,6 +88,7 @@ module _ {R A : Type 0} where
     pub done : done_of r ≡ 0
     pub reads : reads_of r ≡ 0
     pub last : last_of r ≡ 0
+    pub looked : looked_of r ≡ 0
     pub ended : is_ended r ≡ false
     pub unpacked : packed_of r ≡ false
     pub stopped : stopped_of r ≡ None

@@ -1,5 +1,5 @@
 -- The steps of a reader: its taker is handed what is left of the buffer, and more is read.
-use Rattle.std.specs.Prelude.{◌≡◌, ◌+◌, ◌≤◌, ℕ, List, [], true, nat_eq, length, drop, Option, None, Some, Result, Ok, Err}
+use Rattle.std.specs.Prelude.{◌≡◌, ◌≢◌, ◌+◌, ◌≤◌, ℕ, zero, suc, List, [], ◌++◌, true, nat_eq, length, drop, Option, None, Some, Result, Ok, Err}
 use Rattle.std.specs.Io.KnownBytes.{Consumes, IsAtEnd, Keeps}
 use Rattle.dbus_device.specs.Device.{one_more}
 use Rattle.dbus_device.specs.declared.device_fault.DeviceFault.{DeviceFault}
@@ -7,6 +7,12 @@ use Rattle.dbus_stream.specs.declared.buffer.Buffer.{Ghosts}
 use Rattle.dbus_stream.specs.declared.reader.Reader.{Reader}
 use Rattle.dbus_stream.specs.declared.read_fault.ReadFault.{ReadFault}
 use Rattle.dbus_stream.specs.Reading.{source_of, part_of, done_of, reads_of, most_reads_of, is_ended, stopped_of}
+
+-- so many calls of a device gave these bytes, and each of them a byte or more
+abbrev pub EachGave : {R : Type 0} → (R → Option (List ℕ)) → (R → ℕ) → ℕ → R → List ℕ → R → Type 0
+EachGave {R} left calls zero old bytes new = (bytes ≡ []) × (new ≡ old)
+EachGave {R} left calls (suc n) old bytes new = (between : R) × (before last : List ℕ) × (bytes ≡ before ++ last) × (last ≢ [])
+    × EachGave left calls n old before between × Consumes (left between) (left new) last × (calls new ≡ one_more (calls between))
 
 module _ {R T B A : Type 0} {b : Ghosts B} where
   -- the taker and what it holds are the same, and the buffer has these bytes left

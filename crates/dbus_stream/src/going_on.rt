@@ -1,7 +1,8 @@
 //! How a reader of raw messages goes on behind bytes that are none.
-ghost use Rattle.std.specs.Prelude.{◌≡◌, ◌⊎◌, ◌≤◌, ◌<◌, ◌*◌, ◌^◌, ◌++◌, length, true, false, List, ℕ, IfOk, IfSome};
+ghost use Rattle.std.specs.Prelude.{◌≡◌, ◌⊎◌, ◌≤◌, ◌<◌, ◌*◌, ◌^◌, ◌++◌, length, true, false, List, ℕ, IfErr, IfOk, IfSome};
 ghost use Rattle.dbus_stream.specs.Lasting.{is_refusal, is_truncated};
 
+use crate::effort::{checked, counted, effort_of};
 use crate::passed::Passed;
 use crate::raw_reader::RawReader;
 use crate::read_fault::ReadFault;
@@ -14,7 +15,7 @@ use std::alloc::{AllocError, Allocator};
 
 impl<R: Source, A: Allocator + Copy> RawReader<R, A> {
     ghost use Rattle.std.specs.Prelude.{None, Some};
-    ghost use Rattle.dbus_stream.specs.GoingOn.{ahead_of, GoesBy, GoesOn, HasFault, Looks, ReadsToGoOn, Resyncs};
+    ghost use Rattle.dbus_stream.specs.GoingOn.{ahead_of, effort_in, GoesBy, GoesOn, HasFault, Looks, LooksAtFew, ReadsToGoOn, Resyncs};
     ghost use Rattle.dbus_device.specs.Packets.{Packets};
     ghost use Rattle.dbus_stream.specs.Passing.{Passing, WasDropped};
     ghost use Rattle.dbus_stream.specs.PassingPackets.{AreOfNumber, IsBeforeOther, PassesPacket};
@@ -23,7 +24,7 @@ impl<R: Source, A: Allocator + Copy> RawReader<R, A> {
     ghost use Rattle.dbus_stream.specs.StatedSizes.{StatesNone, StatesSize};
     ghost use Rattle.dbus_stream.specs.declared.read_fault.ReadFault.{ReadFault};
     ghost use Rattle.dbus_stream.specs.Next.{DeviceCounts};
-    ghost use Rattle.dbus_stream.specs.RawReading.{limits_of, kept, source_of, done_of, read_of, is_ended, packed_of, stopped_of, HasPackets, KeepsPackets};
+    ghost use Rattle.dbus_stream.specs.RawReading.{limits_of, kept, looked_of, source_of, done_of, read_of, is_ended, packed_of, stopped_of, HasPackets, KeepsPackets};
 
     /// Passes over the message that was refused, by the size that its first 16 bytes state,
     /// whatever else they say: by its order byte and the lengths of its fields and its body. If
@@ -69,6 +70,7 @@ impl<R: Source, A: Allocator + Copy> RawReader<R, A> {
         ensures same_reference { R.reference (source_of self.new) ≡
             R.reference (source_of self.old) }
         ensures packets { KeepsPackets R.packets R.packet self.old self.new }
+        ensures looked { looked_of self.new ≡ looked_of self.old }
         ensures few { done_of self.new ≤ 2 ^ 50 }
     {
         if !is_refusal(self.reader.stopped) {
@@ -86,14 +88,19 @@ impl<R: Source, A: Allocator + Copy> RawReader<R, A> {
     /// Goes on behind bytes that are no message, or those of an input that ends within one: at the
     /// least offset at which a whole message within the limits begins. It is looked for among the
     /// bytes that were kept and those that follow, as many in all as the window has, by
-    /// [`dbus_resync::first_message`] with this effort. If fewer are kept, or fewer than 16, more
-    /// are read, up to twice as many and one buffer. If a call of [`RawReader::pass_over`] has
-    /// dropped bytes of the message, it is looked for behind them. It holds these bytes until they
-    /// are given. D-Bus Specification, "Message Format".
+    /// [`dbus_resync::first_message`]. If fewer are kept, or fewer than 16, more are read, up to
+    /// twice as many and one buffer. If a call of [`RawReader::pass_over`] has dropped bytes of the
+    /// message, it is looked for behind them. It holds these bytes until they are given. D-Bus
+    /// Specification, "Message Format".
+    ///
+    /// The effort is 16 bytes for each of the window. What calls have looked at before counts, and
+    /// what is looked at to find the fault: by as much as that is over 16 bytes for each that
+    /// [`RawReader::done`] counts, the effort is less. So the time is linear in the input.
     ///
     /// `At`: the next call gives that message; the bytes before it are dropped, and
-    /// [`RawReader::done`] counts them. `Nowhere`, `Spent`: none was found. All that was kept and
-    /// read is kept, and the fault stays. So it is after an error.
+    /// [`RawReader::done`] counts them. `Nowhere`: none begins there. `Spent`: nor does one before
+    /// the effort is spent. Then all that was kept and read is kept, and the fault stays. So it is
+    /// after an error.
     ///
     /// `TooManyReads`: as many reads were made as it may make. `Device`: a read failed. `Memory`: an
     /// allocation failed; or a read gave bytes of a packet, since it does not note of which packets
@@ -107,7 +114,7 @@ impl<R: Source, A: Allocator + Copy> RawReader<R, A> {
     ///     match reader.advance() {
     ///         Ok(Some(validated)) => println!(rt; "serial {}", validated.serial)?,
     ///         Ok(None) => break,
-    ///         Err(ReadFault::Format(_)) => match reader.go_on(1_048_576, 67_108_864)? {
+    ///         Err(ReadFault::Format(_)) => match reader.go_on(1_048_576)? {
     ///             Found::At(lost) => println!(rt; "{lost} bytes lost")?,
     ///             _ => break,
     ///         },
@@ -115,20 +122,23 @@ impl<R: Source, A: Allocator + Copy> RawReader<R, A> {
     ///     }
     /// }
     /// ```
-    pub fn go_on(&mut self, window: usize, effort: usize) -> Result<Found, ReadFault>
+    pub fn go_on(&mut self, window: u32) -> Result<Found, ReadFault>
         requires { HasFault (stopped_of self.old) }
         // Of what was kept and then read it drops the bytes before the next message.
         ensures goes { (r : ReadsToGoOn window R.left R.calls self.old self.new) ×
-            GoesOn (kept self.old ++ r.bytes) self.old self.new window effort result }
+            GoesOn (kept self.old ++ r.bytes) self.old self.new window result }
         ensures failed { DeviceCounts (R.failures (source_of self.old))
             (R.failures (source_of self.new)) result }
         ensures same_reference { R.reference (source_of self.new) ≡
             R.reference (source_of self.old) }
         ensures packets { IfOk result (λ _. KeepsPackets R.packets R.packet self.old self.new) }
         ensures unpacked { IfOk result (λ _. packed_of self.new ≡ false) }
+        // What was looked at counts.
+        ensures looked { LooksAtFew window self.old → LooksAtFew window self.new }
+        ensures unlooked { IfErr result (λ _. looked_of self.new ≡ looked_of self.old) }
         ensures few { done_of self.new ≤ 2 ^ 50 }
     {
-        self.seek(window, effort, false)
+        self.seek(window, false)
     }
 
     /// Goes on as [`RawReader::go_on`] does, but first by the size that the refused message states,
@@ -145,7 +155,7 @@ impl<R: Source, A: Allocator + Copy> RawReader<R, A> {
     ///     match reader.advance() {
     ///         Ok(Some(validated)) => println!(rt; "serial {}", validated.serial)?,
     ///         Ok(None) => break,
-    ///         Err(ReadFault::Format(_)) => match reader.resync(1_048_576, 67_108_864)? {
+    ///         Err(ReadFault::Format(_)) => match reader.resync(1_048_576)? {
     ///             Found::At(lost) => println!(rt; "{lost} bytes lost")?,
     ///             _ => break,
     ///         },
@@ -153,20 +163,23 @@ impl<R: Source, A: Allocator + Copy> RawReader<R, A> {
     ///     }
     /// }
     /// ```
-    pub fn resync(&mut self, window: usize, effort: usize) -> Result<Found, ReadFault>
+    pub fn resync(&mut self, window: u32) -> Result<Found, ReadFault>
         requires { HasFault (stopped_of self.old) }
         // Of what was kept and then read it drops the bytes before the next message.
         ensures goes { (r : ReadsToGoOn window R.left R.calls self.old self.new) ×
-            Resyncs (kept self.old ++ r.bytes) self.old self.new window effort result }
+            Resyncs (kept self.old ++ r.bytes) self.old self.new window result }
         ensures failed { DeviceCounts (R.failures (source_of self.old))
             (R.failures (source_of self.new)) result }
         ensures same_reference { R.reference (source_of self.new) ≡
             R.reference (source_of self.old) }
         ensures packets { IfOk result (λ _. KeepsPackets R.packets R.packet self.old self.new) }
         ensures unpacked { IfOk result (λ _. packed_of self.new ≡ false) }
+        // What was looked at counts.
+        ensures looked { LooksAtFew window self.old → LooksAtFew window self.new }
+        ensures unlooked { IfErr result (λ _. looked_of self.new ≡ looked_of self.old) }
         ensures few { done_of self.new ≤ 2 ^ 50 }
     {
-        self.seek(window, effort, true)
+        self.seek(window, true)
     }
 
     /// Passes over bytes that are no message, or those of an input that ends within one, to the
@@ -213,6 +226,7 @@ impl<R: Source, A: Allocator + Copy> RawReader<R, A> {
         ensures same_reference { R.reference (source_of self.new) ≡
             R.reference (source_of self.old) }
         ensures packets { KeepsPackets R.packets R.packet self.old self.new }
+        ensures looked { looked_of self.new ≡ looked_of self.old }
         ensures few { done_of self.new ≤ 2 ^ 50 }
     {
         let Some(packet) = self.packet() else {
@@ -225,19 +239,23 @@ impl<R: Source, A: Allocator + Copy> RawReader<R, A> {
     }
 
     // Goes on where the search finds the next message among the bytes of the window.
-    fn seek(&mut self, window: usize, effort: usize, by_size: bool) -> Result<Found, ReadFault>
+    fn seek(&mut self, window: u32, by_size: bool) -> Result<Found, ReadFault>
         requires { HasFault (stopped_of self.old) }
         ensures goes { (r : ReadsToGoOn window R.left R.calls self.old self.new) ×
-            GoesBy (kept self.old ++ r.bytes) self.old self.new by_size window effort result }
+            GoesBy (kept self.old ++ r.bytes) self.old self.new by_size window result }
         ensures failed { DeviceCounts (R.failures (source_of self.old))
             (R.failures (source_of self.new)) result }
         ensures same_reference { R.reference (source_of self.new) ≡
             R.reference (source_of self.old) }
         ensures packets { IfOk result (λ _. KeepsPackets R.packets R.packet self.old self.new) }
         ensures unpacked { IfOk result (λ _. packed_of self.new ≡ false) }
+        // What was looked at counts.
+        ensures looked { LooksAtFew window self.old → LooksAtFew window self.new }
+        ensures unlooked { IfErr result (λ _. looked_of self.new ≡ looked_of self.old) }
         ensures few { done_of self.new ≤ 2 ^ 50 }
     {
-        match self.look_ahead(window) {
+        let width = window as usize;
+        match self.look_ahead(width) {
             Ok(()) => {}
             Err(fault) => return Err(fault),
         }
@@ -245,9 +263,14 @@ impl<R: Source, A: Allocator + Copy> RawReader<R, A> {
             return Err(ReadFault::Memory);
         }
         let limits = self.reader.taker.limits();
+        let done = self.reader.done;
+        let at = checked(self.reader.stopped);
+        let effort = effort_of(window, done, self.looked, at);
         let part = self.reader.part();
-        let looked = window.min(part.len());
-        match seek_in(&part[..looked], limits, window, effort, by_size) {
+        let looked = width.min(part.len());
+        let searched = seek_in(&part[..looked], limits, width, effort, by_size);
+        self.looked = counted(window, done, self.looked, at, searched.looked as u64);
+        match searched.found {
             Found::At(offset) => {
                 self.reader.skip(offset as u64);
                 self.reader.stopped = None;
@@ -269,6 +292,7 @@ impl<R: Source, A: Allocator + Copy> RawReader<R, A> {
             R.reference (source_of self.old) }
         ensures packets { packed_of self.new ≡ false →
             KeepsPackets R.packets R.packet self.old self.new }
+        ensures looked { looked_of self.new ≡ looked_of self.old }
     {
         let many = window.max(16);
         if self.is_there(many) {

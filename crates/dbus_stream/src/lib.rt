@@ -14,6 +14,7 @@
 mod buffer;
 mod check_reader;
 mod cutter;
+mod effort;
 mod gatherer;
 mod going_on;
 pub mod laws;

@@ -32,6 +32,9 @@ pub struct RawReader<R, A: Allocator = Global> {
     pub(crate) reader: Reader<R, Gatherer<A>, Large, A>,
     // What was dropped of a refused message, by a call that did not come to its end.
     pub(crate) refused: Refused,
+    // How many bytes count as looked at to go on behind others that are no message.
+    pub(crate) looked: u64,
+    ghost looked_few: { looked ≤ 2 ^ 55 },
     ghost lent_before: { reader.taker.lent ≤ reader.start },
     ghost lent_counted: { reader.taker.lent ≤ reader.done },
     ghost lent_alone: { 0 < reader.taker.lent → reader.taker.held ≡ [] },
@@ -49,7 +52,7 @@ impl<R: Source, A: Allocator + Copy> RawReader<R, A> {
     ghost use Rattle.dbus_value_model.specs.Specification.{specification};
     ghost use Rattle.dbus_stream.specs.declared.read_fault.ReadFault.{ReadFault};
     ghost use Rattle.dbus_stream.specs.Next.{DeviceCounts};
-    ghost use Rattle.dbus_stream.specs.RawReading.{kept, lent_of, source_of, done_of, stopped_of, IsNewReader, Advances, CopyAnswers, KeepsPackets, KeptAnswers, Reads, ReadsNothing, GivesLent};
+    ghost use Rattle.dbus_stream.specs.RawReading.{kept, lent_of, looked_of, source_of, done_of, stopped_of, IsNewReader, Advances, CopyAnswers, KeepsPackets, KeptAnswers, Reads, ReadsNothing, GivesLent};
 
     /// A reader as [`RawReader::within`] makes it, of at most 2^32 reads and under the limits of
     /// the specification.
@@ -86,6 +89,7 @@ impl<R: Source, A: Allocator + Copy> RawReader<R, A> {
                 reads,
             ),
             refused: Refused::nothing(),
+            looked: 0,
         }
     }
 
@@ -96,8 +100,8 @@ impl<R: Source, A: Allocator + Copy> RawReader<R, A> {
         self.reader.into_source()
     }
 
-    /// The number of bytes of all the messages that it returned, and of those that
-    /// [`RawReader::pass_over`] dropped.
+    /// The number of bytes of all the messages that it returned, and of all that
+    /// [`RawReader::pass_over`], [`RawReader::go_on`] and [`RawReader::resync`] dropped.
     pub fn done(&self) -> u64
         ensures { result ≡ done_of self.now }
     {
@@ -172,6 +176,7 @@ impl<R: Source, A: Allocator + Copy> RawReader<R, A> {
         ensures same_reference { R.reference (source_of self.new) ≡
             R.reference (source_of self.old) }
         ensures packets { KeepsPackets R.packets R.packet self.old self.new }
+        ensures looked { looked_of self.new ≡ looked_of self.old }
         ensures few { done_of self.new ≤ 2 ^ 50 }
         // A fault of the bytes stays for good, and so does the number of reads.
         ensures stays { (f : ReadFault) → stopped_of self.old ≡ Some f →
@@ -196,6 +201,7 @@ impl<R: Source, A: Allocator + Copy> RawReader<R, A> {
         ensures unread { ReadsNothing self.old self.new }
         ensures failed { DeviceCounts (R.failures (source_of self.old))
             (R.failures (source_of self.new)) result }
+        ensures looked { looked_of self.new ≡ looked_of self.old }
         ensures few { done_of self.new ≤ 2 ^ 50 }
         // A fault of the bytes stays for good, and so does the number of reads.
         ensures stays { (f : ReadFault) → stopped_of self.old ≡ Some f →
@@ -221,6 +227,7 @@ impl<R: Source, A: Allocator + Copy> RawReader<R, A> {
         ensures same_reference { R.reference (source_of self.new) ≡
             R.reference (source_of self.old) }
         ensures packets { KeepsPackets R.packets R.packet self.old self.new }
+        ensures looked { looked_of self.new ≡ looked_of self.old }
         ensures few { done_of self.new ≤ 2 ^ 50 }
         // A fault of the bytes stays for good, and so does the number of reads.
         ensures stays { (f : ReadFault) → stopped_of self.old ≡ Some f →
@@ -238,6 +245,7 @@ impl<R: Source, A: Allocator + Copy> RawReader<R, A> {
         requires { stopped_of self.old ≡ None }
         ensures gives { GivesLent self.old self.new result }
         ensures unread { ReadsNothing self.old self.new }
+        ensures looked { looked_of self.new ≡ looked_of self.old }
     {
         if self.reader.taker.is_whole() {
             return Ok(Some(self.reader.taker.give()));

@@ -1,11 +1,11 @@
 //! Where messages begin again behind one that is refused.
 ghost use Rattle.std.specs.Prelude.{◌≡◌, ◌≤◌, ◌<◌, ℕ, None, true, false, length, IfSome};
 ghost use Rattle.dbus_resync.specs.declared.found.Found.TheVariants.{At};
-ghost use Rattle.dbus_stream.specs.GoingOn.{LeadsNowhere, LeadsOn, Seeks};
+ghost use Rattle.dbus_stream.specs.GoingOn.{LeadsNowhere, LeadsOn, LooksBehind, Resumes, Seeks};
 ghost use Rattle.dbus_stream.specs.StatedSizes.{StatesSize, WantsMore};
 
 use crate::refused::{Refused, Size};
-use dbus_resync::{Found, first_message};
+use dbus_resync::{Found, Searched, first_message, size_there};
 use dbus_validate::validate;
 use dbus_value_model::Limits;
 
@@ -18,17 +18,51 @@ pub(crate) fn seek_in(
     window: usize,
     effort: usize,
     by_size: bool,
-) -> Found
+) -> Searched
     ensures seeks { Seeks by_size limits window effort bytes.now result }
-    ensures inside { (offset : ℕ) → result ≡ At offset → offset ≤ length bytes.now }
+    ensures inside { (offset : ℕ) → result.found ≡ At offset → offset ≤ length bytes.now }
 {
     if by_size {
-        match led_to(bytes, limits, window) {
-            Some(end) => Found::At(end),
-            None => first_message(bytes, limits, effort),
-        }
+        resumed(bytes, limits, window, effort)
     } else {
         first_message(bytes, limits, effort)
+    }
+}
+
+// Where messages begin again: where the size leads that the bytes state, or else at the first one.
+fn resumed(bytes: &[u8], limits: Limits, window: usize, effort: usize) -> Searched
+    ensures resumes { Resumes limits window effort bytes.now result }
+    ensures inside { (offset : ℕ) → result.found ≡ At offset → offset ≤ length bytes.now }
+{
+    let behind = looked_behind(bytes, limits);
+    if behind > effort {
+        return Searched {
+            found: Found::Spent,
+            looked: effort,
+        };
+    }
+    match led_to(bytes, limits, window) {
+        Some(end) => Searched {
+            found: Found::At(end),
+            looked: behind,
+        },
+        None => {
+            let first = first_message(bytes, limits, effort - behind);
+            Searched {
+                found: first.found,
+                looked: behind + first.looked,
+            }
+        }
+    }
+}
+
+// How many bytes are looked at for a message behind as many as the bytes state, if these are there.
+fn looked_behind(bytes: &[u8], limits: Limits) -> usize
+    ensures { LooksBehind limits bytes.now result }
+{
+    match end_stated(bytes, limits) {
+        Some(end) => size_there(&bytes[end..], limits),
+        None => 0,
     }
 }
 

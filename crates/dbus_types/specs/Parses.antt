@@ -17,14 +17,17 @@ IsRefusal kind w faults.Memory = Unit {0}
 IsRefusal kind w faults.TooLong = 255 < length w
 IsRefusal kind w (faults.Bad at) = (length w ≤ 255) × (IsOfKind kind w → ⊥) × IsBreak kind w at
 
--- these are types that a signature spells, and w is the signature; or why w is none
+-- these are types that a signature spells, and w is the signature; or memory was out, and w is one;
+-- or why w is none
 abbrev pub IsParse : {A : Type 0} → List ℕ → Result (Vec (SigType A) A) SigFault → Type 0
 IsParse w (Ok v) = AreSignatureTypes (type_trees_of v.items) × (sigs (type_trees_of v.items) ≡ w)
+IsParse w (Err faults.Memory) = IsOfKind Signature w
 IsParse w (Err e) = IsRefusal Signature w e
 
 -- the same of exactly one type
 abbrev pub IsSingleParse : {A : Type 0} → List ℕ → Result (SigType A) SigFault → Type 0
 IsSingleParse w (Ok t) = IsSingleType (type_tree t) × (sig (type_tree t) ≡ w)
+IsSingleParse w (Err faults.Memory) = IsOfKind Single w
 IsSingleParse w (Err e) = IsRefusal Single w e
 
 -- the text is the signature that spells the types; or why their text is none

@@ -9,7 +9,7 @@ use Rattle.dbus_auth.specs.Machines.{Begins, Disconnects, Sends, ServerMachine, 
 use Rattle.dbus_auth.specs.ServerViews.{IsWaiting}
 use Rattle.dbus_auth.specs.declared.states.ServerState.{ServerState}
 use Rattle.dbus_auth.specs.declared.states.ServerState.TheVariants as at
-use Rattle.dbus_watch.specs.Watches.{answered}
+use Rattle.dbus_watch.specs.Watches.{answered, settles}
 
 -- what is sent tells the next state, and messages do not begin
 record Tells (step : ServerStep) (state : ServerState) : Type 0 where
@@ -120,3 +120,23 @@ begins_with s c h = ap (λ (b : ClientCommand). (server_step_at s s.state b).act
 pub table_begins : (s : ServerMachine) (c : ClientCommand) → ((server_step s c).action ≡ Begins) ↔ ((c ≡ client.Begin) × (s.state ≡ at.WaitingForBegin))
 unfolding server_step
 table_begins s c = (λ h. begins_at s s.state refl c h, begins_with s c)
+
+-- NEGOTIATE_UNIX_FD is answered by AGREE_UNIX_FD or ERROR
+settles_if : (t : Bool) (a b : ServerStep) (said : ServerCommand) → (a.action ≡ Sends said → settles said ≡ true) → (b.action ≡ Sends said → settles said ≡ true) → (if t then a else b).action ≡ Sends said
+    → settles said ≡ true
+settles_if true a b said h k = h
+settles_if false a b said h k = k
+
+settles_by : (line said : ServerCommand) → settles line ≡ true → Sends line ≡ Sends said → settles said ≡ true
+settles_by line said h e = (let same : line ≡ said = cc in subst (λ l. settles l ≡ true) same h)
+
+settled_at : (s : ServerMachine) (state : ServerState) (said : ServerCommand) → (server_step_at s state client.Negotiate).action ≡ Sends said → settles said ≡ true
+settled_at s at.WaitingForAuth said h = settles_by (server.Error []) said refl h
+settled_at s at.WaitingForData said h = settles_by (server.Error []) said refl h
+settled_at s at.WaitingForBegin said h = settles_if s.descriptors _ (complains s) said (settles_by server.Agree said refl) (settles_by (server.Error []) said refl) h
+settled_at s at.Begun said h = cc h
+settled_at s at.Closed said h = cc h
+
+pub table_settles : (s : ServerMachine) (said : ServerCommand) → (server_step s client.Negotiate).action ≡ Sends said → settles said ≡ true
+unfolding server_step
+table_settles s said h = settled_at s s.state said h

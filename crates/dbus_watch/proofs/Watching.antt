@@ -11,7 +11,7 @@ use Rattle.dbus_auth_lines.specs.Lines.{client_meaning, server_meaning}
 use Rattle.dbus_auth_lines.specs.WrittenLines.{IsExactClientLine}
 use Rattle.dbus_auth.specs.declared.states.ServerState.{ServerState}
 use Rattle.dbus_auth.specs.declared.states.ServerState.TheVariants as at
-use Rattle.dbus_watch.specs.Watches.{AnswersAll, BeginsAtBegin, FromClient, FromServer, IsReader, Passed, PassesAll, Reader, Seen, WatchState, answered, answers, asks, at_first, begins, begins_at, client_lines, if_talking, passed_to_client, passed_to_server, passes, refuses, says, server_lines, told}
+use Rattle.dbus_watch.specs.Watches.{AnswersAll, BeginsAtBegin, FromClient, FromServer, IsReader, Passed, PassesAll, Reader, Seen, WatchState, answered, answers, answers_next, asked_after, asks, at_first, begins, begins_at, client_lines, if_talking, passed_to_client, passed_to_server, passes, refuses, says, server_lines, settles, told}
 use Rattle.dbus_watch.specs.Watches as reading
 use Rattle.dbus_watch.specs.declared.watch.Passage.{Passage}
 use Rattle.dbus_watch.specs.declared.watch.Passage.TheVariants as passage
@@ -36,12 +36,19 @@ talking w next at.WaitingForBegin p h = h
 talking w next at.Begun p h = no_pass w next fault.Over h
 talking w next at.Closed p h = no_pass w next fault.Over h
 
-asked : (w next : WatchState) → asks w ≡ passes next → record w { unanswered = w.unanswered + 1 } ≡ next
-asked w next h = by_test (w.unanswered == 4294967295) h
+-- one more line is to be answered
+abbrev OneMore : WatchState → WatchState → Type 0
+OneMore w next = (w.server ≡ next.server) × (w.unanswered + 1 ≡ next.unanswered)
+
+asked : (w next : WatchState) (descriptors : Bool) → asks w descriptors ≡ passes next → OneMore w next
+asked w next descriptors h = by_test (w.unanswered == 4294967295) h
   where
-    by_test : (t : Bool) → (if t then refuses w fault.TooMany else passes (record w { unanswered = w.unanswered + 1 })) ≡ passes next → record w { unanswered = w.unanswered + 1 } ≡ next
+    more : WatchState
+    more = record w { unanswered = w.unanswered + 1; asked = asked_after w descriptors }
+
+    by_test : (t : Bool) → (if t then refuses w fault.TooMany else passes more) ≡ passes next → OneMore w next
     by_test true g = no_pass (record w { server = at.Closed }) next fault.TooMany g
-    by_test false g = is_next (record w { unanswered = w.unanswered + 1 }) next g
+    by_test false g = let e = is_next more next g in (ap (λ (v : WatchState). v.server) e, ap (λ (v : WatchState). v.unanswered) e)
 
 no_begin_at : {A : Type 0} (w next : WatchState) (state : ServerState) → begins_at w state ≡ passes next → A
 no_begin_at w next at.WaitingForBegin h = (let x : Ok passage.Begins ≡ Ok passage.Passes = ap (λ (p : Passed). p.answer) h in cc)
@@ -57,29 +64,34 @@ no_begin {A} w next h = by_test (w.unanswered == 0) h
     by_test true g = no_begin_at w next w.server g
     by_test false g = (let x : Ok passage.Waits ≡ Ok passage.Passes = ap (λ (p : Passed). p.answer) g in cc)
 
-said_is : (w next : WatchState) (c : ClientCommand) → says w c ≡ passes next → asks w ≡ passes next
-said_is w next client.Auth h = h
-said_is w next (client.AuthBy mech response) h = h
-said_is w next client.Cancel h = h
+said_is : (w next : WatchState) (c : ClientCommand) → says w c ≡ passes next → OneMore w next
+said_is w next client.Auth h = asked w next false h
+said_is w next (client.AuthBy mech response) h = asked w next false h
+said_is w next client.Cancel h = asked w next false h
 said_is w next client.Begin h = no_begin w next h
-said_is w next (client.DataOf bytes) h = h
-said_is w next (client.Error text) h = h
-said_is w next client.Negotiate h = h
-said_is w next client.Other h = h
+said_is w next (client.DataOf bytes) h = asked w next false h
+said_is w next (client.Error text) h = asked w next false h
+said_is w next client.Negotiate h = asked w next true h
+said_is w next client.Other h = asked w next false h
 
-pub client_passed : (w next : WatchState) (c : ClientCommand) → passed_to_server w c ≡ passes next → record w { unanswered = w.unanswered + 1 } ≡ next
-client_passed w next c h = asked w next (said_is w next c (talking w next w.server (says w c) h))
+pub client_passed : (w next : WatchState) (c : ClientCommand) → passed_to_server w c ≡ passes next → OneMore w next
+client_passed w next c h = said_is w next c (talking w next w.server (says w c) h)
 
 server_passed : (w next : WatchState) (c : ServerCommand) → passed_to_client w c ≡ passes next → (next.server ≡ answered c w.server) × (next.unanswered + 1 ≡ w.unanswered)
 server_passed w next c h = by_test (w.unanswered == 0) (eqb-false w.unanswered 0) (talking w next w.server (answers w c) h)
   where
     after : WatchState
-    after = record { server = answered c w.server; unanswered = w.unanswered - 1 }
+    after = record { server = answered c w.server; unanswered = w.unanswered - 1; asked = w.asked - 1 }
 
-    by_test : (t : Bool) → (t ≡ false → w.unanswered ≡ 0 → ⊥) → (if t then refuses w fault.Unasked else passes after) ≡ passes next → (next.server ≡ answered c w.server) × (next.unanswered + 1 ≡ w.unanswered)
+    settled : (t : Bool) → answers_next w c t ≡ passes next → after ≡ next
+    settled true g = is_next after next g
+    settled false g = no_pass (record w { server = at.Closed }) next fault.NotSettled g
+
+    by_test : (t : Bool) → (t ≡ false → w.unanswered ≡ 0 → ⊥) → (if t then refuses w fault.Unasked else answers_next w c (if w.asked == 1 then settles c else true)) ≡ passes next
+        → (next.server ≡ answered c w.server) × (next.unanswered + 1 ≡ w.unanswered)
     by_test true some g = no_pass (record w { server = at.Closed }) next fault.Unasked g
     by_test false some g =
-        let e : after ≡ next = is_next after next g in
+        let e : after ≡ next = settled (if w.asked == 1 then settles c else true) g in
         let left : w.unanswered - 1 ≡ next.unanswered = ap (λ (v : WatchState). v.unanswered) e in
         let more = some refl in
         (sym (ap (λ (v : WatchState). v.server) e), grind (arith))
@@ -97,9 +109,7 @@ knows w last (FromClient line ∷ more) h =
     let next = h.0 in
     let e = client_passed w next (client_meaning line) h.1.1 in
     let ih = knows next last more h.1.2 in
-    let one : w.unanswered + 1 ≡ next.unanswered = ap (λ (v : WatchState). v.unanswered) e in
-    let same : w.server ≡ next.server = ap (λ (v : WatchState). v.server) e in
-    record { state = ih.state ∙ ap (told (server_lines more)) (sym same); count = omega (arith, ih.count, one); exact = (h.1.0, ih.exact) }
+    record { state = ih.state ∙ ap (told (server_lines more)) (sym e.0); count = omega (arith, ih.count, e.1); exact = (h.1.0, ih.exact) }
 knows w last (FromServer line ∷ more) h =
     let next = h.0 in
     let e = server_passed w next (server_meaning line) h.1.1 in

@@ -6,7 +6,7 @@ use Rattle.dbus_watch.specs.declared.watch.WatchFault.{WatchFault}
 use Rattle.dbus_watch.specs.declared.watch.Watch.{Watch}
 
 abbrev pub watch_state : Watch → WatchState
-watch_state w = record { server = w.server; unanswered = w.unanswered }
+watch_state w = record { server = w.server; unanswered = w.unanswered; asked = w.asked }
 
 -- the call answered this, and left this watch
 abbrev pub DidPass : Result Passage WatchFault → WatchState → Passed → Type 0

@@ -1,6 +1,6 @@
 -- What one knows who looks on at a handshake, and what becomes of each line. D-Bus Specification,
 -- "Authentication Protocol", "Authentication state diagrams".
-use Rattle.std.specs.Prelude.{ℕ, ◌+◌, ◌-◌, ◌==◌, ◌≡◌, ◌≢◌, List, [], ◌∷◌, ◌++◌, codes, Result, Ok, Err, if◌then◌else◌}
+use Rattle.std.specs.Prelude.{ℕ, ◌+◌, ◌-◌, ◌==◌, ◌≡◌, ◌≢◌, Bool, true, false, ◌&&◌, List, [], ◌∷◌, ◌++◌, codes, Result, Ok, Err, if◌then◌else◌}
 use Rattle.std.specs.List.{AllByRecursion}
 use Rattle.dbus_auth_lines.specs.ClientCommands.{ClientCommand}
 use Rattle.dbus_auth_lines.specs.ClientCommands as client
@@ -20,9 +20,11 @@ pub record WatchState : Type 0 where
   pub server : ServerState
   -- how many of the client's lines the server has still to answer
   pub unanswered : ℕ
+  -- which of these is NEGOTIATE_UNIX_FD, the first one if there are several, counted from 1; 0: none
+  pub asked : ℕ
 
 abbrev pub at_first : WatchState
-at_first = record { server = at.WaitingForAuth; unanswered = 0 }
+at_first = record { server = at.WaitingForAuth; unanswered = 0; asked = 0 }
 
 -- what becomes of a line, and what is known then
 pub record Passed : Type 0 where
@@ -50,17 +52,36 @@ begins_at w _ = refuses w fault.NotAccepted
 abbrev pub begins : WatchState → Passed
 begins w = if w.unanswered == 0 then begins_at w w.server else record { answer = Ok passage.Waits; after = w }
 
--- a line that the server is to answer
-abbrev pub asks : WatchState → Passed
-asks w = if w.unanswered == 4294967295 then refuses w fault.TooMany else passes (record w { unanswered = w.unanswered + 1 })
+-- a line that the server is to answer, which asks for descriptors or not
+abbrev pub asked_after : WatchState → Bool → ℕ
+asked_after w descriptors = if descriptors && w.asked == 0 then w.unanswered + 1 else w.asked
+
+abbrev pub asks : WatchState → Bool → Passed
+asks w descriptors =
+    if w.unanswered == 4294967295 then refuses w fault.TooMany
+    else passes (record w { unanswered = w.unanswered + 1; asked = asked_after w descriptors })
+
+-- what answers NEGOTIATE_UNIX_FD; a client disconnects at anything else. "Client states",
+-- "WaitingForAgreeUnixFD"
+abbrev pub settles : ServerCommand → Bool
+settles server.Agree = true
+settles (server.Error text) = true
+settles _ = false
 
 -- an answer of the server
+abbrev pub answers_next : WatchState → ServerCommand → Bool → Passed
+answers_next w said true = passes (record { server = answered said w.server; unanswered = w.unanswered - 1; asked = w.asked - 1 })
+answers_next w said false = refuses w fault.NotSettled
+
 abbrev pub answers : WatchState → ServerCommand → Passed
-answers w said = if w.unanswered == 0 then refuses w fault.Unasked else passes (record { server = answered said w.server; unanswered = w.unanswered - 1 })
+answers w said =
+    if w.unanswered == 0 then refuses w fault.Unasked
+    else answers_next w said (if w.asked == 1 then settles said else true)
 
 abbrev pub says : WatchState → ClientCommand → Passed
 says w client.Begin = begins w
-says w _ = asks w
+says w client.Negotiate = asks w true
+says w _ = asks w false
 
 -- past the handshake no line is passed
 abbrev pub if_talking : WatchState → ServerState → Passed → Passed

@@ -3,7 +3,7 @@
 //!
 //! D-Bus Specification, section "Authentication Protocol".
 
-ghost use Rattle.std.specs.Prelude.{List, Ok, [], length, take, ℕ, ◌≡◌, ◌≢◌, ◌↔◌};
+ghost use Rattle.std.specs.Prelude.{List, Ok, [], length, take, true, ℕ, ◌≡◌, ◌≢◌, ◌↔◌};
 ghost use Rattle.dbus_auth.specs.Machines.{Begins, Sends, ServerMachine, server_step};
 ghost use Rattle.dbus_auth.specs.ServerViews.{IsWaiting};
 ghost use Rattle.dbus_auth.specs.declared.states.ServerState.TheVariants as at;
@@ -12,7 +12,7 @@ ghost use Rattle.dbus_auth_lines.specs.ClientCommands as client;
 ghost use Rattle.dbus_auth_lines.specs.Lines.{client_meaning};
 ghost use Rattle.dbus_auth_lines.specs.ServerCommands.{ServerCommand};
 ghost use Rattle.dbus_auth_lines.specs.WrittenLines.{IsExactClientLine};
-ghost use Rattle.dbus_watch.specs.Watches.{AnswersAll, BeginsAtBegin, IsReader, PassesAll, Reader, Seen, WatchState, answered, at_first, client_lines, passed_to_server, passes, server_lines};
+ghost use Rattle.dbus_watch.specs.Watches.{AnswersAll, BeginsAtBegin, IsReader, PassesAll, Reader, Seen, WatchState, answered, at_first, client_lines, passed_to_server, passes, server_lines, settles};
 ghost use Rattle.dbus_watch.specs.Watches as reading;
 ghost use Rattle.dbus_watch.specs.declared.watch.Passage.TheVariants as passage;
 
@@ -37,11 +37,14 @@ pub fn watch_law()
 {}
 
 /// The server of the specification's table, `dbus_auth::Server`, is in the state that its answer
-/// tells, and begins messages at BEGIN alone, if it has accepted the client.
+/// tells, answers NEGOTIATE_UNIX_FD by AGREE_UNIX_FD or ERROR, and begins messages at BEGIN alone,
+/// if it has accepted the client.
 pub fn server_law()
     ensures answers { (s : ServerMachine) (c : ClientCommand) (said : ServerCommand) →
         IsWaiting s.state → (server_step s c).action ≡ Sends said →
         (server_step s c).next.state ≡ answered said s.state }
+    ensures settles { (s : ServerMachine) (said : ServerCommand) →
+        (server_step s client.Negotiate).action ≡ Sends said → settles said ≡ true }
     ensures begins { (s : ServerMachine) (c : ClientCommand) →
         ((server_step s c).action ≡ Begins) ↔ ((c ≡ client.Begin) × (s.state ≡ at.WaitingForBegin)) }
 {}

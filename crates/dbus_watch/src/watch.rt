@@ -1,12 +1,12 @@
 //! One who looks on at a handshake, as a proxy does: which lines it passes, and when messages
 //! begin.
 
-ghost use Rattle.std.specs.Prelude.{◌≡◌, ℕ, List, MatchBool};
+ghost use Rattle.std.specs.Prelude.{◌≡◌, ◌==◌, false, ℕ, List, MatchBool};
 ghost use Rattle.dbus_auth_lines.specs.ServerCommands.{ServerCommand};
 ghost use Rattle.dbus_auth_lines.specs.Lines.{client_meaning, server_meaning};
 ghost use Rattle.dbus_auth_lines.specs.WrittenLines.{IsExactClientLine, IsExactServerLine};
 ghost use Rattle.dbus_auth_lines.specs.WordPlaces.{SaysToClient};
-ghost use Rattle.dbus_watch.specs.Watches.{answered, asks, at_first, begins, passed_to_client, passed_to_server, refused, refuses};
+ghost use Rattle.dbus_watch.specs.Watches.{answered, answers, asks, at_first, begins, passed_to_client, passed_to_server, refused, refuses, settles};
 
 use dbus_auth::ServerState;
 use dbus_auth_lines::{
@@ -40,6 +40,10 @@ pub enum WatchFault {
     /// A line of the server came that answers none of the client.
     #[error("the server sent a line that answers none")]
     Unasked,
+    /// A line of the server came that answers NEGOTIATE_UNIX_FD, and is neither AGREE_UNIX_FD nor
+    /// ERROR. A client ends the handshake there.
+    #[error("the server answered NEGOTIATE_UNIX_FD by neither AGREE_UNIX_FD nor ERROR")]
+    NotSettled,
     /// The server has 4,294,967,295 lines of the client to answer.
     #[error("the client sent too many lines before it was answered")]
     TooMany,
@@ -65,6 +69,9 @@ pub struct Watch {
     pub server: ServerState,
     /// How many of the client's lines the server has still to answer.
     pub unanswered: u32,
+    /// Which of these is NEGOTIATE_UNIX_FD, the first one if there are several, counted from 1; 0 if
+    /// none is.
+    pub asked: u32,
 }
 
 impl Watch {
@@ -78,6 +85,7 @@ impl Watch {
         Watch {
             server: ServerState::WaitingForAuth,
             unanswered: 0,
+            asked: 0,
         }
     }
 
@@ -101,14 +109,16 @@ impl Watch {
         }
         match client_words(line) {
             ClientWords::Begin => self.begin(),
-            _ => self.ask(),
+            ClientWords::Negotiate => self.ask(true),
+            _ => self.ask(false),
         }
     }
 
     /// The same of a line of the server.
     ///
     /// Returns `Over` if no more lines are passed, and else `Inexact` of a line that is not exact,
-    /// and `Unasked` of one that answers none. After a fault no line is passed.
+    /// `Unasked` of one that answers none, and `NotSettled` as [`WatchFault`] says. After a fault no
+    /// line is passed.
     pub fn pass_server_line(&mut self, line: &[u8]) -> Result<Passage, WatchFault>
         ensures exact { IsExactServerLine line.now →
             DidPass result (watch_state self.new)
@@ -126,9 +136,7 @@ impl Watch {
         if self.unanswered == 0 {
             return self.refuse(WatchFault::Unasked);
         }
-        self.unanswered -= 1;
-        self.server = answered(server_words(line), self.server);
-        Ok(Passage::Passes)
+        self.answer(server_words(line))
     }
 
     /// Whether lines are passed.
@@ -167,16 +175,41 @@ impl Watch {
         }
     }
 
-    /// Another line of the client, while lines are passed.
-    fn ask(&mut self) -> Result<Passage, WatchFault>
-        ensures { DidPass result (watch_state self.new) (asks (watch_state self.old)) }
+    /// Another line of the client, which asks for descriptors or not, while lines are passed.
+    fn ask(&mut self, descriptors: bool) -> Result<Passage, WatchFault>
+        ensures { DidPass result (watch_state self.new) (asks (watch_state self.old) descriptors) }
     {
         if self.unanswered == u32::MAX {
             return self.refuse(WatchFault::TooMany);
         }
         self.unanswered += 1;
+        if descriptors && self.asked == 0 {
+            self.asked = self.unanswered;
+        }
         Ok(Passage::Passes)
     }
+
+    /// An answer of the server, while lines are passed, to one that it has still to answer.
+    fn answer(&mut self, said: ServerWords) -> Result<Passage, WatchFault>
+        requires { (self.old.unanswered == 0) ≡ false }
+        ensures { (line : List ℕ) (c : ServerCommand) → SaysToClient line said c →
+            DidPass result (watch_state self.new) (answers (watch_state self.old) c) }
+    {
+        if self.asked == 1 && !settles(said) {
+            return self.refuse(WatchFault::NotSettled);
+        }
+        self.unanswered -= 1;
+        self.asked = self.asked.saturating_sub(1);
+        self.server = answered(said, self.server);
+        Ok(Passage::Passes)
+    }
+}
+
+/// Whether a line may answer NEGOTIATE_UNIX_FD.
+fn settles(said: ServerWords) -> bool
+    ensures { (line : List ℕ) (c : ServerCommand) → SaysToClient line said c → result ≡ settles c }
+{
+    matches!(said, ServerWords::Agree | ServerWords::Error(_))
 }
 
 /// The state in which an answer leaves the server.

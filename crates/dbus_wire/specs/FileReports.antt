@@ -1,6 +1,6 @@
 -- What the program says of a file that holds the messages, as pcap or pcapng: how many packets it
 -- passed over since they were cut, and the fault of the file, if it has one.
-use Rattle.std.specs.Prelude.{◌≡◌, ℕ, zero, suc, ◌⊎◌, ◌++◌, ◌==◌, if◌then◌else◌, ◌||◌, nat_eq, Bool, false, List, [], Option, Some, None, Result, Ok, Err, Vec, String, codes, decimal, string_bytes}
+use Rattle.std.specs.Prelude.{◌≡◌, ℕ, zero, suc, ◌⊎◌, ◌++◌, ◌==◌, if◌then◌else◌, ◌||◌, nat_eq, Bool, false, List, [], Option, Some, None, Result, Ok, Err, Vec, String, codes, decimal, drop, string_bytes}
 use Rattle.std.specs.List.{list_any, starts_with}
 use Rattle.std.specs.Str.{bytes_eq}
 use Rattle.std.specs.declared.alloc.Global.{Global}
@@ -15,18 +15,19 @@ use Rattle.dbus_tool.specs.Handshaking.{Shows, StopsBy}
 abbrev pub keep_going : List (String Global) → Bool
 keep_going words = list_any (λ w. bytes_eq (string_bytes w) (codes "--keep-going") || starts_with nat_eq (string_bytes w) (codes "--resync")) words
 
--- packets that were cut are passed over: the words are there, and ask for it
+-- packets that were cut are passed over: the words are there, and those after the program's name
+-- ask for it
 abbrev pub passes_cut : {A : Type 0} → Result (Vec (String Global) Global) A → Bool
-passes_cut (Ok words) = keep_going words.items
+passes_cut (Ok words) = keep_going (drop 1 words.items)
 passes_cut (Err error) = false
 
 -- one of the words is the command that reads lines, which no other command takes
 abbrev pub reads_lines : List (String Global) → Bool
 reads_lines words = list_any (λ w. bytes_eq (string_bytes w) (codes "encode")) words
 
--- standard input is lines: the words are there, and say so
+-- standard input is lines: the words are there, and those after the program's name say so
 abbrev pub takes_lines : {A : Type 0} → Result (Vec (String Global) Global) A → Bool
-takes_lines (Ok words) = reads_lines words.items
+takes_lines (Ok words) = reads_lines (drop 1 words.items)
 takes_lines (Err error) = false
 
 -- how many packets were passed over

@@ -1,5 +1,5 @@
 //! What is said of the file that holds the messages.
-ghost use Rattle.std.specs.Prelude.{◌≡◌, IfOk, string_bytes};
+ghost use Rattle.std.specs.Prelude.{◌≡◌, IfOk, drop, string_bytes};
 ghost use Rattle.dbus_wire.specs.FileReports.{TellsFile, TellsLines, keep_going, reads_lines, file_text, cut_line};
 
 use crate::tell;
@@ -8,6 +8,16 @@ use dbus_capture::CaptureFault;
 use dbus_stream::Sink;
 use dbus_tool::ExitStatus;
 use std::alloc::{AllocError, Global};
+
+// The words after the first, which is the program's name.
+pub(crate) fn after_name(words: &[String]) -> &[String]
+    ensures { result.now ≡ drop 1 words.now }
+{
+    match words {
+        [_name, rest @ ..] => rest,
+        [] => words,
+    }
+}
 
 // Whether one of the words asks to keep going, so that packets that were cut are passed over.
 pub(crate) fn keep_going(words: &[String]) -> bool

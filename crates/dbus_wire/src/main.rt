@@ -26,7 +26,7 @@ mod file_report;
 use dbus_capture::Capture;
 use dbus_stream::{FromRead, FromWrite, Sink, Source, WrittenOnly, write_all};
 use dbus_tool::{ExitStatus, ReadAhead, run_words};
-use file_report::{keep_going, reads_lines, tell_file};
+use file_report::{after_name, keep_going, reads_lines, tell_file};
 use std::alloc::Global;
 use std::io::ErrorKind;
 use std::process::ExitCode;
@@ -59,7 +59,7 @@ fn passes_cut(words: &io::Result<Vec<String>>) -> bool
     ensures { result ≡ passes_cut words.now }
 {
     match words {
-        Ok(words) => keep_going(words.as_slice()),
+        Ok(words) => keep_going(after_name(words.as_slice())),
         Err(_) => false,
     }
 }
@@ -69,7 +69,7 @@ fn takes_lines(words: &io::Result<Vec<String>>) -> bool
     ensures { result ≡ takes_lines words.now }
 {
     match words {
-        Ok(words) => reads_lines(words.as_slice()),
+        Ok(words) => reads_lines(after_name(words.as_slice())),
         Err(_) => false,
     }
 }

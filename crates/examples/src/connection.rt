@@ -2,7 +2,7 @@
 
 use crate::replies::reply;
 use anyhow::{Result, bail, ensure};
-use dbus_auth::{Guid, Server, ServerEnd, Status};
+use dbus_auth::{Bounds, Guid, Server, ServerEnd, Status};
 use dbus_message::{Message, encode, flag, message_type};
 use dbus_stream::Cutter;
 use dbus_value::Order;
@@ -27,11 +27,16 @@ pub(crate) struct Connection {
 
 impl Connection {
     /// A connection on which nothing came yet. EXTERNAL is offered if there is a user, and
-    /// otherwise ANONYMOUS.
+    /// otherwise ANONYMOUS. A client is rejected six times at most.
     pub(crate) fn new(alloc: Global, user: Option<u32>) -> Self {
+        let mut end = ServerEnd::new(alloc, Server::new(GUID, user, user.is_none()));
+        end.set_bounds(Bounds {
+            rejections: 6,
+            errors: 6,
+        });
         Connection {
             alloc,
-            end: ServerEnd::new(alloc, Server::new(GUID, user, user.is_none())),
+            end,
             begun: false,
             cutter: Cutter::new(alloc),
             replies: 0,

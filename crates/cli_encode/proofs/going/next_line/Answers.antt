@@ -10,24 +10,24 @@ pub returns-then-next_kept-clause-reads : goal.returns-then-next_kept-clause-rea
 returns-then-next_kept-clause-reads g c = λ w kept.
     let mid = c.next_kept.new.lines in
     let line = subst (λ (b : Bool). GivesKept w mid b) c.if-next_kept.true (c.next_kept.ensures.kept w kept) in
-    (reads_none g.R.Source.left g.R.Source.calls w c.args.lines.now mid c.next_kept.ensures.unread, subst (λ (l : List ℕ). GivesLine (is_ended mid) l mid) (sym (append-nil w)) (gives_whether w mid line))
+    (reads_none g.R.Source.left g.R.Source.calls g.R.Source.failures w c.args.lines.now mid c.next_kept.ensures.unread, subst (λ (l : List ℕ). GivesLine (is_ended mid) l mid) (sym (append-nil w)) (gives_whether w mid line))
 
 pub returns-in-Err-clause-reads : goal.returns-in-Err-clause-reads
 returns-in-Err-clause-reads g c = λ w kept.
     let mid = c.next_kept.new.lines in
     let keeps = subst (λ (b : Bool). GivesKept w mid b) c.if-next_kept.false (c.next_kept.ensures.kept w kept) in
-    (reads_none g.R.Source.left g.R.Source.calls w c.args.lines.now mid c.next_kept.ensures.unread, subst (λ (l : List ℕ). Keeps mid l) (sym (append-nil w)) keeps)
+    (reads_none g.R.Source.left g.R.Source.calls g.R.Source.failures w c.args.lines.now mid c.next_kept.ensures.unread, subst (λ (l : List ℕ). Keeps mid l) (sym (append-nil w)) keeps)
 
 pub returns-in-Ok-next-clause-reads : goal.returns-in-Ok-next-clause-reads
 returns-in-Ok-next-clause-reads g c = λ w kept.
     let mid = c.next_kept.new.lines in
     let (r, answers) = c.in-Ok-next.ensures.read w (subst (λ (b : Bool). GivesKept w mid b) c.if-next_kept.false (c.next_kept.ensures.kept w kept)) in
-    (reads_after g.R.Source.left g.R.Source.calls w c.args.lines.now mid c.next.new.self c.next_kept.ensures.unread r, line_or_end (w ++ r.bytes) c.next.new.self c.in-Ok-next.more answers)
+    (reads_after g.R.Source.left g.R.Source.calls g.R.Source.failures w c.args.lines.now mid c.next.new.self c.next_kept.ensures.unread r, line_or_end (w ++ r.bytes) c.next.new.self c.in-Ok-next.more answers)
 
 pub returns-in-Err-next-clause-reads : goal.returns-in-Err-next-clause-reads
 returns-in-Err-next-clause-reads g c = λ w kept.
     let mid = c.next_kept.new.lines in
     let (r, answers) = c.in-Err-next.ensures.read w (subst (λ (b : Bool). GivesKept w mid b) c.if-next_kept.false (c.next_kept.ensures.kept w kept)) in (
-      reads_after g.R.Source.left g.R.Source.calls w c.args.lines.now mid c.next.new.self c.next_kept.ensures.unread r,
+      reads_after g.R.Source.left g.R.Source.calls g.R.Source.failures w c.args.lines.now mid c.next.new.self c.next_kept.ensures.unread r,
       subst (λ (x : Cause). LineAnswers (w ++ r.bytes) c.next.new.self (Err x)) (sym c.cause_of.ensures) (no_line (w ++ r.bytes) c.next.new.self c.in-Err-next.fault answers),
     )

@@ -44,7 +44,7 @@ returns-in-None-clause-passes g c =
     let laws = g.met.V.MessageVisitor.adds_up in
     let known = known_still g.R.Source.packets g.R.Source.packet c.parts.messages c.hand_all.new.messages _ c.hand_all.ensures.packets c.parts.invariant.4 in
     elim c.in-Ok.ensures.hands [
-      | inl all ↦ closes (finished laws (reach c.parts.invariant.0 laws c.parts.invariant.4 c.hand_all.new.messages c.hand_all.new.visitor known c.in-Ok.counted c.up_to-tally.result c.up_to-tally.ensures all) c.in-None.is) laws
+      | inl all ↦ closes (finished laws (reach c.parts.invariant.0 laws c.parts.invariant.4 c.hand_all.new.messages c.hand_all.new.visitor known c.hand_all.ensures.looked c.in-Ok.counted c.up_to-tally.result c.up_to-tally.ensures all) c.in-None.is) laws
           c.in-Ok.ensures.settled c.close.new.visitor c.close.result c.close.ensures.closes
       | inr enough ↦ closes_enough (reach_enough c.parts.invariant.0 laws c.parts.invariant.4 c.hand_all.new.messages c.hand_all.new.visitor c.parts.invariant.5 c.in-Ok.counted c.up_to-tally.result c.up_to-tally.ensures enough) laws
           c.in-Ok.ensures.settled c.close.new.visitor c.close.result c.close.ensures.closes
@@ -53,7 +53,7 @@ returns-in-None-clause-passes g c =
 pub overflow_add-refusal : goal.overflow_add-refusal
 overflow_add-refusal g c =
     let r = reach c.parts.invariant.0 g.met.V.MessageVisitor.adds_up c.parts.invariant.4 c.hand_all.new.messages c.hand_all.new.visitor
-    (known_still g.R.Source.packets g.R.Source.packet c.parts.messages c.hand_all.new.messages _ c.hand_all.ensures.packets c.parts.invariant.4) c.in-Ok.counted c.up_to-tally.result c.up_to-tally.ensures (at_fault c.parts.invariant.0 g.met.V.MessageVisitor.adds_up c.parts.invariant.4 c.hand_all.new.messages c.hand_all.new.visitor c.in-Ok.counted _ c.in-Some.is c.in-Ok.ensures.hands) in
+    (known_still g.R.Source.packets g.R.Source.packet c.parts.messages c.hand_all.new.messages _ c.hand_all.ensures.packets c.parts.invariant.4) c.hand_all.ensures.looked c.in-Ok.counted c.up_to-tally.result c.up_to-tally.ensures (at_fault c.parts.invariant.0 g.met.V.MessageVisitor.adds_up c.parts.invariant.4 c.hand_all.new.messages c.hand_all.new.visitor c.in-Ok.counted _ c.in-Some.is c.in-Ok.ensures.hands) in
     let far = within r.gone in
     omega (arith, far.count, far.small, r.count_is)
 
@@ -61,14 +61,14 @@ pub returns-in-Err-tell-clause-passes : goal.returns-in-Err-tell-clause-passes
 returns-in-Err-tell-clause-passes g c =
     let laws = g.met.V.MessageVisitor.adds_up in
     let r = reach c.parts.invariant.0 laws c.parts.invariant.4 c.hand_all.new.messages c.hand_all.new.visitor
-    (known_still g.R.Source.packets g.R.Source.packet c.parts.messages c.hand_all.new.messages _ c.hand_all.ensures.packets c.parts.invariant.4) c.in-Ok.counted c.up_to-tally.result c.up_to-tally.ensures (at_fault c.parts.invariant.0 g.met.V.MessageVisitor.adds_up c.parts.invariant.4 c.hand_all.new.messages c.hand_all.new.visitor c.in-Ok.counted _ c.in-Some.is c.in-Ok.ensures.hands) in
+    (known_still g.R.Source.packets g.R.Source.packet c.parts.messages c.hand_all.new.messages _ c.hand_all.ensures.packets c.parts.invariant.4) c.hand_all.ensures.looked c.in-Ok.counted c.up_to-tally.result c.up_to-tally.ensures (at_fault c.parts.invariant.0 g.met.V.MessageVisitor.adds_up c.parts.invariant.4 c.hand_all.new.messages c.hand_all.new.visitor c.in-Ok.counted _ c.in-Some.is c.in-Ok.ensures.hands) in
     not_told laws r c.in-Some.is c.number_of.result (c.number_of.ensures ∙ ap number_of c.packet.ensures) c.in-Ok.ensures.settled c.tell.new.visitor c.in-Err-tell.stop c.in-Err-tell.ensures.tells
 
 pub returns-then-not-settings-clause-passes : goal.returns-then-not-settings-clause-passes
 returns-then-not-settings-clause-passes g c =
     let laws = g.met.V.MessageVisitor.adds_up in
     let r = reach c.parts.invariant.0 laws c.parts.invariant.4 c.hand_all.new.messages c.hand_all.new.visitor
-    (known_still g.R.Source.packets g.R.Source.packet c.parts.messages c.hand_all.new.messages _ c.hand_all.ensures.packets c.parts.invariant.4) c.in-Ok.counted c.up_to-tally.result c.up_to-tally.ensures (at_fault c.parts.invariant.0 g.met.V.MessageVisitor.adds_up c.parts.invariant.4 c.hand_all.new.messages c.hand_all.new.visitor c.in-Ok.counted _ c.in-Some.is c.in-Ok.ensures.hands) in
+    (known_still g.R.Source.packets g.R.Source.packet c.parts.messages c.hand_all.new.messages _ c.hand_all.ensures.packets c.parts.invariant.4) c.hand_all.ensures.looked c.in-Ok.counted c.up_to-tally.result c.up_to-tally.ensures (at_fault c.parts.invariant.0 g.met.V.MessageVisitor.adds_up c.parts.invariant.4 c.hand_all.new.messages c.hand_all.new.visitor c.in-Ok.counted _ c.in-Some.is c.in-Ok.ensures.hands) in
     let told = c.in-Ok-tell.ensures.tells in
     let ended = halts laws r c.in-Some.is c.number_of.result (c.number_of.ensures ∙ ap number_of c.packet.ensures) told.0 told.1 told.2 (unset c.args.settings.keeps_going c.if-not-settings.true) in
     closes ended laws c.in-Ok-tell.ensures.settled c.close-then-not-settings.new.visitor c.close-then-not-settings.result c.close-then-not-settings.ensures.closes
@@ -77,7 +77,7 @@ pub returns-in-Ok-CutOff-clause-passes : goal.returns-in-Ok-CutOff-clause-passes
 returns-in-Ok-CutOff-clause-passes g c =
     let laws = g.met.V.MessageVisitor.adds_up in
     let r = reach c.parts.invariant.0 laws c.parts.invariant.4 c.hand_all.new.messages c.hand_all.new.visitor
-    (known_still g.R.Source.packets g.R.Source.packet c.parts.messages c.hand_all.new.messages _ c.hand_all.ensures.packets c.parts.invariant.4) c.in-Ok.counted c.up_to-tally.result c.up_to-tally.ensures (at_fault c.parts.invariant.0 g.met.V.MessageVisitor.adds_up c.parts.invariant.4 c.hand_all.new.messages c.hand_all.new.visitor c.in-Ok.counted _ c.in-Some.is c.in-Ok.ensures.hands) in
+    (known_still g.R.Source.packets g.R.Source.packet c.parts.messages c.hand_all.new.messages _ c.hand_all.ensures.packets c.parts.invariant.4) c.hand_all.ensures.looked c.in-Ok.counted c.up_to-tally.result c.up_to-tally.ensures (at_fault c.parts.invariant.0 g.met.V.MessageVisitor.adds_up c.parts.invariant.4 c.hand_all.new.messages c.hand_all.new.visitor c.in-Ok.counted _ c.in-Some.is c.in-Ok.ensures.hands) in
     let told = c.in-Ok-tell.ensures.tells in
     let ended = ends_short laws r c.in-Some.is c.number_of.result (c.number_of.ensures ∙ ap number_of c.packet.ensures) told.0 told.1 told.2 c.pass.new.messages (known_still g.R.Source.packets g.R.Source.packet c.parts.messages c.hand_all.new.messages _ c.hand_all.ensures.packets c.parts.invariant.4) c.at_end-ended.result c.done-in-Ok-CutOff.result c.is_none.result (none_if c.number_of.result c.is_none.result c.is_none.ensures) c.done-in-Ok-CutOff.ensures c.at_end-ended.ensures (set c.args.settings.keeps_going c.if-not-settings.false) (rw c.in-Ok-CutOff.field-0-is at c.in-Ok-CutOff.ensures.passes) (rw c.in-Ok-CutOff.field-0-is at c.in-Ok-CutOff.ensures.in_packet) c.in-Ok-CutOff.ensures.failed in
     closes ended laws c.in-Ok-tell.ensures.settled c.close-in-Ok-CutOff.new.visitor c.close-in-Ok-CutOff.result c.close-in-Ok-CutOff.ensures.closes
@@ -86,7 +86,7 @@ pub returns-in-Ok-Not-clause-passes : goal.returns-in-Ok-Not-clause-passes
 returns-in-Ok-Not-clause-passes g c =
     let laws = g.met.V.MessageVisitor.adds_up in
     let r = reach c.parts.invariant.0 laws c.parts.invariant.4 c.hand_all.new.messages c.hand_all.new.visitor
-    (known_still g.R.Source.packets g.R.Source.packet c.parts.messages c.hand_all.new.messages _ c.hand_all.ensures.packets c.parts.invariant.4) c.in-Ok.counted c.up_to-tally.result c.up_to-tally.ensures (at_fault c.parts.invariant.0 g.met.V.MessageVisitor.adds_up c.parts.invariant.4 c.hand_all.new.messages c.hand_all.new.visitor c.in-Ok.counted _ c.in-Some.is c.in-Ok.ensures.hands) in
+    (known_still g.R.Source.packets g.R.Source.packet c.parts.messages c.hand_all.new.messages _ c.hand_all.ensures.packets c.parts.invariant.4) c.hand_all.ensures.looked c.in-Ok.counted c.up_to-tally.result c.up_to-tally.ensures (at_fault c.parts.invariant.0 g.met.V.MessageVisitor.adds_up c.parts.invariant.4 c.hand_all.new.messages c.hand_all.new.visitor c.in-Ok.counted _ c.in-Some.is c.in-Ok.ensures.hands) in
     let told = c.in-Ok-tell.ensures.tells in
     let ended = stays laws r c.in-Some.is c.number_of.result (c.number_of.ensures ∙ ap number_of c.packet.ensures) told.0 told.1 told.2 c.pass.new.messages (known_still g.R.Source.packets g.R.Source.packet c.parts.messages c.hand_all.new.messages _ c.hand_all.ensures.packets c.parts.invariant.4) (set c.args.settings.keeps_going c.if-not-settings.false) (rw c.in-Ok-Not.field-0-is at c.in-Ok-Not.ensures.passes) (rw c.in-Ok-Not.field-0-is at c.in-Ok-Not.ensures.in_packet) c.in-Ok-Not.ensures.failed in
     closes ended laws c.in-Ok-tell.ensures.settled c.close-in-Ok-Not.new.visitor c.close-in-Ok-Not.result c.close-in-Ok-Not.ensures.closes
@@ -95,7 +95,7 @@ pub returns-in-Err-pass-clause-passes : goal.returns-in-Err-pass-clause-passes
 returns-in-Err-pass-clause-passes g c =
     let laws = g.met.V.MessageVisitor.adds_up in
     let r = reach c.parts.invariant.0 laws c.parts.invariant.4 c.hand_all.new.messages c.hand_all.new.visitor
-    (known_still g.R.Source.packets g.R.Source.packet c.parts.messages c.hand_all.new.messages _ c.hand_all.ensures.packets c.parts.invariant.4) c.in-Ok.counted c.up_to-tally.result c.up_to-tally.ensures (at_fault c.parts.invariant.0 g.met.V.MessageVisitor.adds_up c.parts.invariant.4 c.hand_all.new.messages c.hand_all.new.visitor c.in-Ok.counted _ c.in-Some.is c.in-Ok.ensures.hands) in
+    (known_still g.R.Source.packets g.R.Source.packet c.parts.messages c.hand_all.new.messages _ c.hand_all.ensures.packets c.parts.invariant.4) c.hand_all.ensures.looked c.in-Ok.counted c.up_to-tally.result c.up_to-tally.ensures (at_fault c.parts.invariant.0 g.met.V.MessageVisitor.adds_up c.parts.invariant.4 c.hand_all.new.messages c.hand_all.new.visitor c.in-Ok.counted _ c.in-Some.is c.in-Ok.ensures.hands) in
     let told = c.in-Ok-tell.ensures.tells in
     rw c.cause_of.ensures
     (breaks laws r c.in-Some.is c.number_of.result (c.number_of.ensures ∙ ap number_of c.packet.ensures) told.0 told.1 told.2 c.pass.new.messages (known_still g.R.Source.packets g.R.Source.packet c.parts.messages c.hand_all.new.messages _ c.hand_all.ensures.packets c.parts.invariant.4) c.in-Ok-tell.ensures.settled (set c.args.settings.keeps_going c.if-not-settings.false) c.in-Err-pass.fault
@@ -104,13 +104,13 @@ returns-in-Err-pass-clause-passes g c =
 pub pass-requires : goal.pass-requires
 pass-requires g c =
     let r = reach c.parts.invariant.0 g.met.V.MessageVisitor.adds_up c.parts.invariant.4 c.hand_all.new.messages c.hand_all.new.visitor
-    (known_still g.R.Source.packets g.R.Source.packet c.parts.messages c.hand_all.new.messages _ c.hand_all.ensures.packets c.parts.invariant.4) c.in-Ok.counted c.up_to-tally.result c.up_to-tally.ensures (at_fault c.parts.invariant.0 g.met.V.MessageVisitor.adds_up c.parts.invariant.4 c.hand_all.new.messages c.hand_all.new.visitor c.in-Ok.counted _ c.in-Some.is c.in-Ok.ensures.hands) in
+    (known_still g.R.Source.packets g.R.Source.packet c.parts.messages c.hand_all.new.messages _ c.hand_all.ensures.packets c.parts.invariant.4) c.hand_all.ensures.looked c.in-Ok.counted c.up_to-tally.result c.up_to-tally.ensures (at_fault c.parts.invariant.0 g.met.V.MessageVisitor.adds_up c.parts.invariant.4 c.hand_all.new.messages c.hand_all.new.visitor c.in-Ok.counted _ c.in-Some.is c.in-Ok.ensures.hands) in
     (c.in-Some.fault, r.stopped ∙ ap stop_of c.in-Some.is)
 
 pub at_end-ended-requires : goal.at_end-ended-requires
 at_end-ended-requires g c =
     let r = reach c.parts.invariant.0 g.met.V.MessageVisitor.adds_up c.parts.invariant.4 c.hand_all.new.messages c.hand_all.new.visitor
-    (known_still g.R.Source.packets g.R.Source.packet c.parts.messages c.hand_all.new.messages _ c.hand_all.ensures.packets c.parts.invariant.4) c.in-Ok.counted c.up_to-tally.result c.up_to-tally.ensures (at_fault c.parts.invariant.0 g.met.V.MessageVisitor.adds_up c.parts.invariant.4 c.hand_all.new.messages c.hand_all.new.visitor c.in-Ok.counted _ c.in-Some.is c.in-Ok.ensures.hands) in
+    (known_still g.R.Source.packets g.R.Source.packet c.parts.messages c.hand_all.new.messages _ c.hand_all.ensures.packets c.parts.invariant.4) c.hand_all.ensures.looked c.in-Ok.counted c.up_to-tally.result c.up_to-tally.ensures (at_fault c.parts.invariant.0 g.met.V.MessageVisitor.adds_up c.parts.invariant.4 c.hand_all.new.messages c.hand_all.new.visitor c.in-Ok.counted _ c.in-Some.is c.in-Ok.ensures.hands) in
     let far = within r.gone in
     let on = not_less g.met.V.MessageVisitor.adds_up r c.in-Some.is c.number_of.result (c.number_of.ensures ∙ ap number_of c.packet.ensures) c.pass.new.messages (known_still g.R.Source.packets g.R.Source.packet c.parts.messages c.hand_all.new.messages _ c.hand_all.ensures.packets c.parts.invariant.4) (rw c.in-Ok-CutOff.field-0-is at c.in-Ok-CutOff.ensures.passes) (rw c.in-Ok-CutOff.field-0-is at c.in-Ok-CutOff.ensures.in_packet) in
     let small = done_small c.pass.new.messages in
@@ -125,7 +125,7 @@ at_end-ended-requires g c =
 pub past-tally-requires : goal.past-tally-requires
 past-tally-requires g c =
     let r = reach c.parts.invariant.0 g.met.V.MessageVisitor.adds_up c.parts.invariant.4 c.hand_all.new.messages c.hand_all.new.visitor
-    (known_still g.R.Source.packets g.R.Source.packet c.parts.messages c.hand_all.new.messages _ c.hand_all.ensures.packets c.parts.invariant.4) c.in-Ok.counted c.up_to-tally.result c.up_to-tally.ensures (at_fault c.parts.invariant.0 g.met.V.MessageVisitor.adds_up c.parts.invariant.4 c.hand_all.new.messages c.hand_all.new.visitor c.in-Ok.counted _ c.in-Some.is c.in-Ok.ensures.hands) in
+    (known_still g.R.Source.packets g.R.Source.packet c.parts.messages c.hand_all.new.messages _ c.hand_all.ensures.packets c.parts.invariant.4) c.hand_all.ensures.looked c.in-Ok.counted c.up_to-tally.result c.up_to-tally.ensures (at_fault c.parts.invariant.0 g.met.V.MessageVisitor.adds_up c.parts.invariant.4 c.hand_all.new.messages c.hand_all.new.visitor c.in-Ok.counted _ c.in-Some.is c.in-Ok.ensures.hands) in
     let far = within r.gone in
     let on = grows g.met.V.MessageVisitor.adds_up r c.in-Some.is c.number_of.result (c.number_of.ensures ∙ ap number_of c.packet.ensures) c.pass.new.messages (known_still g.R.Source.packets g.R.Source.packet c.parts.messages c.hand_all.new.messages _ c.hand_all.ensures.packets c.parts.invariant.4) (rw c.in-Ok-Over.field-0-is at c.in-Ok-Over.ensures.passes) (rw c.in-Ok-Over.field-0-is at c.in-Ok-Over.ensures.in_packet) in
     let small = done_small c.pass.new.messages in
@@ -141,7 +141,7 @@ pub parts-preserved : goal.parts-preserved
 parts-preserved g c =
     let laws = g.met.V.MessageVisitor.adds_up in
     let r = reach c.parts.invariant.0 laws c.parts.invariant.4 c.hand_all.new.messages c.hand_all.new.visitor
-    (known_still g.R.Source.packets g.R.Source.packet c.parts.messages c.hand_all.new.messages _ c.hand_all.ensures.packets c.parts.invariant.4) c.in-Ok.counted c.up_to-tally.result c.up_to-tally.ensures (at_fault c.parts.invariant.0 g.met.V.MessageVisitor.adds_up c.parts.invariant.4 c.hand_all.new.messages c.hand_all.new.visitor c.in-Ok.counted _ c.in-Some.is c.in-Ok.ensures.hands) in
+    (known_still g.R.Source.packets g.R.Source.packet c.parts.messages c.hand_all.new.messages _ c.hand_all.ensures.packets c.parts.invariant.4) c.hand_all.ensures.looked c.in-Ok.counted c.up_to-tally.result c.up_to-tally.ensures (at_fault c.parts.invariant.0 g.met.V.MessageVisitor.adds_up c.parts.invariant.4 c.hand_all.new.messages c.hand_all.new.visitor c.in-Ok.counted _ c.in-Some.is c.in-Ok.ensures.hands) in
     let told = c.in-Ok-tell.ensures.tells in
     let known = known_still g.R.Source.packets g.R.Source.packet c.parts.messages c.hand_all.new.messages _ c.hand_all.ensures.packets c.parts.invariant.4 in
     let passes = rw c.in-Ok-Over.field-0-is at c.in-Ok-Over.ensures.passes in
@@ -159,7 +159,7 @@ parts-preserved g c =
 pub parts-smaller : goal.parts-smaller
 parts-smaller g c =
     let r = reach c.parts.invariant.0 g.met.V.MessageVisitor.adds_up c.parts.invariant.4 c.hand_all.new.messages c.hand_all.new.visitor
-    (known_still g.R.Source.packets g.R.Source.packet c.parts.messages c.hand_all.new.messages _ c.hand_all.ensures.packets c.parts.invariant.4) c.in-Ok.counted c.up_to-tally.result c.up_to-tally.ensures (at_fault c.parts.invariant.0 g.met.V.MessageVisitor.adds_up c.parts.invariant.4 c.hand_all.new.messages c.hand_all.new.visitor c.in-Ok.counted _ c.in-Some.is c.in-Ok.ensures.hands) in
+    (known_still g.R.Source.packets g.R.Source.packet c.parts.messages c.hand_all.new.messages _ c.hand_all.ensures.packets c.parts.invariant.4) c.hand_all.ensures.looked c.in-Ok.counted c.up_to-tally.result c.up_to-tally.ensures (at_fault c.parts.invariant.0 g.met.V.MessageVisitor.adds_up c.parts.invariant.4 c.hand_all.new.messages c.hand_all.new.visitor c.in-Ok.counted _ c.in-Some.is c.in-Ok.ensures.hands) in
     let all = (at_fault c.parts.invariant.0 g.met.V.MessageVisitor.adds_up c.parts.invariant.4 c.hand_all.new.messages c.hand_all.new.visitor c.in-Ok.counted _ c.in-Some.is c.in-Ok.ensures.hands).all in
     let on = grows g.met.V.MessageVisitor.adds_up r c.in-Some.is c.number_of.result (c.number_of.ensures ∙ ap number_of c.packet.ensures) c.pass.new.messages (known_still g.R.Source.packets g.R.Source.packet c.parts.messages c.hand_all.new.messages _ c.hand_all.ensures.packets c.parts.invariant.4) (rw c.in-Ok-Over.field-0-is at c.in-Ok-Over.ensures.passes) (rw c.in-Ok-Over.field-0-is at c.in-Ok-Over.ensures.in_packet) in
     omega (arith, all.done, all.size_is, on.1, done_small c.pass.new.messages)

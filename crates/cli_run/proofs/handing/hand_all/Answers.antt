@@ -21,6 +21,7 @@ messages-init g c = (
       c.args.messages.now.reader c.args.visitor.now c.requires.within c.requires.unstopped,
   refl,
   λ all has. has,
+  refl,
 )
 
 -- what the reader lends
@@ -60,6 +61,7 @@ messages-preserved g c =
           (HasKnownPackets g.R.Source.packets g.R.Source.packet c.args.messages.now) (c.messages.count + 1) c.args.messages.now.reader new.reader v c.args.visitor.now c.take.new.self) (sym l.gives.kept) more,
       c.next_message.ensures.same_reference ∙ c.messages.invariant.1,
       keeps,
+      c.next_message.ensures.looked ∙ c.messages.invariant.3,
     )
 
 pub messages-smaller : goal.messages-smaller

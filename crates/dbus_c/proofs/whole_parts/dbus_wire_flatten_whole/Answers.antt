@@ -1,4 +1,4 @@
-use Rattle.std.proofs.Common.{ℕ, subst, sym}
+use Rattle.std.proofs.Common.{◌≡◌, ℕ, subst, sym, arith}
 use Rattle.dbus_value_model.specs.declared.limits.Limits.{Limits}
 use Rattle.dbus_header.specs.MessageOutcomes.{IsRefused}
 use Rattle.dbus_check.specs.declared.check.Check.{Check}
@@ -18,12 +18,21 @@ returns-in-Partial-clause-checked c =
     subst (λ (l : Limits). IsChecked l c.args.bytes.now 1 c.check_all.new.out) c.given_limits.ensures
     (subst (λ (x : Check). IsChecked c.given_limits.result c.args.bytes.now (answer_of x) c.check_all.new.out) c.in-Partial.is c.check_all.ensures.checked)
 
+pub returns-in-Done-clause-refused : goal.returns-in-Done-clause-refused
+returns-in-Done-clause-refused c = λ fault is. let wrong : 0 ≡ 2 = ((returns-in-Done-clause-checked c).exact.refused fault is).0 in absurd (omega (arith, wrong))
+
+pub returns-in-Partial-clause-refused : goal.returns-in-Partial-clause-refused
+returns-in-Partial-clause-refused c = λ fault is. let wrong : 1 ≡ 2 = ((returns-in-Partial-clause-checked c).exact.refused fault is).0 in absurd (omega (arith, wrong))
+
 pub returns-in-Refused-clause-checked : goal.returns-in-Refused-clause-checked
 returns-in-Refused-clause-checked c =
     let refused =
     subst (λ (l : Limits). IsChecked l c.args.bytes.now 2 c.check_all.new.out) c.given_limits.ensures
     (subst (λ (x : Check). IsChecked c.given_limits.result c.args.bytes.now (answer_of x) c.check_all.new.out) c.in-Refused.is c.check_all.ensures.checked) in
     subst (λ (n : ℕ). IsChecked (limits_of c.args.limits.now) c.args.bytes.now n c.check_all.new.out) (sym (told_checked c.tell_count.result c.tell_count.ensures.told)) refused
+
+pub returns-in-Refused-clause-refused : goal.returns-in-Refused-clause-refused
+returns-in-Refused-clause-refused c = λ fault is. c.tell_count.ensures.told
 
 pub returns-in-Refused-clause-flat : goal.returns-in-Refused-clause-flat
 returns-in-Refused-clause-flat c = λ told.

@@ -1,6 +1,4 @@
-use Rattle.std.proofs.Common.{◌≡◌, None, if◌then◌else◌, ap, sym, ◌∙◌}
-use Rattle.std.specs.Str.{bytes_eq}
-use Rattle.dbus_rule_set.specs.Owners.{without_unique}
+use Rattle.std.proofs.Common.{ap, sym, ◌∙◌}
 use Rattle.dbus_calls.specs.Events.{event_seen}
 use Rattle.dbus_names.specs.Kept.{first_of, kept_names}
 use Rattle.dbus_names.specs.NameStates.{if_had, names_left}

@@ -5,16 +5,13 @@ use Rattle.std.specs.Prelude.{◌≡◌, Some}
 use Rattle.dbus_calls.specs.OwnerChanges.Change.{Owned}
 use Rattle.dbus_names.specs.Kept.{first_of, kept_names}
 use Rattle.dbus_names.specs.NameStates.{named_by}
-use Rattle.dbus_names.proofs.KeptSteps.{on_ok}
 use Rattle.dbus_names.proofs.Naming.{named_anew}
 use Rattle.dbus_names.proofs.names.note_owner.Goals as goal
 
-pub returns-clause-named : goal.returns-clause-named
-returns-clause-named c =
+pub returns-in-Ok-clause-named : goal.returns-in-Ok-clause-named
+returns-in-Ok-clause-named c = λ u.
     let old = c.args.owners.now in
     let first = c.args.first.now in
     let now = c.note.new.self in
-    on_ok c.set.result
-    (λ set u. subst (λ (os : OwnerSet). kept_names now os u ≡ named_by (Some (Owned (owner_seen c.args.owner))) os (kept_names first old) u) (sym set)
-    (named_anew old c.args.owner.name.now c.args.owner.unique.now u (first_of first u) (first_of now u) (c.in_ok-note.ensures u)))
-    c.set.ensures.set
+    subst (λ (os : OwnerSet). kept_names now os u ≡ named_by (Some (Owned (owner_seen c.args.owner))) os (kept_names first old) u) (sym c.in-Ok.ensures.set)
+    (named_anew old c.args.owner.name.now c.args.owner.unique.now u (first_of first u) (first_of now u) (c.in_ok-is_first.ensures.noted u))

@@ -36,6 +36,7 @@ returns-clause-told c = λ order m here.
       call_lengths = numbers.call_lengths;
       name_lengths = numbers.name_lengths;
       holder_lengths = numbers.holder_lengths;
+      reserved = numbers.reserved;
       event = subst (λ (n : ℕ). IsEvent n page.serial event.caller.now event.sender.now (event_of m)) (sym numbers.event.0)
           (subst (λ (n : ℕ). IsEvent event.event n event.caller.now event.sender.now (event_of m)) (sym numbers.event.1) (c.event_told.ensures order m seen));
       said = subst (λ (n : ℕ). IsSaid n said.name.now said.unique.now (wanted_change is_well_known (change_of m)) (asked_by is_well_known m)) (sym numbers.says) (c.said_by.ensures order m seen);

@@ -1,6 +1,6 @@
-use Rattle.std.proofs.Common.{◌≡◌, ◌+◌, ℕ, drop, subst, arith}
+use Rattle.std.proofs.Common.{◌≡◌, ◌+◌, ◌-◌, ℕ, drop, refl, subst, arith}
 use Rattle.dbus_header.specs.NoMessage.{BeginsWithNone}
-use Rattle.dbus_resync.specs.Search.{Looks}
+use Rattle.dbus_resync.specs.Search.{Looks, LooksBefore}
 use Rattle.dbus_resync.proofs.Steps.{is_none, looks_from, looks_more, none_from, none_more, none_there}
 use Rattle.dbus_resync.proofs.search.first_message.Goals as goal
 use Rattle.dbus_resync.proofs.search.first_message.Goals.{else-size-gt0-via-then-size-gt0+else-is_some, else-size-gt0-via-else-size-gt0}
@@ -9,6 +9,7 @@ pub returns-then-size-left-clause-effort : goal.returns-then-size-left-clause-ef
 returns-then-size-left-clause-effort c =
     let i = c.loop-at.invariant in
     let size = c.size_there-size.result in (
+      refl,
       c.loop-at.at,
       i.0,
       i.1.0 + size,
@@ -20,12 +21,11 @@ returns-then-size-left-clause-effort c =
 pub returns-then-is_some-clause-effort : goal.returns-then-is_some-clause-effort
 returns-then-is_some-clause-effort c =
     let i = c.loop-at.invariant in
-    let size = c.size_there-size.result in (
-      i.1.0 + size,
-      looks_more c.args.limits c.args.bytes.now c.loop-at.at i.1.0 size i.1.1
-          (looks_from c.args.limits c.args.bytes.now c.loop-at.at size c.size_there-size.ensures.looks),
-      omega (arith, i.1.2, c.if-size-left.false),
-    )
+    let size = c.size_there-size.result in
+    let looks = looks_more c.args.limits c.args.bytes.now c.loop-at.at i.1.0 size i.1.1
+    (looks_from c.args.limits c.args.bytes.now c.loop-at.at size c.size_there-size.ensures.looks) in
+    let looked : i.1.0 + size ≡ c.args.effort - (c.loop-at.left - size) = omega (arith, i.1.2, c.if-size-left.false) in
+    (subst (λ (n : ℕ). LooksBefore c.args.limits c.args.bytes.now (c.loop-at.at + 1) n) looked looks, omega (arith, i.1.2, c.if-size-left.false))
 
 pub loop-at-preserved : goal.loop-at-preserved
 loop-at-preserved c =

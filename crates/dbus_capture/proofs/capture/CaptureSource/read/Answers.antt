@@ -1,4 +1,4 @@
-use Rattle.dbus_capture.proofs.CaptureSteps.{part_gives, part_fails, part_counted, part_repacked}
+use Rattle.dbus_capture.proofs.CaptureSteps.{part_gives, part_fails, part_counted, part_repacked, asks_counted}
 use Rattle.dbus_capture.proofs.PacketSteps.{part_packets}
 use Rattle.dbus_capture.proofs.capture.CaptureSource.read.Goals as goal
 
@@ -17,3 +17,7 @@ pub returns-clause-of_packet : goal.returns-clause-of_packet
 returns-clause-of_packet g c =
     rw c.last_packet-self.ensures (part_packets g.R.Source.left g.R.Source.failures _ c.read_part-read.new.self c.read_part-read.result c.read_part-read.new.buffer _
     c.read_part-read.ensures.bound c.read_part-read.ensures.part)
+
+pub returns-clause-asks : goal.returns-clause-asks
+returns-clause-asks g c =
+    asks_counted g.R.Source.left g.R.Source.calls g.R.Source.failures c.args.self.now c.read_part-read.new.self _ _ _ _ _ _ c.read_part-read.result c.read_part-read.ensures.asks

@@ -19,8 +19,11 @@ put : (s : String Global) (name : List ℕ) (b none : Bool) (x : Option (String 
 put s name true none x is k = ap (λ t. Some t) is ∙ ap (λ z. if z then Some name else option_map string_bytes x) (sym (k refl))
 put s name false none x is k = refl
 
-pub returns-in-Ok : goal.returns-in-Ok
-returns-in-Ok c = λ u.
+pub returns-in-Ok-clause-is_first : goal.returns-in-Ok-clause-is_first
+returns-in-Ok-clause-is_first c = sym (ap is_none (sym c.of.ensures) ∙ none_mapped (λ name. name.now) c.of.result (sym c.is_some.ensures ∙ c.if-is_some.false))
+
+pub returns-in-Ok-clause-noted : goal.returns-in-Ok-clause-noted
+returns-in-Ok-clause-noted c = λ u.
     let old = c.args.self.now in
     let os = c.args.owners.now in
     let unique = c.args.unique.now in

@@ -15,7 +15,17 @@ invariant_of-self g c =
     let old = c.args.self.now in
     let read = c.next.ensures.read (kept old) (keeps old) in
     let l = lending_next _ old.reader c.next.new.self c.next.result (read.1 c.in_default.is) in
-    record { lent_before = l.before; lent_counted = l.counted; lent_alone = l.alone; held_counted = l.held; dropped_refused = λ some. absurd (drops_none old c.in_default.is some); dropped_alone = λ some. absurd (drops_none old c.in_default.is some); dropped_counted = (let zero = drops_zero old c.in_default.is in omega (arith, zero)); dropped_inside = none_inside old.refused _ (drops_zero old c.in_default.is) }
+    record {
+      looked_few = c.args.self.now.looked_few;
+      lent_before = l.before;
+      lent_counted = l.counted;
+      lent_alone = l.alone;
+      held_counted = l.held;
+      dropped_refused = λ some. absurd (drops_none old c.in_default.is some);
+      dropped_alone = λ some. absurd (drops_none old c.in_default.is some);
+      dropped_counted = (let zero = drops_zero old c.in_default.is in omega (arith, zero));
+      dropped_inside = none_inside old.refused _ (drops_zero old c.in_default.is);
+    }
 
 pub returns-clause-read : goal.returns-clause-read
 returns-clause-read g c =

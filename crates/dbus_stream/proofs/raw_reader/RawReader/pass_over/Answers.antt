@@ -52,6 +52,7 @@ invariant_of-self-4 g c =
     let unlent = ap (λ (t : GathererState). t.lent) fresh in
     let new = c.pass_over.new.self in
     record {
+      looked_few = c.args.self.now.looked_few;
       lent_before = omega (arith, unlent);
       lent_counted = omega (arith, unlent);
       lent_alone = λ some. absurd (omega (arith, unlent, some));

@@ -1,0 +1,34 @@
+"""What git knows of the commits that are here."""
+
+import subprocess
+
+from crate_list import ROOT
+
+
+def git(*words):
+    """What git writes, or nothing if it does not know."""
+    ran = subprocess.run(["git", "-C", ROOT, *words], capture_output=True, text=True)
+    return "" if ran.returncode else ran.stdout
+
+
+def is_whole():
+    """Whether the history is here from its beginning on."""
+    return (ROOT / ".git").exists() and git("rev-parse", "--is-shallow-repository").strip() == "false"
+
+
+def last_tag():
+    return git("describe", "--tags", "--abbrev=0").strip()
+
+
+def commits_since(tag, file):
+    """The commits that changed a file, since a tag if there is one."""
+    return git("rev-list", "--abbrev-commit", f"{tag}..HEAD" if tag else "HEAD", "--", file).split()
+
+
+def parents_of(commit):
+    return git("rev-parse", f"{commit}^@").split()
+
+
+def message_of(commit, part="%B"):
+    """The message of a commit, or with `%b` its body."""
+    return git("log", "-1", f"--format={part}", commit)
