@@ -47,9 +47,7 @@ PAGES = "*.md docs/*.md cases/*.md cases/peers/*.md python/*.md rust/*.md sample
 # What scripts write of a page, without the groups.
 WHOLE = (re.compile(r".+", re.S),)
 GENERATED = {
-    "docs/API.md": WHOLE,
-    "docs/PEERS.md": WHOLE,
-    "docs/WORKED-EXAMPLES.md": WHOLE,
+    **dict.fromkeys(("docs/API.md", "docs/PEERS.md", "docs/SPECIFICATION.md", "docs/WORKED-EXAMPLES.md"), WHOLE),
     "docs/ARCHITECTURE.md": (graph.PICTURE,),
     "docs/DEFINITIONS.md": (definitions.TABLE,),
     "man/dbus-wire.1": (rules.PART, rules.LINES_PART),
@@ -61,7 +59,7 @@ TEXTS = {
 }
 # Tests, cases, and what scripts write.
 ASIDE = re.compile(
-    r"cases/|examples/|\w+/tests/|bench/\w+\.txt|docs/(API|PEERS|WORKED)"
+    r"cases/|examples/|\w+/tests/|bench/\w+\.txt|docs/(API|PEERS|SPEC|WORKED)"
     r"|crates/(\w+/(wrong|runs)|case_\w+|library_tests|examples)"
 )
 

@@ -28,7 +28,7 @@ PYTHONS = (sys.executable, "/usr/bin/python3")
 # What the specification leaves open: reasons, and cases.
 CHOSEN_REASONS = ("FieldTwice", "ZeroSerial of a field")
 CHOSEN_CASES = re.compile("dict_entries_are_no_open_containers|dict_that_repeats_a_key|dict_with_a_repeated_key|dict_of_variants_with_62_open|dict_with_63_open|path_that_is_local|interface_that_is_local")
-MOST_NAMES = 3
+MOST_NAMES = 4
 
 # An answer that differs: the case, the question's first word, whether it is as it was, and as rewritten, which was wanted and which was found.
 Differs = collections.namedtuple("Differs", "name kind was is_now wanted found")
