@@ -86,14 +86,13 @@ class Browser {
     return { ...answers, ...(await this.shownBy("type='method_call'", "Serial")) };
   }
 
-  // The numbers of the messages that are shown by a match rule and a word, which are then taken back; what is saved of them; and the command that writes them.
+  // The numbers of the messages that are shown by a match rule and a word; what is saved of them; and their command.
   async shownBy(rule, word) {
     return this.value(`(async () => {
       [find("rule").value, find("words").value] = ${JSON.stringify([rule, word])};
       await filter();
       const calls = state.shown.map((it) => state.rows[it]).filter((it) => it.isWhole).map((it) => it.number);
-      const saved = [...new Uint8Array(await pcap().arrayBuffer())].map((it) => it.toString(16).padStart(2, "0")).join("");
-      const shown = { calls, saved, command: command() };
+      const shown = { calls, saved: [...new Uint8Array(await pcap().arrayBuffer())], command: command() };
       find("rule").value = find("words").value = "";
       return shown;
     })()`);

@@ -22,8 +22,8 @@ def hash_of(text):
 def page(module, notices):
     before = "\n".join((HERE / it).read_text() for it in BEFORE_MODULE)
     sample = (HERE.parent / "samples" / "calls.pcap").read_bytes()
-    data = "".join(f'const {name} = "{base64.b64encode(it).decode()}";\n' for name, it in (("MODULE", module), ("SAMPLE", sample)))
-    script = f'{before}\n{data}\n{(HERE / "page.js").read_text()}'
+    first, second = (base64.b64encode(it).decode() for it in (module, sample))
+    script = f'{before}\nconst MODULE = "{first}", SAMPLE = "{second}";\n\n{(HERE / "page.js").read_text()}'
     style = (HERE / "page.css").read_text()
     if "</script" in script.lower() or "</style" in style.lower():
         raise ValueError("a source would end its own element")

@@ -6,10 +6,10 @@ const TURN_MILLISECONDS = 24;
 const HEX_BYTES = 16, HEX_LINES = 48;
 const MOST_LIFELINES = 8, LIFELINE_GAP = 24;
 // As many cells as the line of a row has at least, and the width of one.
-const LEAST_CELLS = 100, CELL_WIDTH = 8;
+const LEAST_CELLS = 100, CELL_WIDTH = 8.5;
 const COLUMNS = ["number", "time", "sender", "destination", "arrow", "info", "size"];
 // What stands in them, as a line of `list` has it.
-const PARTS = /^ *(?<number>\d+) (?:(?<time>[\d:.]{12}) )? *(?<size>\d+) (?<sender>\S+) +> (?<destination>\S+) +(?<info>.*)$/s;
+const PARTS = /^ *(?<number>\d+) ((?<time>\S+:\S+) )? *(?<size>\d+) (?<sender>\S+) +> (?<destination>\S+) +(?<info>.+)/s;
 
 const find = (id) => document.getElementById(id);
 const state = { module: null, reader: null, name: "", side: "", rows: [], shown: [], words: [], rule: null, skipped: 0, active: -1, run: 0, isReading: false, texts: new Map(), peers: new Map(), lifelines: [], tables: null };
@@ -128,7 +128,8 @@ function listed(row, cells = 0) {
   if (row.isWhole) {
     return state.reader.line(row.number, row.offset, row.length, row.beside, cells).slice(0, -1);
   }
-  return `refused at ${row.offset + row.at}: ${state.reader.reason(row.offset)} in message ${row.number} at ${row.offset}`;
+  const { number, offset, at } = row;
+  return `refused at ${offset + at}: ${state.reader.reason(offset)} in message ${number} at ${offset}`;
 }
 
 function tellEnd(name) {
@@ -253,19 +254,19 @@ function cellsOf(row) {
   if (!row.isWhole) {
     return { number: row.number, info: listed(row) };
   }
-  const cells = PARTS.exec(listed(row, Math.max(LEAST_CELLS, Math.floor(find("list").clientWidth / CELL_WIDTH)))).groups;
+  const width = Math.max(LEAST_CELLS, Math.floor(find("list").clientWidth / CELL_WIDTH));
+  // Long names leave no room for the rest.
+  const parts = (PARTS.exec(listed(row, width)) ?? PARTS.exec(listed(row))).groups;
   const isDrawn = [row.sender, row.destination].every((it) => !it || state.lifelines.includes(it));
-  const names = find("diagram").checked && !isDrawn ? `${cells.sender} > ${cells.destination} ` : "";
-  return { ...cells, info: names + cells.info };
+  const names = find("diagram").checked && !isDrawn ? `${parts.sender} > ${parts.destination} ` : "";
+  return { ...parts, info: names + parts.info };
 }
 
 function rowElement(row, place) {
-  const made = element("div", "", { role: "row", id: `row-${place}`, "aria-rowindex": place + 2, "aria-selected": place === state.active });
-  made.classList.add("row", row.isWhole ? row.kind : "refused");
-  const cells = cellsOf(row);
+  const how = `row ${row.isWhole ? row.kind : "refused"}`, cells = cellsOf(row);
+  const made = element("div", "", { role: "row", class: how, id: `row-${place}`, "aria-rowindex": place + 2, "aria-selected": place === state.active });
   for (const name of COLUMNS) {
-    const cell = element("span", cells[name] ?? "", { role: "gridcell" });
-    cell.classList.add(name);
+    const cell = element("span", cells[name] ?? "", { role: "gridcell", class: name });
     if (name === "arrow" && find("diagram").checked) {
       cell.append(arrowElement(row));
     }
@@ -311,7 +312,7 @@ function pressKey(event) {
   }
 }
 
-// From the details too, n and N choose the next message that is shown and the one before, and Escape goes back to the list.
+// From the details too, n and N choose the next message and the one before, and Escape goes back to the list.
 function pressAnyKey(event) {
   if (event.key === "Escape") {
     find("list").focus();
@@ -327,10 +328,11 @@ function pressAnyKey(event) {
 // The command that writes the messages shown as JSON.
 function command() {
   const quoted = (text) => `'${text.replaceAll("'", "'\\''")}'`;
+  const rule = state.rule?.length ? quoted(find("rule").value) : "";
   const goesOn = state.rows.some((it) => !it.isWhole) ? " --keep-going" : "";
   const side = state.side ? ` --handshake ${state.side}` : "";
-  const [first, then] = state.rule?.length ? [`filter ${quoted(find("rule").value)}`, " | dbus-wire json"] : ["json", ""];
   const words = state.words.map((it) => ` | grep -iF -e ${quoted(it)}`).join("");
+  const [first, then] = rule ? [`filter ${rule}`, " | dbus-wire json"] : ["json", ""];
   return `dbus-wire ${first}${goesOn}${side} < ${quoted(state.name)}${then}${words}`;
 }
 
@@ -339,14 +341,13 @@ function pcap() {
   const parts = [Uint32Array.of(0xa1b23c4d, 0x00040002, 0, 0, 0x08000000, 231)];
   for (const row of state.shown.map((it) => state.rows[it]).filter((it) => it.isWhole)) {
     const [seconds, nanoseconds] = row.time ? row.time.split(".") : [0, 0];
-    parts.push(Uint32Array.of(seconds, nanoseconds, row.length, row.length), state.reader.part(row.offset, row.offset + row.length));
+    const bytes = state.reader.part(row.offset, row.offset + row.length);
+    parts.push(Uint32Array.of(seconds, nanoseconds, bytes.length, bytes.length), bytes);
   }
   return new Blob(parts);
 }
 
-function save() {
-  element("a", "", { href: URL.createObjectURL(pcap()), download: "shown.pcap" }).click();
-}
+const save = () => element("a", "", { href: URL.createObjectURL(pcap()), download: "shown.pcap" }).click();
 
 function copyButton(title, text) {
   const button = element("button", title, { type: "button" });
@@ -518,9 +519,7 @@ function takeDrop(event) {
   }
 }
 
-function bytesOf(base64) {
-  return Uint8Array.from(atob(base64), (it) => it.charCodeAt(0));
-}
+const bytesOf = (base64) => Uint8Array.from(atob(base64), (it) => it.charCodeAt(0));
 
 let typed = 0;
 function typeFilter() {
