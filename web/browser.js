@@ -43,7 +43,7 @@ class Browser {
     const { targetId } = await this.ask("Target.createTarget", { url: "about:blank" });
     this.session = (await this.ask("Target.attachToTarget", { targetId, flatten: true })).sessionId;
     await Promise.all(["Runtime", "Log", "Page", "DOM"].map((it) => this.ask(`${it}.enable`)));
-    await this.ask("Emulation.setDeviceMetricsOverride", { width: 1500, height: 800, deviceScaleFactor: 1, mobile: false });
+    await this.ask("Emulation.setDeviceMetricsOverride", { width: 1280, height: 800, deviceScaleFactor: 1, mobile: false });
     await this.ask("Page.navigate", { url: `file://${path.resolve(page)}` });
     await this.until("document.readyState === 'complete' && find('status').textContent.startsWith('Ready')");
     // From here on the page asks for nothing.
@@ -83,16 +83,17 @@ class Browser {
       const row = find(\`row-\${it}\`);
       return row ? [[...row.children].map((cell) => cell.textContent), find("details").querySelector("pre").textContent, find("details").querySelector(".line").textContent] : null;
     }) })`));
-    return { ...answers, calls: await this.shownBy("type='method_call'") };
+    return { ...answers, ...(await this.shownBy("type='method_call'", "Serial")) };
   }
 
-  // The numbers of the messages that are shown by a match rule, which is then taken back.
-  async shownBy(rule) {
+  // The numbers of the messages that are shown by a match rule and a word; what is saved of them; and their command.
+  async shownBy(rule, word) {
     return this.value(`(async () => {
-      find("rule").value = ${JSON.stringify(rule)};
+      [find("rule").value, find("words").value] = ${JSON.stringify([rule, word])};
       await filter();
-      const shown = state.shown.map((it) => state.rows[it]).filter((it) => it.isWhole).map((it) => it.number);
-      find("rule").value = "";
+      const calls = state.shown.map((it) => state.rows[it]).filter((it) => it.isWhole).map((it) => it.number);
+      const shown = { calls, saved: [...new Uint8Array(await pcap().arrayBuffer())], command: command() };
+      find("rule").value = find("words").value = "";
       return shown;
     })()`);
   }

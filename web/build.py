@@ -1,6 +1,6 @@
 #!/usr/bin/env python3
-"""build.py MODULE NOTICES OUT: puts the page together in one file, which opens from the disk: page.html with page.css, the scripts, the module and the
-licences of all that is in it.
+"""build.py MODULE NOTICES OUT: puts the page together in one file, which opens from the disk: page.html with page.css, the scripts, the module, a sample and
+the licences of all that is in it.
 
 The page's policy of content allows this script and this style by their hashes, WebAssembly, and nothing else: no network and no other script.
 """
@@ -21,7 +21,9 @@ def hash_of(text):
 
 def page(module, notices):
     before = "\n".join((HERE / it).read_text() for it in BEFORE_MODULE)
-    script = f'{before}\nconst MODULE = "{base64.b64encode(module).decode()}";\n\n{(HERE / "page.js").read_text()}'
+    sample = (HERE.parent / "samples" / "calls.pcap").read_bytes()
+    first, second = (base64.b64encode(it).decode() for it in (module, sample))
+    script = f'{before}\nconst MODULE = "{first}", SAMPLE = "{second}";\n\n{(HERE / "page.js").read_text()}'
     style = (HERE / "page.css").read_text()
     if "</script" in script.lower() or "</style" in style.lower():
         raise ValueError("a source would end its own element")

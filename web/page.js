@@ -1,14 +1,18 @@
 // Draws what the module reads, and filters it. What comes from the input is written as text, never as HTML.
 
-const ROW_HEIGHT = 26;
+const ROW_HEIGHT = 26, NARROW_ROW_HEIGHT = 48;
 const MOST_LIST_HEIGHT = 8e6;
 const TURN_MILLISECONDS = 24;
 const HEX_BYTES = 16, HEX_LINES = 48;
 const MOST_LIFELINES = 8, LIFELINE_GAP = 24;
-const COLUMNS = ["number", "time", "kind", "arrow", "sender", "destination", "member", "size"];
+// As many cells as the line of a row has at least, and the width of one.
+const LEAST_CELLS = 100, CELL_WIDTH = 8.5;
+const COLUMNS = ["number", "time", "sender", "destination", "arrow", "info", "size"];
+// What stands in them, as a line of `list` has it.
+const PARTS = /^ *(?<number>\d+) ((?<time>\S+:\S+) )? *(?<size>\d+) (?<sender>\S+) +> (?<destination>\S+) +(?<info>.+)/s;
 
 const find = (id) => document.getElementById(id);
-const state = { module: null, reader: null, rows: [], shown: [], words: [], rule: null, skipped: 0, active: -1, run: 0, isReading: false, texts: new Map(), peers: new Map(), lifelines: [], tables: null };
+const state = { module: null, reader: null, name: "", side: "", rows: [], shown: [], words: [], rule: null, skipped: 0, active: -1, run: 0, isReading: false, texts: new Map(), peers: new Map(), lifelines: [], tables: null };
 
 // ---- Reading
 
@@ -30,7 +34,8 @@ async function readBytes(bytes, name) {
       return;
     }
     const reader = new Reader(instance, bytes.subarray(skipped));
-    Object.assign(state, { reader, skipped, rows: [], shown: [], active: -1, texts: new Map(), peers: new Map(), lifelines: [], tables: new Tables(reader) });
+    const side = skipped === 0 ? "" : bytes[0] === 0 ? "client" : "server";
+    Object.assign(state, { reader, name, side, skipped, rows: [], shown: [], active: -1, texts: new Map(), peers: new Map(), lifelines: [], tables: new Tables(reader) });
     find("details").replaceChildren();
     draw();
     await inTurns(run, entries(reader), (entry) => addRow(entry));
@@ -43,6 +48,7 @@ async function readBytes(bytes, name) {
     state.isReading = false;
     state.lifelines = lifelines();
     tellEnd(name);
+    showDiagram();
     await filter();
   }
 }
@@ -99,36 +105,31 @@ function messageRow(entry) {
     kind: kept(String(said.type)),
     sender: peer(said.sender ?? ""),
     destination: peer(said.destination ?? ""),
-    member: kept(said.member ?? said.error_name ?? ""),
     time: said.time ?? "",
     reply: null,
     call: null,
     beside: state.tables.take(entry, said),
   };
-  join(row);
-  return row;
-}
-
-// Joins a reply to the call that it answers. The messages and refusals are counted from 1, and each has a row.
-function join(row) {
   if (row.beside.call) {
+    // Joins a reply to the call that it answers. The messages and refusals are counted from 1, and each has a row.
     row.call = row.beside.call.number - 1;
     state.rows[row.call].reply = row.number - 1;
   }
+  return row;
 }
 
 function refusedRow(entry) {
   const kind = entry.isPartial ? "cut off" : "refused";
-  const member = `at ${entry.offset + entry.at}: ${state.reader.reason(entry.offset)}`;
-  return { ...entry, kind, sender: "", destination: "", member, time: "", reply: null, call: null };
+  return { ...entry, kind, sender: "", destination: "", time: "", reply: null, call: null };
 }
 
-// What dbus-wire writes of a row: the line of `list`, or that of a refusal.
-function listed(row) {
+// What dbus-wire writes of a row: the line of `list` of so many cells, or that of a refusal.
+function listed(row, cells = 0) {
   if (row.isWhole) {
-    return state.reader.line(row.number, row.offset, row.length, row.beside, 0).slice(0, -1);
+    return state.reader.line(row.number, row.offset, row.length, row.beside, cells).slice(0, -1);
   }
-  return `refused ${row.member} in message ${row.number} at ${row.offset}`;
+  const { number, offset, at } = row;
+  return `refused at ${offset + at}: ${state.reader.reason(offset)} in message ${number} at ${offset}`;
 }
 
 function tellEnd(name) {
@@ -143,6 +144,9 @@ function tellEnd(name) {
   }
   if (fault !== null) {
     parts.push(`the capture file is at fault at byte ${fault}`);
+  }
+  if (state.rows.length === 0) {
+    parts.push("to record some, run dbus-monitor --session --pcap > FILE, and end it by Ctrl+C");
   }
   tell(parts.join("; "));
 }
@@ -197,18 +201,23 @@ function textOf(row) {
 
 // ---- The list
 
+// On a narrow screen a row has two lines.
+function rowHeight() {
+  return matchMedia("(max-width: 40em)").matches ? NARROW_ROW_HEIGHT : ROW_HEIGHT;
+}
+
 // The browser bounds the height of an element, so that many rows share it.
 function listHeight() {
-  return Math.min(state.shown.length * ROW_HEIGHT, MOST_LIST_HEIGHT);
+  return Math.min(state.shown.length * rowHeight(), MOST_LIST_HEIGHT);
 }
 
 // How much of the list is seen below its head.
 function viewHeight() {
-  return Math.max(0, find("list").clientHeight - ROW_HEIGHT);
+  return Math.max(0, find("list").clientHeight - find("head").offsetHeight);
 }
 
 function wholeRows() {
-  return Math.max(1, Math.floor(viewHeight() / ROW_HEIGHT));
+  return Math.max(1, Math.floor(viewHeight() / rowHeight()));
 }
 
 // The last row that may be the first one that is seen.
@@ -225,20 +234,14 @@ function draw() {
   const list = find("list"), first = firstRow();
   find("space").style.height = `${listHeight()}px`;
   const rows = state.shown.slice(first, first + wholeRows() + 1).map((index, at) => rowElement(state.rows[index], first + at));
-  const top = Math.min(list.scrollTop, Math.max(0, listHeight() - rows.length * ROW_HEIGHT));
+  const top = Math.min(list.scrollTop, Math.max(0, listHeight() - rows.length * rowHeight()));
   find("seen").style.transform = `translateY(${top}px)`;
   find("seen").replaceChildren(...rows);
   list.setAttribute("aria-rowcount", state.shown.length + 1);
-  const active = find(`row-${state.active}`);
-  if (active) {
-    list.setAttribute("aria-activedescendant", active.id);
-  } else {
-    list.removeAttribute("aria-activedescendant");
-  }
+  list.setAttribute("aria-activedescendant", find(`row-${state.active}`)?.id ?? "");
 }
 
-function element(tag, text, attributes = {}) {
-  const made = document.createElement(tag);
+function element(tag, text, attributes = {}, made = document.createElement(tag)) {
   made.textContent = text;
   for (const [name, value] of Object.entries(attributes)) {
     made.setAttribute(name, value);
@@ -246,13 +249,24 @@ function element(tag, text, attributes = {}) {
   return made;
 }
 
+// What the cells of a row have. The diagram has a line for the names that come most, and others are told.
+function cellsOf(row) {
+  if (!row.isWhole) {
+    return { number: row.number, info: listed(row) };
+  }
+  const width = Math.max(LEAST_CELLS, Math.floor(find("list").clientWidth / CELL_WIDTH));
+  // Long names leave no room for the rest.
+  const parts = (PARTS.exec(listed(row, width)) ?? PARTS.exec(listed(row))).groups;
+  const isDrawn = [row.sender, row.destination].every((it) => !it || state.lifelines.includes(it));
+  const names = find("diagram").checked && !isDrawn ? `${parts.sender} > ${parts.destination} ` : "";
+  return { ...parts, info: names + parts.info };
+}
+
 function rowElement(row, place) {
-  const made = element("div", "", { role: "row", id: `row-${place}`, "aria-rowindex": place + 2, "aria-selected": place === state.active });
-  made.classList.add("row", row.isWhole ? "whole" : "refused");
-  const cells = { ...row, arrow: "", size: row.isWhole ? row.length : "", time: timeOfDay(row.time) };
+  const how = `row ${row.isWhole ? row.kind : "refused"}`, cells = cellsOf(row);
+  const made = element("div", "", { role: "row", class: how, id: `row-${place}`, "aria-rowindex": place + 2, "aria-selected": place === state.active });
   for (const name of COLUMNS) {
-    const cell = element("span", cells[name], { role: "gridcell" });
-    cell.classList.add(name);
+    const cell = element("span", cells[name] ?? "", { role: "gridcell", class: name });
     if (name === "arrow" && find("diagram").checked) {
       cell.append(arrowElement(row));
     }
@@ -260,12 +274,6 @@ function rowElement(row, place) {
   }
   made.addEventListener("click", () => choose(place));
   return made;
-}
-
-// The time of day in UTC, with nine digits behind the point.
-function timeOfDay(time) {
-  const [seconds, fraction] = time.split(".");
-  return time ? `${new Date(Number(seconds) * 1000).toISOString().slice(11, 19)}.${fraction}` : "";
 }
 
 function choose(place) {
@@ -304,10 +312,61 @@ function pressKey(event) {
   }
 }
 
+// From the details too, n and N choose the next message and the one before, and Escape goes back to the list.
+function pressAnyKey(event) {
+  if (event.key === "Escape") {
+    find("list").focus();
+  } else if (event.key === "n") {
+    choose(state.active + 1);
+  } else if (event.key === "N") {
+    choose(state.active - 1);
+  }
+}
+
+// ---- Taking away what is shown
+
+// The command that writes the messages shown as JSON.
+function command() {
+  const quoted = (text) => `'${text.replaceAll("'", "'\\''")}'`;
+  const rule = state.rule?.length ? quoted(find("rule").value) : "";
+  const goesOn = state.rows.some((it) => !it.isWhole) ? " --keep-going" : "";
+  const side = state.side ? ` --handshake ${state.side}` : "";
+  const words = state.words.map((it) => ` | grep -iF -e ${quoted(it)}`).join("");
+  const [first, then] = rule ? [`filter ${rule}`, " | dbus-wire json"] : ["json", ""];
+  return `dbus-wire ${first}${goesOn}${side} < ${quoted(state.name)}${then}${words}`;
+}
+
+// The messages shown as a pcap file, with times in nanoseconds: 0 of those that have none.
+function pcap() {
+  const parts = [Uint32Array.of(0xa1b23c4d, 0x00040002, 0, 0, 0x08000000, 231)];
+  for (const row of state.shown.map((it) => state.rows[it]).filter((it) => it.isWhole)) {
+    const [seconds, nanoseconds] = row.time ? row.time.split(".") : [0, 0];
+    const bytes = state.reader.part(row.offset, row.offset + row.length);
+    parts.push(Uint32Array.of(seconds, nanoseconds, bytes.length, bytes.length), bytes);
+  }
+  return new Blob(parts);
+}
+
+const save = () => element("a", "", { href: URL.createObjectURL(pcap()), download: "shown.pcap" }).click();
+
+function copyButton(title, text) {
+  const button = element("button", title, { type: "button" });
+  button.addEventListener("click", async () => {
+    await navigator.clipboard.writeText(text());
+    button.textContent = `${title}: done`;
+  });
+  return button;
+}
+
 // ---- The diagram
 
 function showDiagram() {
   find("list").classList.toggle("with-arrows", find("diagram").checked);
+  find("heads").replaceChildren(...state.lifelines.map((name, at) => {
+    const head = element("b", name.length > 14 ? `…${name.slice(-13)}` : name, { title: name });
+    head.style.left = `${(at + 1) * LIFELINE_GAP}px`;
+    return head;
+  }));
   draw();
 }
 
@@ -317,12 +376,8 @@ function lifelines() {
   return names.map(([name]) => name).sort();
 }
 
-function shape(tag, attributes) {
-  const made = document.createElementNS("http://www.w3.org/2000/svg", tag);
-  for (const [name, value] of Object.entries(attributes)) {
-    made.setAttribute(name, value);
-  }
-  return made;
+function shape(tag, attributes, text = "") {
+  return element(tag, text, attributes, document.createElementNS("http://www.w3.org/2000/svg", tag));
 }
 
 function arrowElement(row) {
@@ -330,8 +385,7 @@ function arrowElement(row) {
   const picture = shape("svg", { width: all + gap, height: ROW_HEIGHT, role: "img", "aria-label": arrowLabel(row) });
   names.forEach((name, at) => {
     const line = shape("line", { x1: (at + 1) * gap, x2: (at + 1) * gap, y1: 0, y2: ROW_HEIGHT, class: "lifeline" });
-    line.append(shape("title", {}));
-    line.firstChild.textContent = name;
+    line.append(shape("title", {}, name));
     picture.append(line);
   });
   const at = (name, other) => (names.includes(name) ? (names.indexOf(name) + 1) * gap : other);
@@ -354,15 +408,17 @@ function openRow(row) {
   const title = row.isWhole ? `Message ${row.number}` : `No message: number ${row.number}, ${row.kind}`;
   const where = `${row.isWhole ? `${row.length} bytes` : "refused"} at offset ${row.offset}${row.time ? `, captured ${fullTime(row.time)}` : ""}`;
   const parts = [element("h2", title), element("p", where), element("p", listed(row), { class: "line" }), ...joined(row)];
+  parts.push(...(row.isWhole ? [copyButton("Copy as JSON", () => lineOf(row))] : []));
   parts.push(element("h3", row.isWhole ? "Values" : "Why"), element("pre", row.isWhole ? pretty(lineOf(row)) : textOf(row), { tabindex: 0 }));
   const end = row.isWhole ? row.length : Math.max(row.length, row.at + HEX_BYTES * 4);
   parts.push(element("h3", "Bytes"), hexElement(row, end));
   find("details").replaceChildren(...parts);
 }
 
+// A time in UTC, with nine digits behind the point.
 function fullTime(time) {
-  const day = new Date(Number(time.split(".")[0]) * 1000).toISOString().slice(0, 10);
-  return `${day} ${timeOfDay(time)} UTC`;
+  const [seconds, fraction] = time.split(".");
+  return `${new Date(Number(seconds) * 1000).toISOString().slice(0, 19).replace("T", " ")}.${fraction} UTC`;
 }
 
 // Nanoseconds between two times, as milliseconds.
@@ -463,6 +519,8 @@ function takeDrop(event) {
   }
 }
 
+const bytesOf = (base64) => Uint8Array.from(atob(base64), (it) => it.charCodeAt(0));
+
 let typed = 0;
 function typeFilter() {
   clearTimeout(typed);
@@ -471,7 +529,7 @@ function typeFilter() {
 
 async function begin() {
   try {
-    state.module = await WebAssembly.compile(Uint8Array.from(atob(MODULE), (it) => it.charCodeAt(0)));
+    state.module = await WebAssembly.compile(bytesOf(MODULE));
   } catch (error) {
     tell(`This browser does not run WebAssembly with memory of 64 bits: ${error.message}`);
     return;
@@ -483,9 +541,13 @@ async function begin() {
   find("diagram").addEventListener("change", showDiagram);
   find("list").addEventListener("scroll", draw);
   find("list").addEventListener("keydown", pressKey);
+  document.querySelector("main").addEventListener("keydown", pressAnyKey);
+  find("sample").addEventListener("click", () => readBytes(bytesOf(SAMPLE), "calls.pcap"));
+  find("save").addEventListener("click", save);
+  find("save").before(copyButton("Copy command", command));
   document.addEventListener("dragover", (event) => event.preventDefault());
   document.addEventListener("drop", takeDrop);
-  window.addEventListener("resize", draw);
+  new ResizeObserver(draw).observe(find("list"));
   tell("Ready. Nothing leaves this page.");
 }
 

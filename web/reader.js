@@ -179,7 +179,7 @@ function* entries(reader) {
   }
 }
 
-// All that the module gives of an input: its messages as JSON, and as lines of 80 cells and of as many as they take; and of what is refused the number, the
+// All that the module gives of an input: its messages as JSON, and as lines of 100 cells and of as many as they take; and of what is refused the number, the
 // offset, the place of the fault, the name of the reason and the explanation. `tables` are those of the reader, which took no message.
 function answersOf(reader, tables) {
   const answers = { lines: "", listed: "", cut: "", refused: [], fault: reader.fileFault };
@@ -188,7 +188,7 @@ function answersOf(reader, tables) {
       const line = reader.json(it.number, it.offset, it.length), beside = tables.take(it, JSON.parse(line));
       answers.lines += line;
       answers.listed += reader.line(it.number, it.offset, it.length, beside, 0);
-      answers.cut += reader.line(it.number, it.offset, it.length, beside, 80);
+      answers.cut += reader.line(it.number, it.offset, it.length, beside, 100);
     } else {
       answers.refused.push([it.number, it.offset, it.offset + it.at, reader.reason(it.offset), reader.explain(it.number, it.offset)]);
     }

@@ -1,11 +1,14 @@
 #!/usr/bin/env python3
-"""test.py PROGRAM MODULE PAGE: compares what the page gives with what dbus-wire writes, over the samples and the bytes of cases: by the module in Node, and
-by the page in a headless Chromium, if there is one. BROWSER names another. The exit status is 1 if something differs.
+"""test.py PROGRAM MODULE PAGE: compares what the page gives with what dbus-wire writes, over the samples and the bytes of
+cases: by the module in Node, and by the page in a headless Chromium, if there is one. BROWSER names another. The exit
+status is 1 if something differs.
 
-What is compared of each input: the lines of `json --keep-going`, with `--handshake` if it begins as one side of a connection; those of `list` with it, of 80
-cells and of as many as they take; the number, offset, place and reason of each fault; its explanation, of which the bytes are left out if the input is a
-capture, since dbus-wire shows only those that it has read; and the place of the fault of a file. Of rules: which messages of the samples `filter` writes; and
-what the cases say of rules and of messages that match.
+What is compared of each input: the lines of `json --keep-going`, with `--handshake` if it begins as one side of a
+connection; those of `list` with it, of 100 cells and of as many as they take; the number, offset, place and reason of each
+fault; its explanation, of which the bytes are left out if the input is a capture, since dbus-wire shows only those that it
+has read; and the place of the fault of a file. Of the page also: the cells of the first row and the last; which messages it
+shows by a rule and a word, what it saves of them, and what the command that it gives writes. Of rules: which messages of
+the samples `filter` writes; and what the cases say of rules and of messages that match.
 """
 
 import concurrent.futures as futures
@@ -83,7 +86,8 @@ def written(program, data):
     said = ran.stderr.decode()
     if said.startswith("handshake refused"):
         return None
-    listed, cut = (subprocess.run([program, "list", "--width", it, *going, *side], input=data, capture_output=True).stdout.decode() for it in ("0", "80"))
+    lists = ([program, "list", "--width", it, *going, *side] for it in ("0", "100"))
+    listed, cut = (subprocess.run(it, input=data, capture_output=True).stdout.decode() for it in lists)
     refused = [[int(number), int(offset), int(place), reason, why] for place, reason, number, offset, why in REFUSED.findall(said)]
     fault = FAULT.search(said)
     return {"lines": ran.stdout.decode(), "listed": listed, "cut": cut, "refused": refused, "fault": int(fault[1]) if fault else None}
@@ -106,30 +110,57 @@ def differs(kind, all_inputs, wanted, given):
     return len(wrong)
 
 
-def unseen(all_inputs, given):
-    """How many inputs have a first or a last row that shows other than their answers, or show other messages by a match rule."""
+def unseen(program, folder, all_inputs, given):
+    """How many inputs have a first or a last row that shows other than their answers, or show, save or name by a command
+    other messages by a match rule."""
     wrong = 0
+    (folder / "dbus-wire").symlink_to(pathlib.Path(program).resolve())
     for (name, _), answers in zip(all_inputs, given):
         if answers is None:
             continue
         lines = [json.loads(it) for it in answers["lines"].splitlines()]
-        if answers["calls"] != [it["number"] for it in lines if it["type"] == "method_call"]:
+        calls = [it for it in lines if it["type"] == "method_call"]
+        if answers["calls"] != [it["number"] for it in calls] or not is_taken(folder, answers, calls):
             wrong += 1
-            print(f"{name}: the page shows {answers['calls']} as calls of methods")
-        listed = {it["number"]: line for it, line in zip(lines, answers["listed"].split("\n")[:-1], strict=True)}
+            print(f"{name}: the page shows {answers['calls']} as calls of methods, and gives {answers['command']}")
+        listed, cut = (answers[it].split("\n")[:-1] for it in ("listed", "cut"))
+        listed = {it["number"]: both for it, *both in zip(lines, listed, cut, strict=True)}
         refused = {it[0]: it for it in answers["refused"]}
         numbers = sorted([*listed, *refused])
         for number, seen in zip((numbers[:1] + numbers[-1:]), answers["seen"]):
             row, said, line = seen
             if number in listed:
-                is_right = json.loads(said) == next(it for it in lines if it["number"] == number) and line == listed[number]
+                is_right = json.loads(said) == next(it for it in lines if it["number"] == number)
+                # Of names that are long the cut line has no more.
+                is_right &= line == listed[number][0] and in_cells(row) in [it.replace(" ", "") for it in listed[number]]
             else:
                 _, offset, place, reason, why = refused[number]
-                is_right = said == why and row[6] == f"at {place}: {reason}" and line == f"refused at {place}: {reason} in message {number} at {offset}"
+                told = f"refused at {place}: {reason} in message {number} at {offset}"
+                is_right = said == why and line == row[5] == told
             if not is_right or row[0] != str(number):
                 wrong += 1
                 print(f"{name}: the page shows {seen} of message {number}")
     return wrong
+
+
+def in_cells(row):
+    """The line of `list` that the cells of a row are the parts of, without its spaces."""
+    number, time, sender, destination, arrow, info, size = row
+    return f"{number}{time}{size}{sender}>{destination}{arrow}{info}".replace(" ", "")
+
+
+def is_taken(folder, answers, calls):
+    """Whether what the page saves has these messages, and its command writes them."""
+    how = {"cwd": folder, "env": {**os.environ, "PATH": f"{folder}:{os.environ['PATH']}"}, "stdout": subprocess.PIPE}
+    saved = subprocess.run(["dbus-wire", "json"], input=bytes(answers["saved"]), **how).stdout
+    written = subprocess.run(["sh", "-c", answers["command"]], stderr=subprocess.DEVNULL, **how).stdout
+    saved, written = ([without_place(json.loads(it)) for it in lines.splitlines()] for lines in (saved, written))
+    wanted = [without_place(it) for it in calls]
+    return written == wanted and saved == [{"time": "0.000000000", **it} for it in wanted]
+
+
+def without_place(said):
+    return {key: value for key, value in said.items() if key not in ("number", "offset")}
 
 
 def matching(program, data, rule):
@@ -208,7 +239,8 @@ def main(program, module, page):
         for file, (_, data) in zip(files, all_inputs):
             file.write_bytes(data)
         shown = run_node([HERE / "browser.js", browser, page], "".join(f"{it}\n" for it in files))
-    wrong += differs(f"the page in {pathlib.Path(browser).name}", all_inputs, wanted, shown) + unseen(all_inputs, shown)
+        wrong += differs(f"the page in {pathlib.Path(browser).name}", all_inputs, wanted, shown)
+        wrong += unseen(program, pathlib.Path(folder), all_inputs, shown)
     return 1 if wrong else 0
 
 
