@@ -24,7 +24,7 @@ import tempfile
 from api import calls, laws
 from crate_list import ROOT, folder_of, lanes, read_crates
 from edits import edits_in
-from guards import guard_faults, unguarded_calls
+from guards import guard_faults, lines_in, unguarded_calls
 from history import commits_since, git, is_whole, last_tag, message_of, parents_of
 from meanings import Node, checksum_of, checksums, links_of, names_in_source, node, normal, words_of
 from sources import all_items, all_types, owner_of
@@ -206,6 +206,7 @@ def main(*words):
         return 1 if found else 0
     else:
         PAGE.write_text(page())
+        print(*(f"{crate}: {it}" for crate in read_crates() for it in lines_in(crate, "holds:")), sep="\n")
     return 0
 
 
