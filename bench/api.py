@@ -1,16 +1,15 @@
 #!/usr/bin/env python3
 """api.py [--check]: writes docs/API.md, the calls of the libraries by what a caller wants to do, out of the sources.
 
-A call is a public function, or a method of a public type or trait, that a crate of CALLERS declares or re-exports. A law is a function
-without a body in a module `laws`. With --check nothing is written, and the exit status is 1 if the page is not current. It is 1 too if a call
-or a law has no doc comment.
+A call is a public function, or a method of a public type or trait, that a crate of CALLERS declares or re-exports. A
+law is a function without a body in a module `laws`. The exit status is 1 too if a call or a law has no doc comment.
 """
 
 import collections
 import re
 
 from crate_list import ROOT, read_crates
-from pages import write_or_check
+from pages import table, write_or_check
 from sources import TYPES, all_items, all_types, cases, exports, methods
 
 PAGE = ROOT / "docs" / "API.md"
@@ -50,12 +49,12 @@ def calls():
                 yield from ((caller, f"{kind}::{it.name}", it) for kind, it in methods(item))
 
 
-def outer_parts(text):
-    """The parts of a list of types, which commas part outside of brackets."""
+def outer_parts(text, mark, brackets):
+    """The parts of a text, which marks part outside of brackets. Of each pair of these the second one closes."""
     parts, depth = [""], 0
     for letter in text:
-        depth += (letter in "<([") - (letter in ">)]")
-        if letter == "," and depth == 0:
+        depth += (letter in brackets[::2]) - (letter in brackets[1::2])
+        if letter == mark and depth == 0:
             parts.append("")
         else:
             parts[-1] += letter
@@ -65,7 +64,8 @@ def outer_parts(text):
 def error_of(item):
     """The error type, if the call returns a Result. One that hands back its arguments has them in a pair with it."""
     found = re.search(r"-> .*?\bResult<(.*)>", item.signature)
-    return outer_parts(outer_parts(found[1])[-1].strip(" ()"))[-1].strip() if found else None
+    last = outer_parts(found[1], ",", "<>()[]")[-1].strip(" ()") if found else ""
+    return outer_parts(last, ",", "<>()[]")[-1].strip() or None
 
 
 def cases_of(name):
@@ -83,6 +83,10 @@ def place_of(caller, item):
     return OWN, [*read_crates()].index(item.crate)
 
 
+def file_of(item):
+    return f"`{item.crate}/src/{item.file}`"
+
+
 def row(caller, name, item):
     signature = name + item.signature.split("fn ", 1)[1].removeprefix(item.name)
     error = error_of(item)
@@ -90,22 +94,12 @@ def row(caller, name, item):
     told = f"`{error}`" if error else ""
     if 0 < len(listed) <= CASES_IN_A_ROW:
         told += ": " + ", ".join(listed)
-    return f"| `{signature}` | {first_sentence(item.doc)} | {told} | {proved_of(item)} | `{caller}` | `{item.crate}/src/{item.file}` |"
-
-
-def conclusion(clause):
-    """What a clause states, after its last arrow that stands in no brackets."""
-    depth, at = 0, 0
-    for n, letter in enumerate(clause):
-        depth += (letter in "([{") - (letter in ")]}")
-        if letter == "→" and not depth:
-            at = n + 1
-    return clause[at:].strip()
+    return f"`{signature}`", first_sentence(item.doc), told, proved_of(item), f"`{caller}`", file_of(item)
 
 
 def stated_in(clause):
-    """The definition that a clause without a name states, if it is one: else what it says."""
-    said = conclusion(clause)
+    """The definition that a clause without a name states after its last arrow, if it is one: else what it says."""
+    said = outer_parts(clause, "→", "()[]{}")[-1]
     words = r"\(\w+( \w+)* : [^)]*\)|\b(Is|If|On)(True|Some|None|Ok|Err)\b|\bMatch(Option|Result)\b|\b(Some|None|Ok|Err)\b|\.[A-Z]\w+"
     found = re.search(r"\b[A-Z]\w+", re.sub(words, "", said))
     return found[0] if found else " ".join(said.split()).replace("|", "\\|")
@@ -115,22 +109,14 @@ def proved_of(item):
     """The clauses of a call, by their names, or what an only clause states."""
     if not item.clauses:
         return "its trait's" if " for " in item.owner or item.owner.startswith("trait") else "that it returns"
-    needed = f"; needs {listed_in(item.premises)}" if item.premises else ""
-    return listed_in(item.clauses) + needed
-
-
-def listed_in(clauses):
-    return ", ".join(f"`{name or stated_in(text)}`" for name, text in clauses)
+    both = ([f"`{name or stated_in(text)}`" for name, text in its] for its in (item.clauses, item.premises))
+    return "; needs ".join(", ".join(it) for it in both if it)
 
 
 def laws():
     """The laws of all libraries, lowest crate first."""
     libraries = (it for it in read_crates() if (ROOT / "crates" / it / "src" / "lib.rt").exists())
     return [it for crate in libraries for it in all_items(crate) if it.kind == "fn" and it.file.endswith("laws.rt")]
-
-
-def law_row(law):
-    return f"| `{law.crate}::{law.name}` | {first_sentence(law.doc)} | {proved_of(law)} | `{law.crate}/src/{law.file}` |"
 
 
 def error_rows(listed):
@@ -140,11 +126,7 @@ def error_rows(listed):
     for name in (*names, *(["Reason"] if "Fault" in names else [])):
         item = all_types()[name]
         for case, said in cases_of(name) or [("", first_sentence(item.doc))]:
-            yield f"| `{name}{'::' if case else ''}{case}` | {said} | `{item.crate}/src/{item.file}` |"
-
-
-def table(heading, columns, rows):
-    return [f"\n## {heading}\n", f"| {' | '.join(columns)} |", "|" + " --- |" * len(columns), *rows]
+            yield f"`{name}{'::' if case else ''}{case}`", said, file_of(item)
 
 
 def page(listed):
@@ -152,14 +134,13 @@ def page(listed):
     found = collections.defaultdict(list)
     for call in sorted(listed, key=lambda it: (place_of(it[0], it[2]), files.index((it[2].crate, it[2].file)), it[2].line)):
         found[place_of(call[0], call[2])[0]].append(row(*call))
-    lines = []
-    for heading in (*dict(HEADINGS), OWN):
-        if found[heading]:
-            lines += table(heading, ("call", "what it does", "errors", "proved", "crate", "file"), found[heading])
-    lines += table("Laws", ("law", "what it says", "proved", "file"), map(law_row, laws()))
-    lines += table("Errors", ("error", "when it comes", "file"), error_rows(listed))
+    columns = ("call", "what it does", "errors", "proved", "crate", "file")
+    parts = {it: table(columns, found[it]) for it in (*dict(HEADINGS), OWN) if found[it]}
+    law_rows = ((f"`{it.crate}::{it.name}`", first_sentence(it.doc), proved_of(it), file_of(it)) for it in laws())
+    parts["Laws"] = table(("law", "what it says", "proved", "file"), law_rows)
+    parts["Errors"] = table(("error", "when it comes", "file"), error_rows(listed))
     # What stands before the first heading is written by hand.
-    return PAGE.read_text().partition("\n## ")[0] + "\n".join(lines) + "\n"
+    return PAGE.read_text().partition("\n## ")[0] + "".join(f"\n## {it}\n\n{text}" for it, text in parts.items())
 
 
 if __name__ == "__main__":

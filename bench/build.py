@@ -4,9 +4,8 @@ build, as --target.
 
 `rt lib` locks each library below its crate, so crates that share one would wait for each other. Each is therefore built in a folder
 out/building/NAME, into which its files and the built libraries below it are linked, and what that makes is put back. First come
-the crates with the longest chain of others behind them; a processor that no other crate waits for joins in.
-
-bench/minutes.txt has the processor minutes of each crate's proof. They give the order, and the time that is left.
+the crates with the longest chain of others behind them, by bench/minutes.txt, which has the processor minutes of each
+crate's proof and so gives the time that is left; a processor that no other crate waits for joins in.
 """
 
 import collections
@@ -14,6 +13,7 @@ import concurrent.futures as futures
 import contextlib
 import fcntl
 import os
+import re
 import shutil
 import statistics
 import subprocess
@@ -30,9 +30,8 @@ Running = collections.namedtuple("Running", "name jobs began")
 
 def read_minutes(names):
     """The processor minutes of each crate, and the median for one that the table lacks."""
-    lines = (ROOT / "bench" / "minutes.txt").read_text().splitlines()
-    table = {name: float(minutes) for name, minutes in (line.split() for line in lines if line and line[0] != "#")}
-    return {name: table.get(name, statistics.median(table.values())) for name in names}
+    table = dict(re.findall(r"^(\w+) +(\S+)$", (ROOT / "bench" / "minutes.txt").read_text(), re.M))
+    return {name: float(table.get(name, statistics.median(map(float, table.values())))) for name in names}
 
 
 @contextlib.contextmanager

@@ -36,6 +36,7 @@ def asked_programs():
     return [name for name in read_crates() if (ROOT / "cases" / f"ask_{name}.py").exists()]
 
 
+@functools.cache
 def folder_of(name):
     return ROOT / "crates" / name
 

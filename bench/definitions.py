@@ -1,9 +1,8 @@
 #!/usr/bin/env python3
 """definitions.py [--check]: writes into docs/DEFINITIONS.md the table of the definitions that the headline rests on, and how many lines these have.
 
-They are the files of specs/ that `use` lines reach from START, in an order in which each file stands after those that it uses. Each begins with
-MARK, and no other file does; what a file defines is the rest of its first comment. With --check nothing is written, and the exit status is 1 if
-the page or a mark is not current.
+They are the files of specs/ that `use` lines reach from START, in an order in which each file stands after those that it
+uses. Each begins with MARK, and no other file does; what a file defines is the rest of its first comment.
 """
 
 import re
@@ -15,6 +14,7 @@ PAGE = ROOT / "docs" / "DEFINITIONS.md"
 START = "dbus_stream/specs/Headline.antt"
 MARK = "-- Trusted by the headline.\n"
 USE = re.compile(r"^\s*(?:pub )?use Rattle\.(\w+)\.specs\.(\w+)", re.M)
+NO_LINE = re.compile(r"\s*(--.*|(pub )?use .*)?$")
 TABLE = re.compile(r"(\| file \| what it defines \|\n\| --- \| --- \|\n)(?:\|.*\n)*")
 COUNT = re.compile(r"these \d+ files, about [\d,]+ lines")
 
@@ -28,11 +28,6 @@ def reach(file, found):
     found[file] = None
 
 
-def count_lines(file):
-    """The lines of a file without imports, comments and blank ones."""
-    return sum(not re.match(r"\s*(--.*|(pub )?use .*)?$", line) for line in text_of(file).splitlines())
-
-
 def row(file):
     """What the first sentence of the file says."""
     comment = re.match(r"(?:--.*\n)+", text_of(file).removeprefix(MARK))[0]
@@ -40,17 +35,14 @@ def row(file):
     return f"| `{file}` | {re.match(r'.*?(?=[.]( |$)|$)', said)[0]} |\n"
 
 
-def texts():
-    """The page, and each file of specs/ with the mark if the headline rests on it."""
+if __name__ == "__main__":
     found = {}
     reach(START, found)
-    lines = sum(count_lines(it) for it in found)
+    # Imports, comments and blank lines are none.
+    lines = sum(not NO_LINE.match(line) for it in found for line in text_of(it).splitlines())
     page = TABLE.sub(lambda it: it[1] + "".join(row(file) for file in found), PAGE.read_text())
     page = COUNT.sub(f"these {len(found)} files, about {round(lines, -1)} lines", page)
     named = {it: it.relative_to(ROOT / "crates").as_posix() for it in (ROOT / "crates").glob("*/specs/*.antt")}
     bare = {path: text_of(name).removeprefix(MARK) for path, name in named.items()}
-    return {PAGE: page} | {it: (MARK if named[it] in found else "") + text for it, text in bare.items()}
-
-
-if __name__ == "__main__":
-    write_or_check(texts(), "docs/DEFINITIONS.md or a file's mark is not current: make definitions writes both")
+    marked = {it: (MARK if named[it] in found else "") + text for it, text in bare.items()}
+    write_or_check({PAGE: page} | marked, "docs/DEFINITIONS.md or a file's mark is not current: make definitions writes both")

@@ -20,44 +20,23 @@ NAME = "doc_examples"
 APART = ROOT / "out" / NAME
 SECONDS = "120"
 
+EXAMPLES = re.compile(r"^( *//[/!]) ?```rust\n((?: *//[/!].*\n)*?) *//[/!] ?```$", re.M)
 # The module of an example, and the program that calls all of them.
 EXAMPLE, MAIN = ((ROOT / "bench" / it).read_text() for it in ("doc_example.rt.in", "doc_examples.rt.in"))
 
 
-def comment_of(line):
-    """The text of a doc comment's line, or nothing if it is none."""
-    found = re.match(r"\s*//[/!] ?(.*)", line)
-    return found and found[1]
-
-
 def examples_in(file):
     """The number of the line above each example, and its lines."""
-    lines, began = [], None
-    for number, line in enumerate(file.read_text().splitlines(), 1):
-        text = comment_of(line)
-        if text == "```rust":
-            lines, began = [], number
-        elif text == "```" and began:
-            yield began, lines
-            began = None
-        elif began:
-            lines.append(text or "")
+    text = file.read_text()
+    for found in EXAMPLES.finditer(text):
+        yield text.count("\n", 0, found.start(1)) + 1, re.sub(r"(?m)^\s*//[/!] ?", "", found[2]).splitlines()
 
 
-def write_example(place, lines):
-    """The module's name, once its file is written."""
+def module_of(place, lines):
+    """The text of an example's module."""
     uses = sorted(["use anyhow::Result;", "use std::alloc::Global;", *(it for it in lines if it.startswith("use "))])
     body = "\n".join(it for it in lines if not it.startswith("use ")).strip("\n")
-    name = re.sub(r"\W+", "_", place)
-    text = EXAMPLE.format(place=place, uses="\n".join(uses), body=textwrap.indent(body, "    "))
-    (APART / "crates" / NAME / "src" / f"{name}.rt").write_text(text)
-    return name
-
-
-def first_message(stream):
-    """The first message of a little-endian stream: 16 bytes, the header fields, padding to a multiple of 8, and the body."""
-    body, fields = (int.from_bytes(stream[at : at + 4], "little") for at in (4, 12))
-    return stream[: 16 + (fields + 7) // 8 * 8 + body]
+    return EXAMPLE.format(place=place, uses="\n".join(uses), body=textwrap.indent(body, "    "))
 
 
 def write_program():
@@ -66,24 +45,30 @@ def write_program():
     libraries = [it for it in read_crates() if (folder_of(it) / "src" / "lib.rt").exists() and "staticlib" not in read_lines()[it].split(":")[0]]
     for name in libraries:
         copy_parts(name, APART / "crates" / name, copy_function=os.link)
-    (APART / "crates" / NAME / "src").mkdir(parents=True)
+    sources = APART / "crates" / NAME / "src"
+    sources.mkdir(parents=True)
     lines = [read_lines()[it] for it in libraries]
     (APART / "crates.txt").write_text("\n".join([*lines, f"{NAME}: {' '.join(libraries)} anyhow"]) + "\n")
     found = {}
     for file in (it for name in libraries for it in sorted((folder_of(name) / "src").glob("*.rt"))):
         for number, example in examples_in(file):
             place = f"{file.relative_to(ROOT / 'crates')}:{number}"
-            found[place] = write_example(place, example)
+            found[place] = re.sub(r"\W+", "_", place)
+            (sources / f"{found[place]}.rt").write_text(module_of(place, example))
     modules = "\n".join(f"mod {it};" for it in found.values())
     calls = "\n".join(f"    {it}::example(&rt, alloc, &bytes)?;" for it in found.values())
-    (APART / "crates" / NAME / "src" / "main.rt").write_text(MAIN.format(modules=modules, calls=calls))
+    (sources / "main.rt").write_text(MAIN.format(modules=modules, calls=calls))
     return list(found)
 
 
 def main():
     places = write_program()
-    message = first_message((ROOT / "samples" / "session.dbus").read_bytes())
-    ran = subprocess.run(["rt", "try", "--seconds", SECONDS], cwd=APART / "crates" / NAME, input=message, capture_output=True)
+    # The first message, in little endian: 16 bytes, the header fields, padding to a multiple of 8, and the body.
+    stream = (ROOT / "samples" / "session.dbus").read_bytes()
+    body, fields = (int.from_bytes(stream[at : at + 4], "little") for at in (4, 12))
+    message = stream[: 16 + (fields + 7) // 8 * 8 + body]
+    words = ["rt", "try", "--seconds", SECONDS]
+    ran = subprocess.run(words, cwd=APART / "crates" / NAME, input=message, capture_output=True)
     if ran.returncode:
         print(ran.stderr.decode(errors="replace"), f"{len(places)} examples: not built, or one did not end well", sep="\n")
         return 1

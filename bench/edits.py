@@ -15,7 +15,7 @@ They are in the order of their names. The lines of a block:
     after:   a text that stands once in that file, if `old:` stands more often: the first one from there on is meant
     twin:    what makes a right body of the same shape in place of the last `new:`, if the goal has an answer in proofs/
 
-The first line, `TRIED:`, says what the crate was when all were refused. Lines `follows:` say which clauses need none.
+The first line, `TRIED:`, says on what all were refused, and lines `follows:` and `holds:` which clauses need none.
 """
 
 import collections
@@ -31,7 +31,7 @@ FUNCTION = re.compile(r"( *).*?\bfn (\w+)")
 # The words that stand in a block once, and for each change.
 ONCE, OFTEN = ("name", "calls", "clause", "left", "also", "both", "always", "after", "twin"), ("file", "old", "new")
 # The lines that are no part of a block.
-HEAD = re.compile(r"^(?:TRIED|follows):.*\n", re.M)
+HEAD = re.compile(r"^(?:TRIED|follows|holds):.*\n", re.M)
 # What a body may not bring: then the clause that refuses it may be its own.
 CLAUSES = re.compile(r"\b(?:ensures|requires|ghost)\b")
 # How many blocks a crate has, in bench/promises.txt.
@@ -113,12 +113,6 @@ def edited(edit, before=None):
     return {file: left for file, _, _, left in steps_of(edit, before)}
 
 
-def is_call(call):
-    crate, *_, function = call.split("::")
-    sources = (folder_of(crate) / "src").glob("*.rt")
-    return any(re.search(rf"\bfn {function}\b", it.read_text()) for it in sources)
-
-
 def faults_of(edit):
     """What is wrong with the block itself."""
     words = collections.Counter(it.partition(":")[0] for it in edit.text.splitlines())
@@ -131,9 +125,10 @@ def faults_of(edit):
         yield f"it changes {', '.join(sorted(bodies))}, and has no line `both:`"
     if any(map(CLAUSES.search, [edit.twin, *(it.new for it in edit.changes)])):
         yield "it brings a clause"
-    for call in edit.calls:
-        if not is_call(call):
-            yield f"no call {call}"
+    for crate, *between, function in (it.split("::") for it in edit.calls):
+        sources = (it.read_text() for it in (folder_of(crate) / "src").glob("*.rt"))
+        if not any(re.search(rf"\bfn {function}\b", it) for it in sources):
+            yield f"no call {'::'.join([crate, *between, function])}"
     for file, text in edited(edit).items():
         if not re.fullmatch(r"src/\w+\.rt", str(file)):
             yield f"{file} is no file of src/"
@@ -141,21 +136,18 @@ def faults_of(edit):
             yield f"a text that it changes does not stand in {file} once"
 
 
-def faults_in(crates):
-    """The files of these crates whose blocks are not in order, and all that have fewer than bench/promises.txt says."""
+def find_faults(edits):
+    """What is wrong with these blocks, with the order in their files, and with any file's number of them."""
+    found = [f"{it.name}: {fault}" for it in edits for fault in faults_of(it)]
     promises = ROOT / "bench" / "promises.txt"
     promised = dict(PROMISED.findall(promises.read_text())) if promises.exists() else {}
-    for crate in {**dict.fromkeys(crates), **promised}:
+    for crate in {**dict.fromkeys(it.crate for it in edits), **promised}:
         names = [it.name for it in edits_in(crate)]
         if names != sorted({*names}):
-            yield f"{crate}: the blocks are not in the order of their names"
+            found.append(f"{crate}: the blocks are not in the order of their names")
         if len(names) < int(promised.get(crate, 0)):
-            yield f"{crate}: {len(names)} blocks, of {promised[crate]}"
-
-
-def find_faults(edits):
-    """The edits whose blocks are not as they have to be, each with why, and the faults of their files."""
-    return [f"{it.name}: {fault}" for it in edits for fault in faults_of(it)] + [*faults_in(it.crate for it in edits)]
+            found.append(f"{crate}: {len(names)} blocks, of {promised[crate]}")
+    return found
 
 
 def function_at(text, line):

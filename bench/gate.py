@@ -6,12 +6,10 @@ programs that answer questions on the cases, makes the runs that are stored in r
 captures, list messages, refuse lines and pass over damaged messages, as each of two compilers built these
 (cases/README.md). Last it reads the scripts (bench/lint.py) and weighs the product (bench/weight.py).
 
-Before all that it looks at what is promised (bench/promises.py). The last line says how many crates,
-programs of questions, stored runs, programs of these four, wrong bodies, tools that read scripts, and of the budgets and
-their raises passed, and how many failed; the exit status is 1 if one did.
+Before all that it looks at what is promised (bench/promises.py). The last line says how many of all these passed, and how
+many failed; the exit status is 1 if one did.
 """
 
-import contextlib
 import pathlib
 import re
 import shutil
@@ -22,8 +20,9 @@ import tempfile
 import weight
 from crate_list import ROOT, asked_programs, folder_of, read_crates
 from edits import all_edits, find_faults
+from guards import unguarded
 from lint import lint
-from promises import promise_faults, told_of_promises
+from promises import promise_faults, promises
 from trying import Rounds, due_edits
 
 NOT_COPIED = shutil.ignore_patterns(".git", "out", "target", "__pycache__")
@@ -32,15 +31,6 @@ READERS = ("captures", "lines", "refused_lines", "damaged")
 # What says whether the pages that scripts write are current, and the pages of options.
 PAGES = "graph.py definitions.py worked_examples.py rules.py api.py options_check.py ../cases/specification.py".split()
 COUNT = re.compile(r"(\d+) passed, (\d+) failed")
-
-
-@contextlib.contextmanager
-def copied():
-    """A copy of the repository, in a folder of its own."""
-    with tempfile.TemporaryDirectory(prefix="dbus-wire-") as room:
-        copy = pathlib.Path(room) / "repository"
-        shutil.copytree(ROOT, copy, ignore=NOT_COPIED)
-        yield copy
 
 
 def run_in(copy, *words, note=lambda line: None):
@@ -70,52 +60,43 @@ def finds_right(copy, *words):
     return is_well
 
 
-def stored_runs():
-    """Each run that is stored in runs/ beside a program's src/, as `rt try --cases` has it, with the program's name."""
-    found = {name: sorted(folder_of(name).glob("runs/*.stdout")) for name in read_crates()}
-    return [(name, it.with_suffix("")) for name, runs in found.items() for it in runs]
-
-
-def is_right(program, run):
-    """Whether a program ends well on a run, and writes what it has to. Of the run NAME is the input, and NAME.args has
-    the arguments, a word a line."""
+def make(program, run):
+    """Whether a program ends well on a stored run, and writes what it has to. Of the run NAME is the input, and NAME.args
+    has the arguments, a word a line."""
     words = [program, *run.with_suffix(".args").read_text().splitlines()]
     with run.open("rb") as given:
-        ran = subprocess.run(words, stdin=given, stdout=subprocess.PIPE, stderr=subprocess.DEVNULL)
-    return ran.returncode == 0 and ran.stdout == run.with_suffix(".stdout").read_bytes()
-
-
-def make(program, run):
-    """Whether a program's stored run goes right."""
-    is_well = program.exists() and is_right(program, run)
+        how = {"stdin": given, "stdout": subprocess.PIPE, "stderr": subprocess.DEVNULL}
+        ran = subprocess.run(words, **how) if program.exists() else None
+    is_well = ran and ran.returncode == 0 and ran.stdout == run.with_suffix(".stdout").read_bytes()
     print(f"{program.name} {run.name}: {'right' if is_well else 'wrong, or is not there'}", flush=True)
-    return is_well
-
-
-def find_old_pages():
-    return [f"bench/{it} --check fails" for it in PAGES if subprocess.run([ROOT / "bench" / it, "--check"]).returncode]
+    return bool(is_well)
 
 
 def main(*words):
     if words not in ((), ("--all",)):
         print(__doc__, file=sys.stderr)
         return 2
-    if broken := find_faults(all_edits()) + find_old_pages() + promise_faults():
+    old = [f"bench/{it} --check fails" for it in PAGES if subprocess.run([ROOT / "bench" / it, "--check"]).returncode]
+    if broken := find_faults(all_edits()) + old + promise_faults():
         print(*broken, f"0 passed, {len(broken)} failed", sep="\n")
         return 1
     edits = all_edits() if words else due_edits()
-    with copied() as copy:
+    with tempfile.TemporaryDirectory(prefix="dbus-wire-") as room:
+        copy = shutil.copytree(ROOT, pathlib.Path(room) / "repository", ignore=NOT_COPIED)
         rounds = Rounds(edits, copy / "crates")
         status, (passed, failed) = run_in(copy, "rt", "ci", note=rounds.note)
         asked = [("cases/run.py", "--ask", name, "--", program) for name in asked_programs() for program in built(copy, name)]
         read = [(f"cases/{it}.py", program) for it in READERS for program in built(copy, "dbus_wire")]
         answered = [finds_right(copy, *it) for it in asked + read]
-        answered += [make(program, run) for name, run in stored_runs() for program in built(copy, name)]
+        # The runs that are stored in runs/ beside a program's src/, as `rt try --cases` has them.
+        runs = [(name, it) for name in read_crates() for it in sorted(folder_of(name).glob("runs/*.stdout"))]
+        answered += [make(program, it.with_suffix("")) for name, it in runs for program in built(copy, name)]
         missed = rounds.missed()
     answered += [*lint(), *weight.check()]
     passed += answered.count(True) + len(edits) - missed
     failed += answered.count(False) + missed
-    print(told_of_promises(), f"{passed} passed, {failed} failed", sep="\n")
+    print(f"{len(promises())} promises, {unguarded()} public clauses not guarded")
+    print(f"{passed} passed, {failed} failed")
     return 1 if status or failed else 0
 
 

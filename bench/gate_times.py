@@ -7,10 +7,11 @@ processors by these figures, if each step had one. The exit status is that of th
 """
 
 import collections
+import functools
 import os
+import pathlib
 import subprocess
 import sys
-import threading
 import time
 
 from crate_list import ROOT, read_crates
@@ -20,67 +21,49 @@ STEPS = ("proof", "tests", "edits")
 TICKS = os.sysconf("SC_CLK_TCK")
 SECONDS_BETWEEN_LOOKS = 0.5
 
-Process = collections.namedtuple("Process", "parent started seconds")
+# What it has used so far, with those of its children that have ended; and the crate and the step that it works on, or None
+# if it is no check or build.
+Process = collections.namedtuple("Process", "parent started seconds step")
 
 
 def read_process(pid):
-    """What the process has used so far, with those of its children that have ended, or None if it is gone."""
+    """The process, or None if it is gone."""
     try:
-        with open(f"/proc/{pid}/stat") as file:
-            fields = file.read().rpartition(")")[2].split()
-    except OSError:
-        return None
-    used = sum(int(field) for field in fields[11:15])
-    return Process(int(fields[1]), int(fields[19]), used / TICKS)
-
-
-def read_step(pid):
-    """The crate and the step that the process works on, or None if it is no check or build."""
-    try:
-        with open(f"/proc/{pid}/cmdline") as file:
-            words = file.read().split("\0")
+        fields, line = (pathlib.Path(f"/proc/{pid}/{it}").read_text() for it in ("stat", "cmdline"))
         folder = os.readlink(f"/proc/{pid}/cwd")
     except OSError:
         return None
-    if not words[0].endswith("/rattle") or "--crate-name" not in words:
-        return None
-    crate = words[words.index("--crate-name") + 1]
-    if "--test" in words:
-        return crate, "tests"
-    # Wrong bodies are tried on a copy of the crate.
-    return crate, "edits" if f"/{ROOM}" in folder else "proof"
-
-
-def descends_from(pid, root, processes):
-    while pid in processes and pid != root:
-        pid = processes[pid].parent
-    return pid == root
+    fields, words, step = fields.rpartition(")")[2].split(), line.split("\0"), None
+    if words[0].endswith("/rattle") and "--crate-name" in words:
+        # Wrong bodies are tried on a copy of the crate.
+        kind = "tests" if "--test" in words else "edits" if f"/{ROOM}" in folder else "proof"
+        step = words[words.index("--crate-name") + 1], kind
+    return Process(int(fields[1]), int(fields[19]), sum(map(int, fields[11:15])) / TICKS, step)
 
 
 def look(root, used):
     """Notes in `used` what each process below `root` that works on a step has used so far."""
     pids = [int(name) for name in os.listdir("/proc") if name.isdigit()]
     processes = {pid: process for pid in pids if (process := read_process(pid))}
-    steps = {pid: step for pid in processes if (step := read_step(pid))}
-    for pid, step in steps.items():
-        process = processes[pid]
+    for pid, process in processes.items():
+        above = pid
+        while above in processes and above != root:
+            above = processes[above].parent
         # A check may split into copies of itself, whose time is its own once they have ended.
-        if process.parent not in steps and descends_from(pid, root, processes):
-            used[pid, process.started] = step, process.seconds
+        is_part = process.parent in processes and processes[process.parent].step
+        if process.step and not is_part and above == root:
+            used[pid, process.started] = process.step, process.seconds
 
 
-def watch(root, used, ended):
-    while not ended.wait(SECONDS_BETWEEN_LOOKS):
-        look(root, used)
-
-
-def add_up(used):
-    """The minutes of each step of each crate, and how many checks it took."""
-    minutes, runs = collections.Counter(), collections.Counter()
-    for step, seconds in used.values():
-        minutes[step] += seconds / 60
-        runs[step] += 1
-    return minutes, runs
+def run_gate(words):
+    """The status of the gate, the seconds of the processor that it took, and what `look` notes meanwhile."""
+    used = {}
+    gate = subprocess.Popen([ROOT / ".ci" / "run", *words])
+    while not (ended := os.wait4(gate.pid, os.WNOHANG))[0]:
+        look(gate.pid, used)
+        time.sleep(SECONDS_BETWEEN_LOOKS)
+    _, status, resources = ended
+    return os.waitstatus_to_exitcode(status), resources.ru_utime + resources.ru_stime, used.values()
 
 
 def print_table(minutes, runs, total, began):
@@ -95,26 +78,23 @@ def print_table(minutes, runs, total, began):
     print(f"{'the gate':<20}{total / 60:32.1f} in {(time.time() - began) / 60:.1f} minutes")
 
 
-def waits_of(steps):
-    """What each step waits for: a crate's proof and tests for the proofs below it, its edits for its own too."""
-    below = {crate: read_crates().get(crate, []) for crate, _ in steps}
-    needed = {(crate, step): [*below[crate], *([crate] if step == "edits" else [])] for crate, step in steps}
-    # A proof that was kept is no step.
-    return {it: [(crate, "proof") for crate in needed[it] if (crate, "proof") in steps] for it in steps}
+def waits(step):
+    """The proofs that a step waits for: those below its crate, and if it tries edits its own."""
+    return {(it, "proof") for it in [*read_crates().get(step[0], []), *([step[0]] if step[1] == "edits" else [])]}
 
 
 def simulate(minutes, processors):
     """How long the steps take side by side, each on one processor, first those with the longest chain behind them."""
-    waits, behind = waits_of(minutes), {}
 
+    @functools.cache
     def chain(step):
-        if step not in behind:
-            behind[step] = minutes[step] + max((chain(it) for it in waits if step in waits[it]), default=0)
-        return behind[step]
+        return minutes[step] + max((chain(it) for it in minutes if step in waits(it)), default=0)
 
-    left, running, done, now = sorted(minutes, key=lambda it: -chain(it)), [], set(), 0.0
+    left, running, now = sorted(minutes, key=lambda it: -chain(it)), [], 0.0
+    # A proof that was kept is no step.
+    done = {proof for step in minutes for proof in waits(step)} - {*minutes}
     while left or running:
-        for step in [it for it in left if done.issuperset(waits[it])][: processors - len(running)]:
+        for step in [it for it in left if done >= waits(it)][: processors - len(running)]:
             left.remove(step)
             running.append((now + minutes[step], step))
         now, ended = min(running)
@@ -124,18 +104,15 @@ def simulate(minutes, processors):
 
 
 def main():
-    began, used, ended = time.time(), {}, threading.Event()
-    gate = subprocess.Popen([ROOT / ".ci" / "run", *sys.argv[1:]])
-    watcher = threading.Thread(target=watch, args=(gate.pid, used, ended))
-    watcher.start()
-    _, status, resources = os.wait4(gate.pid, 0)
-    ended.set()
-    watcher.join()
-    minutes, runs = add_up(used)
-    print_table(minutes, runs, resources.ru_utime + resources.ru_stime, began)
+    began, minutes = time.time(), collections.Counter()
+    status, total, used = run_gate(sys.argv[1:])
+    for step, seconds in used:
+        minutes[step] += seconds / 60
+    print_table(minutes, collections.Counter(step for step, _ in used), total, began)
     for processors in (2, 4):
-        print(f"its proofs, tests and edits on {processors} processors, by these figures: {simulate(minutes, processors):.1f} minutes")
-    return os.waitstatus_to_exitcode(status)
+        within = f"{simulate(minutes, processors):.1f} minutes"
+        print(f"its proofs, tests and edits on {processors} processors, by these figures: {within}")
+    return status
 
 
 if __name__ == "__main__":

@@ -3,14 +3,8 @@
 more at 8N than at N. The least of three runs, less what the same stream takes under one rule that matches nothing. With RULES, bench/rules.c
 as `make bench-c` builds it, also the microseconds that it takes to find ten of N to 8N rules of each key, for one message.
 
-many: N rules, each of an interface of its own, that match nothing, over 4,000 signals.
-learned, owned: N rules, each of the well-known sender of its own, whose names have owners: as the stream tells, or as is given by
-`--owner`; the owners are N connections. Over 4,000 signals of the last of them. alone: the same if one connection owns all names, over
-1,000 of its signals. others: N rules, each of the sender alone, which is another name; over 4,000 signals of one connection that owns
-N names.
-flood: `check --resync` over N messages of 56 bytes, each of which states all that follows and fails at its end, with a whole one behind each.
-keys: 100 rules of N keys `argN`, of which the last does not hold. reach: 100 rules of the one key `argN` behind N values. Both over
-2,000 signals of 64 texts.
+docs/SPEED.md says what the rows are: many, learned, owned, alone, others, keys, reach. flood is `check --resync` over N
+messages of 56 bytes, each of which states all that follows and fails at its end, with a whole one behind each.
 """
 
 import subprocess
@@ -23,64 +17,43 @@ from speed import HERE, seconds
 
 BUS = "org.freedesktop.DBus"
 CHANGED = [(1, ("o", "/org/freedesktop/DBus")), (2, ("s", BUS)), (3, ("s", "NameOwnerChanged")), (7, ("s", BUS))]
-OWNERS = (100, 200, 400, 800)
-KEYS = (8, 16, 32, 64)
-FLOODS = (1_000, 2_000, 4_000, 8_000)
 RUNS = 3
 NOTHING = ("filter", "member='Nothing'")
+NAME = "org.example.Name"
+SETS = (12_500, 25_000, 50_000, 100_000)
+MESSAGE = signal(1, "sss", ("org.example.Name.A", "text", "/org/example/a/b"), [*FIELDS[:-1], (6, ("s", ":1.9")), FIELDS[-1]])
 
 
-def name(n):
-    return f"org.example.Name{n}"
+def filtered(rules, *options):
+    return ("filter", *options, *rules)
 
 
-def sent(count, types, values, sender):
+def senders(count):
+    return [f"sender='{NAME}{n}',member='Nothing'" for n in range(count)]
+
+
+def owners(count, owner_of):
+    return [word for n in range(count) for word in ("--owner", f"{NAME}{n}={owner_of(n)}")]
+
+
+def sent(count, sender=":1.7", types="s"):
     fields = [field if field[0] != 7 else (7, ("s", sender)) for field in FIELDS]
-    return b"".join(signal(serial + 1, types, values, fields) for serial in range(count))
-
-
-def changes(count):
-    """The bus's signals that each name has an owner now."""
-    return b"".join(signal(n + 1, "sss", (name(n), "", f":1.{n}"), CHANGED) for n in range(count))
-
-
-def many(count):
-    return ("filter", *[f"interface='{name(n)}'" for n in range(count)]), sent(4_000, "s", ("a",), ":1.7")
-
-
-def rules(count):
-    return [f"sender='{name(n)}',member='Nothing'" for n in range(count)]
+    return b"".join(signal(serial + 1, types, "a" * len(types), fields) for serial in range(count))
 
 
 def learned(count):
-    return ("filter", "--learn-owners", *rules(count)), changes(count) + sent(4_000, "s", ("a",), f":1.{count - 1}")
-
-
-def owned_by(count, owner_of):
-    owners = [word for n in range(count) for word in ("--owner", f"{name(n)}={owner_of(n)}")]
-    return ("filter", *owners, *rules(count))
-
-
-def owned(count):
-    return owned_by(count, lambda n: f":1.{n}"), sent(4_000, "s", ("a",), f":1.{count - 1}")
-
-
-def alone(count):
-    return owned_by(count, lambda _: ":1.7"), sent(1_000, "s", ("a",), ":1.7")
+    """The bus's signals that each name has an owner now."""
+    changes = b"".join(signal(n + 1, "sss", (f"{NAME}{n}", "", f":1.{n}"), CHANGED) for n in range(count))
+    return filtered(senders(count), "--learn-owners"), changes + sent(4_000, f":1.{count - 1}")
 
 
 def others(count):
-    owners = [word for n in range(count) for word in ("--owner", f"{name(n)}=:1.7")]
-    return ("filter", *owners, *[f"sender='org.example.Other{n}'" for n in range(count)]), sent(4_000, "s", ("a",), ":1.7")
+    return filtered([f"sender='org.example.Other{n}'" for n in range(count)], *owners(count, lambda _: ":1.7")), sent(4_000)
 
 
 def keys(count):
     held = ",".join(f"arg{n}='a'" for n in range(count - 1))
-    return ("filter", *[f"{held},arg{count - 1}='b'"] * 100), sent(2_000, "s" * 64, ("a",) * 64, ":1.7")
-
-
-def reach(count):
-    return ("filter", *[f"arg{count - 1}='b'"] * 100), sent(2_000, "s" * 64, ("a",) * 64, ":1.7")
+    return filtered([f"{held},arg{count - 1}='b'"] * 100), sent(2_000, types="s" * 64)
 
 
 STATED, WHOLE = 56, bytes.fromhex("6c02000100000000070000000800000005017500") + b"\t\0\0\0"
@@ -96,37 +69,39 @@ def stating(size):
 
 def flood(count):
     size = (STATED + len(WHOLE)) * count
-    return ("check", "--resync"), b"".join(stating(size - at - 1) + WHOLE for at in range(0, size - 2 * STATED, STATED + len(WHOLE)))
+    places = range(0, size - 2 * STATED, STATED + len(WHOLE))
+    return ("check", "--resync"), b"".join(stating(size - at - 1) + WHOLE for at in places)
 
 
-NAME = "org.example.Name"
-SETS = (12_500, 25_000, 50_000, 100_000)
-MESSAGE = signal(1, "sss", ("org.example.Name.A", "text", "/org/example/a/b"), [*FIELDS[:-1], (6, ("s", ":1.9")), FIELDS[-1]])
-ROWS = {many: OWNERS, learned: OWNERS, owned: OWNERS, alone: OWNERS, others: OWNERS, keys: KEYS, reach: KEYS, flood: FLOODS}
+OWNERS = (100, 200, 400, 800)
+KEYS = (8, 16, 32, 64)
+# Of each row what it counts, and the words and the stream of a count.
+ROWS = {
+    "many": (OWNERS, lambda n: (filtered(f"interface='{NAME}{k}'" for k in range(n)), sent(4_000))),
+    "learned": (OWNERS, learned),
+    "owned": (OWNERS, lambda n: (filtered(senders(n), *owners(n, ":1.{}".format)), sent(4_000, f":1.{n - 1}"))),
+    "alone": (OWNERS, lambda n: (filtered(senders(n), *owners(n, lambda _: ":1.7")), sent(1_000))),
+    "others": (OWNERS, others),
+    "keys": (KEYS, keys),
+    "reach": (KEYS, lambda n: (filtered([f"arg{n - 1}='b'"] * 100), sent(2_000, types="s" * 64))),
+    "flood": ((1_000, 2_000, 4_000, 8_000), flood),
+}
 
 
-def least(command_line, path):
-    return min(seconds(command_line, path) for _ in range(RUNS))
-
-
-def measured(program, row, count, path):
-    words, stream = row(count)
+def measured(program, words, stream, path):
     path.write_bytes(stream)
-    return least((program, *words), path) - least((program, *NOTHING), path)
-
-
-def found_in(rules_program, count, texts):
-    """The nanoseconds that it takes to add a rule, and to find those that match."""
-    words = (rules_program, str(count), NAME, *texts)
-    return [float(word) for word in subprocess.run(words, input=MESSAGE, stdout=subprocess.PIPE, check=True).stdout.split()]
+    took, nothing = (min(seconds((program, *it), path) for _ in range(RUNS)) for it in (words, NOTHING))
+    return took - nothing
 
 
 def print_sets(rules_program):
     rows = (line.split(" | ") for line in (HERE / "rule_sets.txt").read_text().splitlines() if line[0] != "#")
     for key, *texts in rows:
-        times = [found_in(rules_program, count, texts) for count in SETS]
-        cells = "".join(f"{count:>8} {found / 1000:7.2f}" for count, (_, found) in zip(SETS, times))
-        print(f"{key:15}{cells}   added {times[-1][0] / 1000:.2f}", flush=True)
+        words = ((rules_program, str(count), NAME, *texts) for count in SETS)
+        said = [subprocess.run(it, input=MESSAGE, stdout=subprocess.PIPE, check=True).stdout.split() for it in words]
+        # The nanoseconds that it takes to add a rule, and to find those that match.
+        cells = "".join(f"{count:>8} {float(found) / 1000:7.2f}" for count, (_, found) in zip(SETS, said))
+        print(f"{key:15}{cells}   added {float(said[-1][0]) / 1000:.2f}", flush=True)
 
 
 def main():
@@ -135,10 +110,10 @@ def main():
         print_sets(rules_program)
     with tempfile.TemporaryDirectory() as folder:
         path = Path(folder) / "stream"
-        for row, counts in ROWS.items():
-            times = [measured(program, row, count, path) for count in counts]
+        for row, (counts, made) in ROWS.items():
+            times = [measured(program, *made(count), path) for count in counts]
             cells = "".join(f"{count:>6} {time:7.3f}" for count, time in zip(counts, times))
-            print(f"{row.__name__:9}{cells}   {times[-1] / max(times[0], 0.001):6.1f} times", flush=True)
+            print(f"{row:9}{cells}   {times[-1] / max(times[0], 0.001):6.1f} times", flush=True)
 
 
 if __name__ == "__main__":

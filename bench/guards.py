@@ -2,7 +2,9 @@
 
 For the latter a line stands in crates/NAME/wrong.edits, `follows: MODULE::FUNCTION CLAUSE = CRATE::CALLEE CLAUSE`: the function calls the callee, and
 its clause is word for word what that of the callee says there. FUNCTION and CALLEE may have the name of a type before them; the CLAUSE of an only one
-is `the only one`. `= CRATE::TYPE model` is of a clause that holds of each value of a type, by its model or its ghost fields: no body can break it."""
+is `the only one`. `= CRATE::TYPE model` is of a clause that holds of each value of a type, by its model or its ghost fields: no body can break it.
+`holds: MODULE::FUNCTION CLAUSE (WHY)` is of another clause that no body can break. Nothing checks that: `make promises`
+prints these lines for the reader to judge."""
 
 import functools
 import re
@@ -10,19 +12,18 @@ import re
 from api import calls
 from crate_list import ROOT, folder_of, read_crates
 from edits import edits_in, text_in, text_of
-from sources import impl_of, owner_of, plain, read_file
+from sources import all_items, impl_of, owner_of, plain
 
 # The calls of which the gate asks that all clauses are guarded.
 LIST = ROOT / "bench" / "guarded.txt"
-LINE = re.compile(r"follows: (\S+) (.+) = (\w+)::(\S+) (.+)")
+LINE = re.compile(r"(?:follows: (?=.* = )|holds: (?=.*\)$))(\S+) (.+?)(?: = (\w+)::(\S+) (.+)| \(.+\))")
 ONLY = "the only one"
 
 
 @functools.cache
 def functions(crate):
     """All functions of a crate, also those that are private."""
-    files = sorted((folder_of(crate) / "src").glob("*.rt"))
-    return [it for file in files for it in read_file(crate, file.name, also_private=True) if it.kind == "fn"]
+    return [it for it in all_items(crate, also_private=True) if it.kind == "fn"]
 
 
 def named(crate, path):
@@ -62,9 +63,9 @@ def left_by(edit):
     return there[0] if len(there) == 1 else before[-1] if before else None, [clause[1], *edit.also.split(", ")] if clause else [ONLY]
 
 
-def follows_in(crate):
-    """The lines of a crate that say what a clause follows from."""
-    return [it for it in text_in(crate).splitlines() if it.startswith("follows:")]
+def lines_in(crate, words=("follows:", "holds:")):
+    """The lines of a crate that say what a clause follows from, or that it holds."""
+    return [it for it in text_in(crate).splitlines() if it.startswith(words)]
 
 
 @functools.cache
@@ -73,7 +74,8 @@ def guarded_in(crate):
     found = {(item.file, item.line, clause) for item, clauses in map(left_by, edits_in(crate)) if item for clause in clauses}
     touched = {it[:2] for it in found}
     found |= {(it.file, it.line, *clauses_of(it)) for it in functions(crate) if (it.file, it.line) in touched and len(clauses_of(it)) == 1}
-    return found | {(it.file, it.line, said[2]) for line in follows_in(crate) if (said := LINE.fullmatch(line)) for it in named(crate, said[1])}
+    said = [it for line in lines_in(crate) if (it := LINE.fullmatch(line))]
+    return found | {(it.file, it.line, one[2]) for one in said for it in named(crate, one[1])}
 
 
 def is_guarded(item, clause):
@@ -81,16 +83,18 @@ def is_guarded(item, clause):
 
 
 def fault_of_line(crate, line):
-    """What is wrong with a line that says what a clause follows from, or nothing."""
+    """What is wrong with a line that says what a clause follows from, or that it holds, or nothing."""
     said = LINE.fullmatch(line)
-    here, there = (named(crate, said[1]), named(said[3], said[4])) if said and said[3] in read_crates() else ([], [])
+    here, there = (named(crate, said[1]), said[3] in read_crates() and named(said[3], said[4])) if said else ([], [])
     if len(here) != 1 or said[2] not in clauses_of(here[0]):
         return "no such function and clause"
+    if not said[3]:
+        return None
     if said[5] == "model":
         sources = (folder_of(said[3]) / "src").glob("*.rt")
         states = re.compile(rf"^impl.* Model for {said[4]}\b|^pub struct {said[4]}\b[^}}]*\n    ghost ", re.M)
         return None if any(states.search(it.read_text()) for it in sources) else "no such model"
-    if len(there) != 1 or said[5] not in clauses_of(there[0]):
+    if not there or len(there) != 1 or said[5] not in clauses_of(there[0]):
         return "no such callee and clause"
     lines = (folder_of(crate) / "src" / here[0].file).read_text().splitlines()[here[0].line :]
     body = lines[: lines.index("    }" if here[0].owner else "}")]
@@ -116,6 +120,6 @@ def unguarded():
 def guard_faults():
     """What is wrong with the lines that say what a clause follows from, and the clauses of the calls in LIST that are not guarded."""
     known = {f"{item.crate}::{name}" for _, name, item in calls()}
-    faults = [f"{crate}: {line}: {it}" for crate in read_crates() for line in follows_in(crate) if (it := fault_of_line(crate, line))]
+    faults = [f"{crate}: {line}: {it}" for crate in read_crates() for line in lines_in(crate) if (it := fault_of_line(crate, line))]
     faults += [f"{LIST.name}: no call {it}" for it in LIST.read_text().splitlines() if it[:1] != "#" and it not in known]
     return faults + [f"{name} ({item.file}) is not guarded: {', '.join(left)}" for name, item, left in unguarded_calls("listed")]

@@ -20,9 +20,9 @@ def last_tag():
     return git("describe", "--tags", "--abbrev=0").strip()
 
 
-def commits_since(tag, file):
-    """The commits that changed a file, since a tag if there is one."""
-    return git("rev-list", "--abbrev-commit", f"{tag}..HEAD" if tag else "HEAD", "--", file).split()
+def commits_since(tag, file, last="HEAD"):
+    """The commits up to the last that changed a file, the later ones first, since a tag if there is one."""
+    return git("rev-list", "--abbrev-commit", f"{tag}..{last}" if tag else last, "--", file).split()
 
 
 def parents_of(commit):

@@ -23,6 +23,7 @@ RUST_USE = re.compile(r"^\s*(?:pub )?use ([\w:]+)::(?:\{([^}]*)\}|(\w+(?: as \w+
 DECLARES = re.compile(r"(?:(?:abbrev|unfoldable|pub|data|record) )+(\S+)|(\S+) :(?= |$)")
 BLOCK = re.compile(r"(?:pub(?:\(\w+\))? )?(?:unsafe )?(struct|enum|trait|type|const|static|impl)\b(?: (?!fn)(?:mut )?(\w+))?")
 PART = re.compile(r"\s*(abbrev|unfoldable|pub|data|record|module|infix\w?)\b")
+BODY = re.compile(r"^(?!.*ghost)(    (?:[^ \n].*)?\{)(?:\n(?!    \}$).*)*\n    \}$", re.M)
 GHOST = re.compile(r"^ +(?:ghost (?!use)|(?:pub )?const (?!fn)|type )", re.M)
 
 
@@ -224,16 +225,6 @@ def names_in_source(path):
     return names | imported(path)
 
 
-def without_bodies(lines):
-    """A trait without the bodies of its functions."""
-    kept, inside = [lines[0].rstrip("{")], False
-    for line in lines[1:-1]:
-        if not inside:
-            kept.append(line)
-        inside = (inside or bool(re.match(r"    [^ ].*\{$|    \{$", line)) and "ghost" not in line) and line != "    }"
-    return kept
-
-
 @functools.cache
 def names_in_definitions(crate, module):
     """What each name means in a file of specs/."""
@@ -256,7 +247,9 @@ def node(key):
             found += [*words, "\n"]
             texts.append(text)
     for kind, path, lines in () if module else blocks(crate)[name]:
-        texts.append("\n".join(without_bodies(lines) if kind == "trait" else lines))
+        # A trait counts without the bodies of its functions.
+        is_trait = kind == "trait"
+        texts.append(BODY.sub(r"\1", "\n".join([lines[0].rstrip("{"), *lines[1:-1]])) if is_trait else "\n".join(lines))
         found += [*normal(words_of(texts[-1]), names_in_source(path), binds=kind in ("trait", "impl"))[0], "\n"]
     return Node(found, "\n".join(texts))
 

@@ -14,17 +14,11 @@ PROGRAM = "dbus-wire"
 OPTION = re.compile(r"(?<![\w-])(--[a-z]+(?:-[a-z]+)*)")
 # A line of help for an option, with its letter if it has one.
 HELP_LINE = re.compile(r"^  (?:-[a-zA-Z], |    )(--[a-z-]+)", re.M)
-# A line of help for a command.
-COMMAND_LINE = re.compile(r"^  ([a-z]+)  ", re.M)
-
-
-def text_of(path):
-    return (ROOT / path).read_text(encoding="utf-8")
 
 
 def manual():
     """The parts of the manual page, by their headings."""
-    parts = re.split(r"^\.SH (.*)\n", text_of("man/dbus-wire.1").replace("\\-", "-"), flags=re.M)
+    parts = re.split(r"^\.SH (.*)\n", (ROOT / "man/dbus-wire.1").read_text().replace("\\-", "-"), flags=re.M)
     return dict(zip(parts[1::2], parts[2::2]))
 
 
@@ -35,13 +29,13 @@ def heads_of(part):
 
 def commands():
     """The commands that the help of the program names."""
-    _, _, after = text_of(DATA / f"{PROGRAM}.help").partition("\nCommands:\n")
-    return set(COMMAND_LINE.findall(after.partition("\n\n")[0]))
+    _, _, after = (DATA / f"{PROGRAM}.help").read_text().partition("\nCommands:\n")
+    return set(re.findall(r"^  ([a-z]+)  ", after.partition("\n\n")[0], re.M))
 
 
 def options():
     """The options of each command that has any, by the texts of help, and those of the program."""
-    return {path.stem: set(HELP_LINE.findall(text_of(path))) for path in DATA.glob("*.help")}
+    return {path.stem: set(HELP_LINE.findall(path.read_text())) for path in DATA.glob("*.help")}
 
 
 def synopsis(command):
@@ -59,14 +53,14 @@ def case_of(command, text):
 
 def bash(command):
     """The options that bash completes for a command."""
-    text = text_of("completions/dbus-wire.bash")
+    text = (ROOT / "completions/dbus-wire.bash").read_text()
     shared = re.search(r"local options='([^']*)'", text)[1]
     return set(OPTION.findall(case_of(command, text).replace("$options", shared)))
 
 
 def zsh(command):
     """The options that zsh completes for a command."""
-    text = text_of("completions/_dbus-wire")
+    text = (ROOT / "completions/_dbus-wire").read_text()
     lists = {name: body for name, body in re.findall(r"local -a (\w+)=\(\n(.*?)\n    \)", text, re.S)}
     whole = case_of(command, text)
     # A list may name another one.
@@ -78,7 +72,7 @@ def zsh(command):
 def fish(command):
     """The options that fish completes for a command. The first `-h` is for all."""
     found = {"--help"}
-    text = text_of("completions/dbus-wire.fish")
+    text = (ROOT / "completions/dbus-wire.fish").read_text()
     everywhere = re.search(r"^for command in (.*)$", text, re.M)[1].split()
     for seen, option in re.findall(r"""__fish_seen_subcommand_from ([^'"]+)['"] -l ([a-z-]+)""", text):
         names = everywhere if seen == "$command" else seen.split()
@@ -88,7 +82,7 @@ def fish(command):
 
 def cases(command):
     """The options that the cases of a command give it, those of help in `words.txt`."""
-    lines = "\n".join(text_of(DATA / f"{it}.txt") for it in (command, "words"))
+    lines = "\n".join((DATA / f"{it}.txt").read_text() for it in (command, "words"))
     rows = re.findall(r"^[^#\n].*? \| (.*?)(?: \| |$)", lines, re.M)
     return {option for row in rows if row.split(" ")[0] == command for option in OPTION.findall(row)}
 
@@ -107,7 +101,7 @@ def main():
     hold("the manual page's options", set().union(*options_of.values()), set(OPTION.findall(described)))
     hold("the files of help", all_commands - {"help"}, set(options_of) - {PROGRAM})
     for path in ("completions/dbus-wire.bash", "completions/_dbus-wire", "completions/dbus-wire.fish"):
-        words = set(re.findall(r"[a-z]+", text_of(path)))
+        words = set(re.findall(r"[a-z]+", (ROOT / path).read_text()))
         hold(path, all_commands, words & all_commands)
     for command in sorted(all_commands - {"help"}):
         wanted = options_of[command]

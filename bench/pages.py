@@ -1,6 +1,12 @@
-"""Files that scripts write, or parts of them."""
+"""Files that scripts write, or parts of them. With --check such a script writes nothing, and its exit status is 1 if one
+is not current."""
 
 import sys
+
+
+def table(columns, rows):
+    """A table of a page, of these columns and rows of cells."""
+    return "".join(f"| {' | '.join(it)} |\n" for it in (columns, ["---"] * len(columns), *rows))
 
 
 def write_or_check(texts, what, faults=()):

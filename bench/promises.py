@@ -1,17 +1,17 @@
 #!/usr/bin/env python3
 """promises.py [--check | --diff REV | --unguarded [CRATE | all]]: writes bench/promises.txt, what is promised.
 
-It has a line for each public function of the libraries and for each law: its crate, its name, and a checksum of its signature and clauses with all
-definitions that they use (bench/meanings.py); and for each crate the number of its wrong bodies.
-
-With --check nothing is written, and the exit status is 1 if the file is not current; if a commit since the last release changed a line of it, and its
-message has no line `promise CRATE::NAME: wider`, `narrower`, `same`, `new` or `gone` for that, with a reason or without; or if a clause of a call in
-bench/guarded.txt is not guarded (bench/guards.py). One line may name a definition, or a crate whose functions are new or gone: it covers all that
-changed only by that. --diff prints which lines differ from those of a commit, and the definitions by which they do. --unguarded prints the clauses that
-are not guarded: of the calls in bench/guarded.txt, of a crate, or all.
+It has a line for each public function of the libraries and for each law: its crate, its name, and a checksum of its
+signature and clauses with all definitions that they use (bench/meanings.py); and for each crate the number of its wrong
+bodies. With --check nothing is written, and the exit status is 1 if the file is not current; if a commit since the last
+release changed a line of it, and its message does not tell of that (docs/CHANGING.md); or if a clause of a call in
+bench/guarded.txt is not guarded (bench/guards.py). --diff prints which lines differ from those of a commit, and the
+definitions by which they do. --unguarded prints the clauses that are not guarded: of the calls in bench/guarded.txt, of a
+crate, or all.
 """
 
 import collections
+import concurrent.futures as futures
 import difflib
 import functools
 import json
@@ -22,14 +22,15 @@ import sys
 import tempfile
 
 from api import calls, laws
-from crate_list import ROOT, folder_of, read_crates
+from crate_list import ROOT, folder_of, lanes, read_crates
 from edits import edits_in
-from guards import guard_faults, unguarded, unguarded_calls
+from guards import guard_faults, lines_in, unguarded_calls
 from history import commits_since, git, is_whole, last_tag, message_of, parents_of
-from meanings import Node, checksums, links_of, names_in_source, node, normal, words_of
-from sources import all_items, all_types, impl_of, plain
+from meanings import Node, checksum_of, checksums, links_of, names_in_source, node, normal, words_of
+from sources import all_items, all_types, owner_of
 
-PAGE = ROOT / "bench" / "promises.txt"
+FILE = "bench/promises.txt"
+PAGE = ROOT / FILE
 HEAD = "# What is promised (docs/CHANGING.md): bench/promises.py writes it.\n"
 SAID = re.compile(r"^promise (\S+): (wider|narrower|same|new|gone)\b", re.M)
 
@@ -51,21 +52,21 @@ def promise(item):
 def own_of_traits():
     """The methods of traits that a public type has with clauses of its own."""
     for item in (it for crate in read_crates() for it in all_items(crate) if it.clauses and " for " in it.owner):
-        kind = plain(impl_of(item.owner)[0])
-        if item.kind == "fn" and kind in all_types():
-            yield f"{item.crate}::{kind}::{item.name}", item
+        if item.kind == "fn" and owner_of(item) in all_types():
+            yield f"{item.crate}::{owner_of(item)}::{item.name}", item
 
 
 @functools.cache
 def promises():
-    """Each promise by its name."""
+    """The function of each promise by its name, in order."""
     named = dict(own_of_traits()) | {f"{item.crate}::{name}": item for _, name, item in calls()}
     named |= {f"{it.crate}::{it.file.removesuffix('.rt')}::{it.name}": it for it in laws()}
-    return {name: promise(named[name]) for name in sorted(named)}
+    return dict(sorted(named.items()))
 
 
+@functools.cache
 def node_of(key):
-    return promises()[key] if isinstance(key, str) else node(key)
+    return promise(promises()[key]) if isinstance(key, str) else node(key)
 
 
 def page():
@@ -76,41 +77,41 @@ def page():
     return HEAD + "".join(f"{it}\n" for it in sorted(lines))
 
 
-def read_page(text):
-    """The checksum of each promise by its name."""
-    rows = [it.split() for it in text.splitlines() if it[:1] != "#"]
+def page_at(commit):
+    """The checksum of each promise by its name, as a commit has them."""
+    rows = [it.split() for it in git("show", f"{commit}:{FILE}").splitlines() if it[:1] != "#"]
     return {f"{crate}::{name}": checksum for crate, name, checksum in rows if name != "wrong-bodies"}
 
 
 def changed(old, new):
-    """The names of the promises that two files have not alike."""
+    """The names of the promises that two tables have not alike."""
     return sorted(name for name in old | new if old.get(name) != new.get(name))
 
 
-def graph():
-    """The checksum of each promise, and each promise and definition: its name, its own words, as it is written, and the definitions that it uses."""
-    sums, told = checksums(list(promises()), node_of), {}
-    for key, checksum in sums.items():
+def graph(*names):
+    """Of these promises, or all, and of each definition that they use: its name, a checksum of its own words, as it is
+    written, the definitions that it uses, and its checksum with all these."""
+    told = {}
+    for key, checksum in checksums([it for it in names or promises() if it in promises()], node_of).items():
         one = node_of(key)
         name, joined = (key, key) if isinstance(key, str) else (f"{key[0]}::{key[2]}", "/".join(key))
-        own = " ".join(it if isinstance(it, str) else f"{it.key[2]}.{it.after}" for it in one.words)
+        own = checksum_of([it if isinstance(it, str) else f"{it.key[2]}.{it.after}" for it in one.words])
         told[joined] = [name, own, one.text, ["/".join(it) for it in links_of(one)], checksum]
     return told
 
 
-@functools.cache
-def graph_at(revision):
+def graph_at(revision, names=()):
     """The graph of a commit, as the scripts of this tree see it."""
     with tempfile.TemporaryDirectory(prefix="promises-") as room:
-        git("archive", f"--output={room}/commit.tar", revision, "crates", "crates.txt")
-        shutil.unpack_archive(f"{room}/commit.tar", room)
+        sources = "crates.txt ':(glob)crates/*/src/**' ':(glob)crates/*/specs/**'"
+        subprocess.run(f"git archive {revision} {sources} | tar -x -C {room}", shell=True, cwd=ROOT, check=True)
         shutil.copytree(ROOT / "bench", f"{room}/bench", ignore=shutil.ignore_patterns("__pycache__"))
-        told = subprocess.run([f"{room}/bench/promises.py", "--graph"], stdout=subprocess.PIPE, check=True)
+        told = subprocess.run([f"{room}/bench/promises.py", "--graph", *names], stdout=subprocess.PIPE, check=True)
     return json.loads(told.stdout)
 
 
 def behind(told, name):
-    """All that a promise uses, and itself, each by its name: what its own words are, and how it is written."""
+    """All that a promise uses, and itself, each by its name: the checksum of its own words, and how it is written."""
     found, left = {}, [name] if name in told else []
     while left:
         key = left.pop()
@@ -149,31 +150,20 @@ def print_diff(revision):
     print(f"{len(names)} promises changed, by {len(found)} definitions or clauses of their own")
 
 
-def page_at(commit):
-    text = git("show", f"{commit}:bench/promises.txt")
-    return read_page(text) if text else None
-
-
-def is_told(one, name, told):
-    """Whether a definition by which a promise changed is told, by its name with its crate or without."""
-    return one in told or (one != name and one.split("::")[-1] in told)
-
-
-def untold(commit):
-    """The promises that a commit changed against each of its parents, and of which its message does not tell."""
-    parents = parents_of(commit)
-    new, olds = page_at(commit), [it for it in map(page_at, parents) if it is not None]
-    if new is None or not olds:
-        return []
-    told = dict(SAID.findall(message_of(commit)))
-    names = [it for it in changed(olds[0], new) if all(old.get(it) != new.get(it) for old in olds)]
+def unnamed(commit, told):
+    """The promises that a commit changed against each of its parents, and that its message names neither by themselves nor
+    by their crates."""
+    new, olds = page_at(commit), [it for it in map(page_at, parents_of(commit)) if it]
+    names = [it for it in changed(olds[0], new) if all(old.get(it) != new.get(it) for old in olds)] if new and olds else []
     how = {it: "gone" if it not in new else "" if it in olds[0] else "new" for it in names}
-    left = [it for it in names if it not in told and told.get(it.split("::")[0]) != how[it]]
-    if left:
-        # What the scripts themselves changed needs no line.
-        graphs = graph_at(parents[0]), graph_at(commit)
-        left = [it for it in left if it in changed(*map(sums_of, graphs)) and not all(is_told(one, it, told) for one in reasons(*graphs, it))]
-    return left
+    return [it for it in names if it not in told and told.get(it.split("::")[0]) != how[it]]
+
+
+def untold(names, told, old, new):
+    """Those of these promises that changed by definitions of which a message names one neither with its crate nor without."""
+    # What the scripts themselves changed needs no line.
+    by = {it: reasons(old, new, it) for it in names if it in changed(sums_of(old), sums_of(new))}
+    return [name for name in by if any(it not in told and (it == name or it.split("::")[-1] not in told) for it in by[name])]
 
 
 def history_faults():
@@ -181,25 +171,30 @@ def history_faults():
     if not is_whole():
         print("promises: this clone has no history, so the messages of commits are not looked at")
         return []
-    commits = {it: untold(it) for it in commits_since(last_tag(), "bench/promises.txt")}
+    told = {it: dict(SAID.findall(message_of(it))) for it in commits_since(last_tag(), FILE)}
+    names = {it: left for it in told if (left := unnamed(it, told[it]))}
+    # The file of the commit before is that of the last one that changed it.
+    before = {it: commits_since("", FILE, parents_of(it)[0])[0] for it in names}
+    needed = collections.defaultdict(set)
+    for commit, its in names.items():
+        needed[commit].update(its)
+        needed[before[commit]].update(its)
+    with futures.ThreadPoolExecutor(lanes()) as pool:
+        graphs = dict(zip(needed, pool.map(graph_at, needed, needed.values())))
+    found = {it: untold(its, told[it], graphs[before[it]], graphs[it]) for it, its in names.items()}
     said = "and its message has no line `promise NAME: ..` for that"
-    return [f"{it} changed {', '.join(names)}, {said}" for it, names in commits.items() if names]
+    return [f"{it} changed {', '.join(its)}, {said}" for it, its in found.items() if its]
 
 
 def promise_faults():
     """What the gate fails at."""
     is_current = PAGE.exists() and PAGE.read_text() == page()
-    return ([] if is_current else ["bench/promises.txt is not current: bench/promises.py writes it"]) + history_faults() + guard_faults()
-
-
-def told_of_promises():
-    """What the gate says of them."""
-    return f"{len(promises())} promises, {unguarded()} public clauses not guarded"
+    return ([] if is_current else [f"{FILE} is not current: bench/promises.py writes it"]) + history_faults() + guard_faults()
 
 
 def main(*words):
-    if words == ("--graph",):
-        json.dump(graph(), sys.stdout)
+    if words[:1] == ("--graph",):
+        json.dump(graph(*words[1:]), sys.stdout)
     elif words[:1] == ("--diff",):
         print_diff(*(words[1:] or ("HEAD",)))
     elif words[:1] == ("--unguarded",):
@@ -211,6 +206,7 @@ def main(*words):
         return 1 if found else 0
     else:
         PAGE.write_text(page())
+        print(*(f"{crate}: {it}" for crate in read_crates() for it in lines_in(crate, "holds:")), sep="\n")
     return 0
 
 

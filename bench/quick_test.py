@@ -1,9 +1,8 @@
 #!/usr/bin/env python3
 """quick_test.py [--all] [NAME..]: runs the tests and the programs with stored output, or the crates named, without proofs.
 
-A crate with tests is run by `rt try --test`. A program beside whose src/ is a file stdout is run by `rt try` with its files args and stdin
-and the files of its folder data/, and has to write what stdout has and to end with the status of its file status. A program that answers
-questions is asked on some of the cases (cases/run.py), which the commit's hash draws, since unproved programs run some 300 times slower; with
+A crate with tests is run by `rt try --test`. A program beside whose src/ is a file stdout is run by `rt try` with its files args and stdin,
+and has to write what stdout has and to end well. A program that answers questions is asked on some of the cases (cases/run.py), which the commit's hash draws, since unproved programs run some 300 times slower; with
 --all on all of them, which takes an hour. What is stored in a program's runs/ is run too. As many runs go side by side as there are
 processors. The exit status is 1 if one failed, or did not end within the time limit: the last line names those, and says how many questions were asked.
 """
@@ -20,6 +19,7 @@ import time
 from pathlib import Path
 
 from crate_list import ROOT, asked_programs, folder_of, lanes, read_crates
+from history import git
 
 sys.dont_write_bytecode = True
 sys.path.insert(0, str(ROOT / "cases"))
@@ -30,6 +30,7 @@ from run import asked_of, differences, lines_of  # noqa: E402
 SECONDS = "120"
 LINES_SHOWN = 20
 NO_ANSWER = 6
+TOO_LONG = f"no end within {SECONDS} s with checks: make test runs it proved"
 # `rt try` hands over at most 1 MiB of what a run writes, and a share has to end within the time limit, on a busy machine too.
 MOST_ANSWERED = 50_000
 # How many shares a program is asked that is not asked all.
@@ -43,44 +44,29 @@ def stored(folder, name):
     return file.read_bytes() if file.exists() else b""
 
 
-def has_tests(folder):
-    return any("#[test]" in file.read_text() for file in folder.glob("src/**/*.rt"))
-
-
-def words_of(folder):
-    """The command line that tries the program, with the files of its folder data/."""
-    data = folder / "data"
-    files = [str(it.relative_to(data)) for it in sorted(data.rglob("*")) if it.is_file()]
-    given = [word for file in files for word in ("--data", f"{file}={data / file}")]
-    arguments = stored(folder, "args").decode().splitlines()
-    return ["rt", "try", "--seconds", SECONDS, *given, "--", *arguments]
+def tried(folder, *words, given=b""):
+    """The status of `rt try` with these words, what it writes, and what it tells."""
+    ran = subprocess.run(["rt", "try", "--seconds", SECONDS, *words], cwd=folder, input=given, capture_output=True)
+    return ran.returncode, ran.stdout.decode(errors="replace"), ran.stderr.decode(errors="replace")
 
 
 def try_tests(folder):
     """Whether the tests passed, and what is to be said."""
-    ran = subprocess.run(["rt", "try", "--test", "--seconds", SECONDS], cwd=folder, capture_output=True, text=True, errors="replace")
-    passed = re.search(r"test result: ok\. (\d+) passed", ran.stdout)
-    if ran.returncode == 0 and passed:
+    status, written, told = tried(folder, "--test")
+    passed = re.search(r"test result: ok\. (\d+) passed", written)
+    if status == 0 and passed:
         return "passed", f"{passed[1]} tests"
-    bad = [line for line in ran.stdout.splitlines() if not line.endswith("... ok")]
-    return "failed", "\n".join([*bad, ran.stderr])
+    bad = [line for line in written.splitlines() if not line.endswith("... ok")]
+    return "failed", "\n".join([*bad, told])
 
 
 def try_whole(folder):
     """Whether the program did what it should, and what is to be said."""
-    ran = subprocess.run(words_of(folder), cwd=folder, input=stored(folder, "stdin"), capture_output=True)
-    told = ran.stderr.decode(errors="replace")
-    written = ran.stdout.decode(errors="replace")
-    if ran.returncode == NO_ANSWER and "within the time limit" in told:
-        return "too long", f"no end within {SECONDS} s with checks: make test runs it proved"
-    wanted = int(stored(folder, "status") or 0)
-    if ran.returncode != wanted:
-        return "failed", f"{written}{told}status {ran.returncode}, wanted {wanted}"
-    return compared(folder, written)
-
-
-def compared(folder, written):
-    """The outcome of a program that wrote this."""
+    status, written, told = tried(folder, "--", *stored(folder, "args").splitlines(), given=stored(folder, "stdin"))
+    if status == NO_ANSWER and "within the time limit" in told:
+        return "too long", TOO_LONG
+    if status:
+        return "failed", f"{written}{told}status {status}, wanted 0"
     stdout = stored(folder, "stdout").decode(errors="replace")
     if written == stdout:
         return "passed", f"{len(stdout.splitlines())} lines written"
@@ -100,38 +86,26 @@ def shares_of(asked):
     return shares
 
 
-def count_questions(shares):
-    return sum(len(it.questions) for share in shares for it in share)
-
-
 def try_questions(folder, is_whole):
     """Whether the program gave right answers on the cases, or on some of them, and what is to be said. Each share of them is an input of its own."""
     asked = [it for it in asked_of(folder.name) if it.file not in PROVED_ALONE]
-    head = subprocess.run(["git", "-C", str(ROOT), "rev-parse", "HEAD"], capture_output=True, text=True).stdout
-    random.Random(head.strip()).shuffle(asked)
+    random.Random(git("rev-parse", "HEAD").strip()).shuffle(asked)
     every = shares_of(asked)
     shares = every if is_whole else every[:SHARES_DRAWN]
     with tempfile.TemporaryDirectory() as room:
         for n, share in enumerate(shares):
             Path(room, f"{n:03}").write_text(lines_of(share))
-        words = ["rt", "try", "--seconds", SECONDS, "--cases", room]
-        ran = subprocess.run(words, cwd=folder, capture_output=True, text=True, errors="replace")
-    if ran.returncode == NO_ANSWER:
-        return "too long", f"no end within {SECONDS} s with checks: make test runs it proved"
-    outputs = re.split(r"^== \d+\n", ran.stdout, flags=re.MULTILINE)[1:]
+        status, written, told = tried(folder, "--cases", room)
+    if status == NO_ANSWER:
+        return "too long", TOO_LONG
+    outputs = re.split(r"^== \d+\n", written, flags=re.MULTILINE)[1:]
     if len(outputs) != len(shares):
-        return "failed", f"{ran.stdout[-1000:]}{ran.stderr}"
-    told = [line for share, output in zip(shares, outputs) for line in differences(share, output.split("\n")[:-1])]
-    if told:
-        return "failed", "\n".join(told[:LINES_SHOWN])
-    return "passed", f"{count_questions(shares)} of {count_questions(every)} questions"
-
-
-def try_runs(folder):
-    """The same of the runs that are stored in runs/."""
-    words = ["rt", "try", "--seconds", SECONDS, "--cases", "runs"]
-    ran = subprocess.run(words, cwd=folder, capture_output=True, text=True, errors="replace")
-    return ("failed", ran.stdout + ran.stderr) if ran.returncode else ("passed", "its stored runs too")
+        return "failed", f"{written[-1000:]}{told}"
+    differ = [line for share, output in zip(shares, outputs) for line in differences(share, output.split("\n")[:-1])]
+    if differ:
+        return "failed", "\n".join(differ[:LINES_SHOWN])
+    counts = (sum(len(it.questions) for share in its for it in share) for its in (shares, every))
+    return "passed", "{} of {} questions".format(*counts)
 
 
 def run(name, is_whole):
@@ -141,7 +115,8 @@ def run(name, is_whole):
     else:
         how, said = (try_whole if (folder / "src" / "main.rt").exists() else try_tests)(folder)
     if how == "passed" and (folder / "runs").exists():
-        how, said = try_runs(folder)
+        status, *told = tried(folder, "--cases", "runs")
+        how, said = ("failed", "".join(told)) if status else ("passed", "its stored runs too")
     print(f"{name} {how} in {time.monotonic() - began:.0f} s: {said}", flush=True)
     return how, said if name in asked_programs() else ""
 
@@ -152,7 +127,9 @@ def main(*words):
     if unknown := [it for it in names if it not in read_crates()]:
         print(f"crates.txt has no {', '.join(unknown)}", file=sys.stderr)
         return 2
-    names = names or [it for it in read_crates() if (folder_of(it) / "stdout").exists() or has_tests(folder_of(it))]
+    texts = {it: [file.read_text() for file in folder_of(it).glob("src/**/*.rt")] for it in read_crates()}
+    tested = {name for name, its in texts.items() if any("#[test]" in it for it in its)}
+    names = names or [it for it in read_crates() if (folder_of(it) / "stdout").exists() or it in tested]
     with futures.ThreadPoolExecutor(lanes()) as pool:
         outcomes = [*zip(names, pool.map(run, names, [is_whole] * len(names)))]
     counts = collections.Counter(how for _, (how, _) in outcomes)

@@ -47,17 +47,13 @@ def misquoted(text):
             yield crate
 
 
-def written(command, folder):
-    environment = os.environ | {"PATH": f"{folder}:{os.environ['PATH']}"}
-    how = {"stdin": subprocess.DEVNULL, "stdout": subprocess.PIPE, "stderr": subprocess.STDOUT, "errors": "replace"}
-    return subprocess.run(["bash", "-c", command], cwd=ROOT, env=environment, **how).stdout.splitlines()
-
-
 def is_as_shown(command, wanted, folder):
     if re.search(r"\bjq\b", command) and not shutil.which("jq"):
         print(f"no jq: {command}")
         return True
-    got = written(command, folder)
+    how = {"stdin": subprocess.DEVNULL, "stdout": subprocess.PIPE, "stderr": subprocess.STDOUT, "errors": "replace"}
+    how |= {"cwd": ROOT, "env": os.environ | {"PATH": f"{folder}:{os.environ['PATH']}"}}
+    got = subprocess.run(["bash", "-c", command], **how).stdout.splitlines()
     print(f"{'as shown' if got == wanted else 'OTHERWISE'}: {command}", flush=True)
     for line in difflib.unified_diff(wanted, got, "shown", "written", lineterm=""):
         print(line)
@@ -67,8 +63,7 @@ def is_as_shown(command, wanted, folder):
 def main():
     text = "".join(page.read_text() for page in ((README, CASES, RECIPES) if BUILT.exists() else (README, CASES)))
     misquotes = list(misquoted(EXAMPLES.read_text()))
-    for crate in misquotes:
-        print(f"the code from {crate} is not there")
+    print(*(f"the code from {crate} is not there\n" for crate in misquotes), sep="", end="")
     with tempfile.TemporaryDirectory() as folder:
         (pathlib.Path(folder) / "dbus-wire").symlink_to(BUILT if BUILT.exists() else TRIED)
         right = [is_as_shown(command, wanted, folder) for command, wanted in shown(text)]

@@ -17,39 +17,26 @@ import subprocess
 import sys
 import tempfile
 
+from crate_list import ROOT
+
 LAST = b"out of memory\n"
-HERE = os.path.dirname(os.path.abspath(__file__))
 
 
-def command_lines():
-    """The words of each command line, with the number of failures that pass unseen."""
-    with open(os.path.join(HERE, "refused_memory.txt")) as file:
-        rows = [shlex.split(line, comments=True) for line in file]
-    return [(words, int(most)) for most, *words in filter(None, rows)]
-
-
-def run(program, words, sample, environment):
+def run(program, words, sample, **environment):
     """The status of a run, what it wrote, and what it told."""
     with open(sample, "rb") as held:
-        done = subprocess.run([program, *words], stdin=held, capture_output=True, env=environment, timeout=60)
+        how = {"stdin": held, "capture_output": True, "env": os.environ | environment, "timeout": 60}
+        done = subprocess.run([program, *words], **how)
     return done.returncode, done.stdout, done.stderr
-
-
-def is_right(refused, plain):
-    """Whether a run with a failing allocation ended as it should."""
-    status, out, told = refused
-    before, last = told[: -len(LAST)], told[-len(LAST) :]
-    return status == 3 and last == LAST and plain[1].startswith(out) and plain[2].startswith(before)
 
 
 def try_words(program, words, sample, library, folder):
     """How many allocations a run makes, the failures of which passed unseen, and at which it went wrong."""
     mark = os.path.join(folder, "refused")
-    plain = run(program, words, sample, dict(os.environ))
+    plain = run(program, words, sample)
     unseen, wrong = [], []
     for number in itertools.count(1):
-        environment = dict(os.environ, LD_PRELOAD=library, REFUSE_NTH=str(number), REFUSED=mark)
-        done = run(program, words, sample, environment)
+        done = status, out, told = run(program, words, sample, LD_PRELOAD=library, REFUSE_NTH=str(number), REFUSED=mark)
         if not os.path.exists(mark):
             if done != plain:
                 wrong.append(number)
@@ -57,7 +44,7 @@ def try_words(program, words, sample, library, folder):
         os.remove(mark)
         if done == plain:
             unseen.append(number)
-        elif not is_right(done, plain):
+        elif status != 3 or not told.endswith(LAST) or not plain[1].startswith(out) or not plain[2].startswith(told[: -len(LAST)]):
             wrong.append(number)
 
 
@@ -66,11 +53,13 @@ def main():
     failed = False
     with tempfile.TemporaryDirectory() as folder:
         library = os.path.join(folder, "refuse_nth.so")
-        compiler = os.environ.get("CC", "cc")
-        subprocess.run([compiler, "-O2", "-shared", "-fPIC", "-o", library, os.path.join(HERE, "refuse_nth.c")], check=True)
-        for words, most in command_lines():
+        compiler = [os.environ.get("CC", "cc"), "-O2", "-shared", "-fPIC", "-o", library]
+        subprocess.run([*compiler, ROOT / "bench" / "refuse_nth.c"], check=True)
+        # The number of failures that pass unseen, and the words of each command line.
+        lines = (ROOT / "bench" / "refused_memory.txt").read_text().splitlines()
+        for most, *words in filter(None, (shlex.split(it, comments=True) for it in lines)):
             growths, unseen, wrong = try_words(program, words, sample, library, folder)
-            failed = failed or bool(wrong) or len(unseen) > most
+            failed = failed or bool(wrong) or len(unseen) > int(most)
             named = " ".join(["dbus-wire", *words])
             print(f"{named}: {growths} growths refused in turn; unseen: {unseen}, of {most}; wrong: {wrong}", flush=True)
     return 1 if failed else 0

@@ -2,8 +2,7 @@
 """rules.py [--check]: writes the parts "Rules" and "Rules of lines" of the manual page out of the definitions of dbus_explain and cli_encode, which the
 prover compares with the code.
 
-They are what `--explain` and `rule` of `--json` say of each reason, and of what an input looks like. With --check nothing is written, and the exit
-status is 1 if the page is not current.
+They are what `--explain` and `rule` of `--json` say of each reason, and of what an input looks like.
 """
 
 import re
@@ -82,11 +81,9 @@ def bytes_of(list_text):
 
 def looks():
     """The bytes that an input begins with, and what it is then."""
-    rows = []
-    for condition, said in LOOK.findall(text_of(LOOKS).partition("look_of bytes =")[2]):
-        fronts = [bytes_of(it) for it in FRONT.findall(condition)]
-        rows.append((" or ".join(fronts) if fronts else "eight, or all if they are fewer, of printable ASCII, tabs, CR and LF", said))
-    return rows
+    rows = LOOK.findall(text_of(LOOKS).partition("look_of bytes =")[2])
+    other = "eight, or all if they are fewer, of printable ASCII, tabs, CR and LF"
+    return [(" or ".join(map(bytes_of, FRONT.findall(condition))) or other, said) for condition, said in rows]
 
 
 def filled(text):
@@ -96,23 +93,16 @@ def filled(text):
     return "".join(("\\&" if it[0] in ".'" else "") + it + ("\\&" if it[-1] in ".?!" else "") + "\n" for it in lines)
 
 
-def table(rows):
-    return "".join(f".TP\n.B {name}\n{filled(rule)}" for name, rule in rows)
-
-
 def with_tables(page, part, *tables):
     """The page with these tables in the part of it."""
-    found, left = part.findall(page), iter(tables)
+    found = part.findall(page)
+    left = ("".join(f".TP\n.B {name}\n{filled(rule)}" for name, rule in rows) for rows in tables)
     if len(found) != 1 or len(TABLES.findall(found[0])) != len(tables):
         sys.exit(f"{PAGE} has not one part Rules and one part Rules of lines, each with its tables")
-    return page.replace(found[0], TABLES.sub(lambda _: table(next(left)), found[0]))
-
-
-def page():
-    with_rules = with_tables(PAGE.read_text(), PART, [(name, worded(*pair)) for name, pair in rules()], looks())
-    return with_tables(with_rules, LINES_PART, line_rules())
+    return page.replace(found[0], TABLES.sub(lambda _: next(left), found[0]))
 
 
 if __name__ == "__main__":
     what = "man/dbus-wire.1 has other rules than the definitions: make definitions writes them"
-    write_or_check({PAGE: page()}, what)
+    with_rules = with_tables(PAGE.read_text(), PART, [(name, worded(*pair)) for name, pair in rules()], looks())
+    write_or_check({PAGE: with_tables(with_rules, LINES_PART, line_rules())}, what)

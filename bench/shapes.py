@@ -12,8 +12,8 @@ FOLDER/NAME.long has one message of about 1 MB, of one text: an object path, or 
 FOLDER/NAME.worst has the most work a byte that a legal message asks for: one message of about 1 MB, an array of elements that are
 small, or nested, or wide; `fields` has header fields of no meaning in its place, and `signed` many messages of 255 empty signatures.
 
-The search makes COUNT random types (200), of at most six kinds within structs, arrays, dictionaries and variants. Of each it fills an array
-with least values, counts by valgrind the instructions per byte of PROGRAM's `check`, and prints the dearest ten, the dearest first.
+The search fills an array of each of COUNT random types (200) with least values, counts by valgrind the instructions per
+byte of PROGRAM's `check`, and prints the ten that cost most.
 
 What is lost is a byte that is no message, and then, every 56 bytes of a window of 1 MiB or so many bytes, a message
 that states all that is left of it: a reply whose body is an array of structs. Each of them is such a message without
@@ -22,6 +22,7 @@ version, each a byte larger than the window, with such a body: all of the window
 it is passed over by its size.
 """
 
+import itertools
 import random
 import re
 import struct
@@ -29,28 +30,23 @@ import subprocess
 import sys
 from pathlib import Path
 
-ALIGNMENTS = {**dict.fromkeys("ygv", 1), **dict.fromkeys("nq", 2), **dict.fromkeys("iubsoa", 4), **dict.fromkeys("xtd({", 8)}
+from crate_list import ROOT
+
+sys.path.insert(0, str(ROOT / "cases"))
+
+from seen import ALIGNMENTS, first_type  # noqa: E402
+
 FORMATS = {"y": "<B", "n": "<h", "q": "<H", "i": "<i", "u": "<I", "b": "<I", "x": "<q", "t": "<Q", "d": "<d"}
-FIELDS = [
-    (1, ("o", "/org/freedesktop/NetworkManager/Devices/2")),
-    (2, ("s", "org.freedesktop.DBus.Properties")),
-    (3, ("s", "PropertiesChanged")),
-    (7, ("s", ":1.7")),
-]
+FIELDS = [(1, ("o", "/org/freedesktop/NetworkManager/Devices/2")), (2, ("s", "org.freedesktop.DBus.Properties"))]
+FIELDS += [(3, ("s", "PropertiesChanged")), (7, ("s", ":1.7"))]
 SIZE = 2_000_000
 
 
-def first_type(types):
-    """The first complete type of a signature, and the rest."""
-    if types[0] == "a":
-        element, rest = first_type(types[1:])
-        return "a" + element, rest
-    depth = 0
-    for i, code in enumerate(types):
-        depth += (code in "({") - (code in ")}")
-        if depth == 0:
-            return types[: i + 1], types[i + 1 :]
-    raise ValueError(types)
+def parts_of(types):
+    """The complete types of a signature."""
+    while types:
+        yield first_type(types)
+        types = types[len(first_type(types)) :]
 
 
 def align(out, alignment):
@@ -59,8 +55,7 @@ def align(out, alignment):
 
 def put_all(out, types, values):
     """Marshals a value for each type."""
-    for value in values:
-        one, types = first_type(types)
+    for one, value in zip(parts_of(types), values):
         put(out, one, value)
 
 
@@ -71,7 +66,7 @@ def put(out, one, value):
     if code in FORMATS:
         out.extend(struct.pack(FORMATS[code], value))
     elif code in "so":
-        out.extend(struct.pack("<I", len(value)) + value.encode() + b"\0")
+        out.extend(struct.pack("<I", len(value.encode())) + value.encode() + b"\0")
     elif code == "g":
         out.extend(bytes([len(value)]) + value.encode() + b"\0")
     elif code == "v":
@@ -87,6 +82,17 @@ def put(out, one, value):
         struct.pack_into("<I", out, at, len(out) - first)
     else:
         put_all(out, one[1:-1], value)
+
+
+def header(types, length, more=b"", serial=1, fields=FIELDS, kind=4):
+    out = bytearray(struct.pack("<cBBBII", b"l", kind, 0, 1, length, serial))
+    put(out, "a(yv)", [*fields, (8, ("g", types))])
+    if more:
+        align(out, 8)
+        out.extend(more)
+        struct.pack_into("<I", out, 12, len(out) - 16)
+    align(out, 8)
+    return bytes(out)
 
 
 def signal(serial, types, values, fields=FIELDS):
@@ -108,22 +114,19 @@ def properties():
     return [random.choice(kinds)(n) for n in range(12)]
 
 
-def managed_objects():
-    device = "org.freedesktop.NetworkManager.Device"
-    count = random.randint(18, 110)
-    return [(f"/org/freedesktop/NetworkManager/Devices/{n}", [(device, properties())]) for n in range(count)]
+def managed_objects(count):
+    return [(f"/org/freedesktop/NetworkManager/Devices/{n}", [(DEVICE, properties())]) for n in range(count)]
 
 
+DEVICE = "org.freedesktop.NetworkManager.Device"
 SHAPES = {
-    "dictionaries": lambda n: signal(n, "sa{sv}as", ("org.freedesktop.NetworkManager.Device", properties(), [])),
-    "objects": lambda n: signal(n, "a{oa{sa{sv}}}", (managed_objects(),)),
+    "dictionaries": lambda n: signal(n, "sa{sv}as", (DEVICE, properties(), [])),
+    "objects": lambda n: signal(n, "a{oa{sa{sv}}}", (managed_objects(random.randint(18, 110)),)),
     "texts": lambda n: signal(n, "as", ([f"com.example.Service{k}.name" for k in range(200)],)),
     "structs": lambda n: signal(n, "a(iiuxsb)", ([(k, -k, 3 * k, k * k, f"text{k}", k % 2) for k in range(100)],)),
     "bytes": lambda n: signal(n, "ay", (bytes(k % 251 for k in range(32_000)),)),
     "doubles": lambda n: signal(n, "ad", ([k / 2 for k in range(1_000)],)),
 }
-
-
 WORST_SIZE = 1_000_000
 
 
@@ -134,22 +137,6 @@ def array_message(types, alignment, unit, last=b""):
     align(body, alignment)
     body.extend(units)
     return header("u" + types, len(body)) + bytes(body)
-
-
-def header(types, length, more=b"", serial=1, fields=FIELDS):
-    out = bytearray(struct.pack("<cBBBII", b"l", 4, 0, 1, length, serial))
-    put(out, "a(yv)", [*fields, (8, ("g", types))])
-    if more:
-        align(out, 8)
-        out.extend(more)
-        struct.pack_into("<I", out, 12, len(out) - 16)
-    align(out, 8)
-    return bytes(out)
-
-
-def field_message():
-    """A signal whose header has fields of no meaning, each of a byte."""
-    return header("", 0, (b"\xc8\x01y\0\x07" + bytes(3)) * (WORST_SIZE // 8) + b"\xc8\x01y\0\x07")
 
 
 def array_of(one, value, size=WORST_SIZE):
@@ -175,6 +162,7 @@ INNER = "(y" + "(" * 30 + "ay" + ")" * 30 + ")"
 CHAINS = "(" + ("(" * 30 + "y" + ")" * 30) * 4 + ")"
 AFTER = "(" * 31 + "y" + ")y" * 30 + ")"
 PATH = struct.pack("<I", 1) + b"/\0"
+NO_FIELD = b"\xc8\x01y\0\x07"
 WORST = {
     "nested": lambda: array_message("a" + NESTED, 8, bytes(8)),
     "inner": lambda: array_message("a" + INNER, 8, bytes(16), bytes(12)),
@@ -201,22 +189,14 @@ WORST = {
     "texts": lambda: array_message("as", 4, bytes(8), bytes(5)),
     "paths": lambda: array_message("ao", 4, PATH + bytes(2), PATH),
     "booleans": lambda: array_message("ab", 4, bytes(4)),
-    "fields": field_message,
+    "fields": lambda: header("", 0, (NO_FIELD + bytes(3)) * (WORST_SIZE // 8) + NO_FIELD),
 }
-
-
-def text_message(code, text):
-    """A signal whose body is one text."""
-    body = struct.pack("<I", len(text)) + text + b"\0"
-    return header(code, len(body)) + body
 
 
 LONG = {
-    "path": lambda: text_message("o", b"/org/freedesktop/devices/abcdefghijklmnopqrstuvwxyz_0123456789" * (WORST_SIZE // 62)),
-    "accents": lambda: text_message("s", "\u00e9".encode() * (WORST_SIZE // 2)),
+    "path": lambda: signal(1, "o", ["/org/freedesktop/devices/abcdefghijklmnopqrstuvwxyz_0123456789" * (WORST_SIZE // 62)]),
+    "accents": lambda: signal(1, "s", ["\u00e9" * (WORST_SIZE // 2)]),
 }
-
-
 SEARCHED_SIZE = 200_000
 
 
@@ -247,17 +227,12 @@ def least(one):
         return "/" if code == "o" else ""
     if code not in "({":
         return 0
-    values, types = [], one[1:-1]
-    while types:
-        part, types = first_type(types)
-        values.append(least(part))
-    return values
+    return [least(it) for it in parts_of(one[1:-1])]
 
 
 def instructions(program, message):
-    counted = subprocess.run(
-        ["valgrind", "--tool=callgrind", "--callgrind-out-file=/dev/null", program, "check"], input=message, capture_output=True, check=True
-    )
+    words = ["valgrind", "--tool=callgrind", "--callgrind-out-file=/dev/null", program, "check"]
+    counted = subprocess.run(words, input=message, capture_output=True, check=True)
     return int(re.search(rb"Collected : (\d+)", counted.stderr)[1])
 
 
@@ -275,7 +250,6 @@ def search(program, count=200, seed=7):
         print(f"{cost:8.1f} {one}")
 
 
-WINDOW = 1 << 20
 LOST_FIELDS = bytes.fromhex("0501750001000000") + b"\x08\x01g\0\x10a(yyyyuua(yv)uu)\0"
 
 
@@ -289,26 +263,31 @@ def lost(room):
     yield b"\0" * 60
 
 
-def write_lost(count=None, window=WINDOW):
+def write_lost(count=None, window=1 << 20):
     """What is lost, or so many refused messages that are larger than the window."""
     body = b"".join(lost(int(window) - (1 if count is None else 20)))
     past = struct.pack("<4sIII", b"l\2\0\2", int(window) - 15, 1, 0) + body.ljust(int(window) - 15, b"\0")
     sys.stdout.buffer.write(b"X" + body if count is None else int(count) * past)
 
 
+def streams():
+    """The stream of each shape."""
+    random.seed(7)
+    for name, shape in SHAPES.items():
+        stream, serials = b"", itertools.count(1)
+        while len(stream) < SIZE:
+            stream += shape(next(serials))
+        yield name, stream
+
+
 def main():
     if sys.argv[1] in ("--search", "--lost"):
         return (search if sys.argv[1] == "--search" else write_lost)(*sys.argv[2:])
-    random.seed(7)
     for ending, shapes in (("worst", WORST), ("long", LONG)):
         for name, shape in shapes.items():
             Path(sys.argv[1], f"{name}.{ending}").write_bytes(shape())
-    for name, shape in SHAPES.items():
-        with open(f"{sys.argv[1]}/{name}.dbus", "wb") as file:
-            written = serial = 0
-            while written < SIZE:
-                serial += 1
-                written += file.write(shape(serial))
+    for name, stream in streams():
+        Path(sys.argv[1], f"{name}.dbus").write_bytes(stream)
 
 
 if __name__ == "__main__":

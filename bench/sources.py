@@ -22,14 +22,9 @@ TYPES = ("struct", "enum", "type", "trait")
 
 def declaration(lines):
     """What is declared from the first line on, without its clauses, in one line."""
-    said = []
-    for line in lines:
-        if said and ENDS.match(line):
-            break
-        said.append(line.strip())
-        if ENDS.search(line):
-            break
-    text = " ".join(said).removesuffix("{").strip(" ;,").removeprefix("pub ").removeprefix("unsafe ").removeprefix('extern "C" ')
+    ends = (n for n, it in enumerate(lines, 1) if ENDS.search(it) or ENDS.match("".join(lines[n : n + 1])))
+    text = " ".join(it.strip() for it in lines[: next(ends, None)]).removesuffix("{").strip(" ;,")
+    text = text.removeprefix("pub ").removeprefix("unsafe ").removeprefix('extern "C" ')
     return text.replace("( ", "(").replace(", )", ")")
 
 
@@ -73,8 +68,9 @@ def read_file(crate, file, also_private=False):
 
 
 @functools.cache
-def all_items(crate):
-    return [item for file in sorted((folder_of(crate) / "src").glob("*.rt")) for item in read_file(crate, file.name)]
+def all_items(crate, also_private=False):
+    files = sorted((folder_of(crate) / "src").glob("*.rt"))
+    return [item for file in files for item in read_file(crate, file.name, also_private)]
 
 
 @functools.cache
@@ -147,10 +143,6 @@ def by_impl(method, trait):
 def cases(item):
     """The cases of an enum, each with the lines of its doc comment."""
     lines = (folder_of(item.crate) / "src" / item.file).read_text().splitlines()
-    doc = []
-    for line in lines[item.line : lines.index("}", item.line)]:
-        if line.startswith("    ///"):
-            doc.append(line.strip().removeprefix("///").strip())
-        elif case := re.match(r"    ([A-Z]\w*)", line):
-            yield case[1], doc
-            doc = []
+    body = "\n".join(lines[item.line : lines.index("}", item.line)])
+    for doc, case in re.findall(r"((?:^    ///.*\n)*)(?:^    #.*\n)*^    ([A-Z]\w*)", body, re.M):
+        yield case, [it.strip().removeprefix("///").strip() for it in doc.splitlines()]

@@ -15,42 +15,25 @@ import tempfile
 from pathlib import Path
 
 from crate_list import ROOT
+from shapes import header, streams
 
 HERE = ROOT / "bench"
-SAMPLES = ROOT / "samples"
-SHAPES = ("dictionaries", "objects", "texts", "structs", "bytes", "doubles")
-SIZE = 32_000_000
+SIZE, LONG = 32_000_000, 64_000_000
 RUNS = 5
-COMMANDS = {
-    "check": ("check",),
-    "filter": ("filter", "type='signal'"),
-    "swap l": ("swap", "--to", "l"),
-    "swap B": ("swap", "--to", "B"),
-    "show": ("show",),
-    "json": ("json",),
-    "list": ("list",),
-    "count": ("count",),
-    "calls": ("calls",),
-}
-# A method return in little endian, whose body is one array of 64,000,000 bytes.
-LONG_HEADER = (
-    b"l\x02\x00\x01\x04\x90\xd0\x03\x01\x00\x00\x00\x10\x00\x00\x00"
-    b"\x05\x01u\x00\x01\x00\x00\x00\x08\x01g\x00\x02ay\x00"
-    b"\x00\x90\xd0\x03"
-)
+COMMANDS = {"check": ("check",), "filter": ("filter", "type='signal'")}
+COMMANDS |= {f"swap {it}": ("swap", "--to", it) for it in "lB"}
+COMMANDS |= {it: (it,) for it in ("show", "json", "list", "count", "calls")}
+# A method return whose body is one array of bytes.
+LONG_HEADER = header("ay", 4 + LONG, fields=[(5, ("u", 1))], kind=2) + LONG.to_bytes(4, "little")
 
 
 def write_streams(folder):
     """The paths of the streams, by name."""
-    once = folder / "once"
-    once.mkdir()
-    subprocess.run([HERE / "shapes.py", once], check=True)
-    samples = {it: SAMPLES / f"{it}.dbus" for it in ("session", "big-endian")}
-    sources = samples | {it: once / f"{it}.dbus" for it in SHAPES}
-    for name, source in sources.items():
-        stream = source.read_bytes()
+    sources = {it: (ROOT / "samples" / f"{it}.dbus").read_bytes() for it in ("session", "big-endian")}
+    sources |= streams()
+    for name, stream in sources.items():
         (folder / name).write_bytes(stream * (SIZE // len(stream)))
-    (folder / "one message").write_bytes(LONG_HEADER + bytes(64_000_000))
+    (folder / "one message").write_bytes(LONG_HEADER + bytes(LONG))
     return {name: folder / name for name in (*sources, "one message")}
 
 

@@ -12,8 +12,9 @@ import re
 import subprocess
 import tempfile
 
-from crate_list import ROOT, copy_parts, folder_of, lanes, libraries_below, read_crates, read_lines
+from crate_list import copy_parts, folder_of, lanes, libraries_below, read_crates, read_lines
 from edits import all_edits, edited, edits_in, file_of, function_at, functions_changed, goals_of, is_twin, text_of, twin_of
+from history import git
 from interfaces import state
 
 # How the name of a folder begins in which a round is checked. bench/gate_times.py knows rounds by it.
@@ -45,22 +46,11 @@ def state_of(crate):
     return " ".join(["TRIED:", *state(crate), kit(), str(len(edits_in(crate)))])
 
 
-def note_tried(crate):
-    """Writes that all wrong bodies of the crate were refused."""
-    text = file_of(crate).read_text()
-    file_of(crate).write_text(f"{state_of(crate)}\n\n{re.sub('^TRIED:.*', '', text).lstrip()}")
-
-
-def tree():
-    """What names the tree of the commit, or else the contents of the crates."""
-    ran = subprocess.run("git rev-parse HEAD^{tree}", shell=True, cwd=ROOT, capture_output=True, text=True)
-    return ran.stdout or repr([state(it) for it in read_crates()])
-
-
 def due_edits():
     """Those of crates whose first line is not current, those that are always tried, and those that the tree draws."""
     due = {it for it in read_crates() if edits_in(it) and file_of(it).read_text().partition("\n")[0] != state_of(it)}
-    edits, drawn_by = all_edits(), tree()
+    # What names the tree of the commit, or else the contents of the crates.
+    edits, drawn_by = all_edits(), git("rev-parse", "HEAD^{tree}") or repr([state(it) for it in read_crates()])
     drawn = sorted(edits, key=lambda it: hashlib.sha256((drawn_by + it.name).encode()).digest())[:DRAWN]
     return [it for it in edits if it.crate in due or it.always or it in drawn]
 
@@ -139,14 +129,12 @@ def functions_of(edit):
     return {function_of(edit).split("::")[-1], *functions_changed(edit)}
 
 
-def is_apart(edit):
-    """Whether the edit changes only the body of the function that it leaves open, so that it touches no other function's goals."""
-    return len(functions_of(edit)) == 1 or "+" in function_of(edit) and "" not in functions_of(edit)
-
-
 def fits(edit, others):
-    """Whether a check can tell the edit from these."""
-    is_another = function_of(edit) not in map(function_of, others) and all(map(is_apart, [edit, *others]))
+    """Whether a check can tell the edit from these: each changes only the body of the function that it leaves open, so that
+    it touches no other function's goals."""
+    touched = ((function_of(it), functions_of(it)) for it in [edit, *others])
+    is_apart = all(len(names) == 1 or "+" in left and "" not in names for left, names in touched)
+    is_another = is_apart and function_of(edit) not in map(function_of, others)
     return is_another and None not in texts_with([*others, edit]).values()
 
 
@@ -189,7 +177,8 @@ def try_crate(edits, crates):
                 faults[it.name] = f"{it.name}: {how}; left open: {told}"
     print(*faults.values(), f"{crate}: {len(edits) - len(faults)} of {len(edits)} wrong bodies refused where they should be", sep="\n", flush=True)
     if not faults and len(edits) == len(edits_in(crate)):
-        note_tried(crate)
+        text = re.sub("^TRIED:.*", "", file_of(crate).read_text()).lstrip()
+        file_of(crate).write_text(f"{state_of(crate)}\n\n{text}")
     return faults
 
 

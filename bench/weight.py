@@ -12,18 +12,16 @@ A line there is of one thing and has its numbers. Blank lines and comments are n
     all types: how many names of types, public or `pub(crate)`, two crates have
     all clauses: how many clauses of public calls no wrong body guards (bench/guards.py)
 
-`A back to B` is a number that has to come down to B, for the reason behind # at the end of its line.
-
 Without a word it prints sums, the numbers that differ from their budget or from the last tag's, and how many files the
 last option and the last command took: those of all commits that name it, as `--NAME` or `dbus-wire NAME`, in their
 message or in a line that comes or goes. With --all it prints each number. --write makes all budgets what is there now.
 
---check is what the gate does. The exit status is 1 if a number is over its budget; if one is more than 3 % below, and
-then it writes the lower budget, to be committed; and if a commit since the last tag raises a budget and changes another
-file, or has no body that says what a user gets for it.
+--check is what the gate does (docs/CHANGING.md). The exit status is 1 if a number is over its budget, or is so far below
+that it writes the lower budget, or if a commit since the last tag raises a budget in another way than it may.
 """
 
 import collections
+import itertools
 import re
 import sys
 
@@ -108,19 +106,13 @@ def others():
     sources = ("\n".join(lines_of(folder_of(crate) / "src")) for crate in read_crates())
     owners = collections.Counter(name for text in sources for name in {*TYPE.findall(text)})
     yield "all types", {"twice": sum(count > 1 for count in owners.values())}
-
-
-def clauses():
     yield "all clauses", {"unguarded": unguarded()}
-
-
-# Each gives what rows are of, and the numbers of these by their words.
-MAKERS = (crates, pages, others, clauses)
 
 
 def weigh():
     """Each number that there is, by its row and its word."""
-    return {(row, word): number for maker in MAKERS for row, its in maker() for word, number in its.items()}
+    rows = itertools.chain(crates(), pages(), others())
+    return {(row, word): number for row, its in rows for word, number in its.items()}
 
 
 def parsed(text):

@@ -1,14 +1,14 @@
 #!/usr/bin/env python3
 """worked_examples.py [--check]: writes into docs/WORKED-EXAMPLES.md the tables of worked examples, out of the proofs that compute them.
 
-An example is a comment, with the section of the D-Bus Specification in brackets at its end, and then bytes beside what the definitions say of
-them. With --check nothing is written, and the exit status is 1 if the page is not current.
+An example is a comment, with the section of the D-Bus Specification in brackets at its end, and then bytes beside what
+the definitions say of them.
 """
 
 import re
 
 from crate_list import ROOT, text_of
-from pages import write_or_check
+from pages import table, write_or_check
 
 PAGE = ROOT / "docs" / "WORKED-EXAMPLES.md"
 VALUES = "dbus_value_model/proofs/WorkedExamples.antt"
@@ -41,26 +41,11 @@ def examples(file):
     return EXAMPLE.findall(joined)
 
 
-def value_row(said, section, pair):
-    return f"| {said} | {hexadecimal(BYTES.search(pair)[1])} | {section} |\n"
-
-
-def message_row(said, section, pair):
-    found = BYTES.match(pair)
-    return f"| {said} | {hexadecimal(found[1])} | {answer(pair[found.end() + 2 :])} | {section} |\n"
-
-
-def table(head, rows):
-    columns = head.count("|") - 1
-    return f"{head}\n|{' --- |' * columns}\n" + "".join(rows)
-
-
-def page():
-    front, _, _ = PAGE.read_text().partition("\n| value")
-    values = table("| value | its bytes | section |", (value_row(*it) for it in examples(VALUES)))
-    messages = table("| what | bytes | what the definitions say | section |", (message_row(*it) for it in examples(MESSAGES)))
-    return f"{front}\n{values}\n{messages}"
-
-
 if __name__ == "__main__":
-    write_or_check({PAGE: page()}, "docs/WORKED-EXAMPLES.md is not current: make definitions writes it")
+    value_rows = ((said, hexadecimal(BYTES.search(pair)[1]), section) for said, section, pair in examples(VALUES))
+    values = table(("value", "its bytes", "section"), value_rows)
+    bytes_of = ((BYTES.match(pair), *it, pair) for *it, pair in examples(MESSAGES))
+    message_rows = ((said, hexadecimal(it[1]), answer(pair[it.end() + 2 :]), section) for it, said, section, pair in bytes_of)
+    messages = table(("what", "bytes", "what the definitions say", "section"), message_rows)
+    page = f"{PAGE.read_text().partition(chr(10) + '| value')[0]}\n{values}\n{messages}"
+    write_or_check({PAGE: page}, "docs/WORKED-EXAMPLES.md is not current: make definitions writes it")
