@@ -83,7 +83,7 @@ class Browser {
       const row = find(\`row-\${state.active}\`);
       return row ? [[...row.children].map((cell) => cell.textContent), find("details").querySelector("pre").textContent, find("details").querySelector(".line").textContent] : null;
     }) })`));
-    return { ...answers, ...(await this.shownBy("type='method_call'", "Serial")) };
+    return { ...answers, ...(await this.shownBy("type='method_call'", "DBus")) };
   }
 
   // The numbers of the messages that are shown by a match rule and a word; what is saved of them; and their command.
