@@ -78,12 +78,12 @@ class Browser {
     if (await this.value("find('count').textContent === ''")) {
       return null;
     }
-    const answers = JSON.parse(await this.value(`JSON.stringify({ ...answersOf(state.reader, new Tables(state.reader)), seen: [0, state.rows.length - 1].map((it) => {
-      choose(it);
-      const row = find(\`row-\${it}\`);
+    const answers = JSON.parse(await this.value(`JSON.stringify({ ...answersOf(state.reader, new Tables(state.reader)), seen: ["n", "End"].map((key) => {
+      find("list").dispatchEvent(new KeyboardEvent("keydown", { key, bubbles: true }));
+      const row = find(\`row-\${state.active}\`);
       return row ? [[...row.children].map((cell) => cell.textContent), find("details").querySelector("pre").textContent, find("details").querySelector(".line").textContent] : null;
     }) })`));
-    return { ...answers, ...(await this.shownBy("type='method_call'", "Serial")) };
+    return { ...answers, ...(await this.shownBy("type='method_call'", "DBus")) };
   }
 
   // The numbers of the messages that are shown by a match rule and a word; what is saved of them; and their command.

@@ -352,8 +352,8 @@ const save = () => element("a", "", { href: URL.createObjectURL(pcap()), downloa
 function copyButton(title, text) {
   const button = element("button", title, { type: "button" });
   button.addEventListener("click", async () => {
-    await navigator.clipboard.writeText(text());
-    button.textContent = `${title}: done`;
+    const said = await navigator.clipboard.writeText(text()).then(() => "done", (error) => error.message);
+    button.textContent = `${title}: ${said}`;
   });
   return button;
 }

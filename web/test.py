@@ -51,6 +51,9 @@ def inputs():
                 yield f"{file}.txt {case[0]} {column}", read_bytes(case[column])
     for case in read_cases(DATA / "captures.txt"):
         yield f"captures.txt {case[0]}", read_parts(case[1], DATA)
+    # Calls behind a message that is refused, at its header fields.
+    calls = (ROOT / "samples" / "calls.dbus").read_bytes()
+    yield "calls.dbus, the first refused", calls[:20] + b"\xff\xff" + calls[22:]
     # What each side sends, with messages behind it, and cut off within its last line.
     message = (ROOT / "samples" / "big-endian.dbus").read_bytes()
     for case in read_cases(DATA / "handshakes.txt"):
@@ -119,10 +122,10 @@ def unseen(program, folder, all_inputs, given):
         if answers is None:
             continue
         lines = [json.loads(it) for it in answers["lines"].splitlines()]
-        calls = [it for it in lines if it["type"] == "method_call"]
+        calls = [it for it in lines if it["type"] == "method_call" and "dbus" in json.dumps(it).lower()]
         if answers["calls"] != [it["number"] for it in calls] or not is_taken(folder, answers, calls):
             wrong += 1
-            print(f"{name}: the page shows {answers['calls']} as calls of methods, and gives {answers['command']}")
+            print(f"{name}: the page shows {answers['calls']} as calls with a word, and gives {answers['command']}")
         listed, cut = (answers[it].split("\n")[:-1] for it in ("listed", "cut"))
         listed = {it["number"]: both for it, *both in zip(lines, listed, cut, strict=True)}
         refused = {it[0]: it for it in answers["refused"]}
