@@ -26,12 +26,12 @@ def is_right(wanted, answer):
 class FirstWords:
     """What is wanted of an engine: the first words of the right answer. What waits for more of bytes that are refused and cut is not compared."""
 
-    def __init__(self, engine, right, is_cut=False):
-        self.engine, self.right, self.is_cut = engine, right, is_cut
+    def __init__(self, engine, right, is_front=False):
+        self.engine, self.right, self.is_front = engine, right, is_front
 
     def __call__(self, answers):
         answer = answers[self.engine]
-        if answer in (UNKNOWN, "") or self.is_cut and answer == "partial":
+        if answer in (UNKNOWN, "") or self.is_front and answer == "partial":
             return None
         return answer if is_right(self.right, answer) else self.right
 
@@ -50,13 +50,17 @@ class SameBody:
         return answer if HEX.fullmatch(answer) and body_of(bytes.fromhex(answer)) in self.bodies else self.right
 
 
-def question(engine, words, right, is_cut=False):
-    return Question(engine, words, FirstWords(engine, right, is_cut))
+def question(engine, words, right, is_front=False):
+    return Question(engine, words, FirstWords(engine, right, is_front))
+
+
+def is_cut(data, answer):
+    """Whether a message is refused of which not all is there."""
+    return answer.startswith("refused") and (len(data) < 16 or len(data) < stated_length(data))
 
 
 def ask_bytes(engine, data, limits, answer):
-    is_cut = answer.startswith("refused") and (len(data) < 16 or len(data) < stated_length(data))
-    return question(engine, words_of("message", hexed(data), limits), answer, is_cut)
+    return question(engine, words_of("message", hexed(data), limits), answer, is_cut(data, answer))
 
 
 def body_of(data):
@@ -81,7 +85,7 @@ def asker_of(file):
             if data is not None:
                 yield ask_bytes(f"message in {order} endian", data, case[1], case[4])
             if not isinstance(it, str) and it.data != data:
-                yield ask_bytes(f"message in {order} endian, rewritten,", it.data, "", it.answer)
+                yield ask_bytes(f"message in {order} endian, rewritten", it.data, "", it.answer)
             # Descriptors do not come with bytes.
             if not isinstance(it, str) and it.answer.startswith("whole") and file != "descriptors.txt":
                 columns[order] = it.data
