@@ -8,7 +8,7 @@ import re
 import sys
 from xml.sax.saxutils import quoteattr
 
-from ask_plain import FILES, VERDICTS, FirstWords, SameBody, body_of, is_cut
+from ask_plain import FILES, VERDICTS, FirstWords, SameBody, body_of, not_compared
 from questions import Question
 from read_cases import DATA
 from run import Answered, Asked, asked_of, difference, shown
@@ -91,8 +91,8 @@ def question_of(record, bodies):
     if kind == "again":
         return Question(engine, words, SameBody(engine, bodies))
     answer = record["answer"]
-    is_front = kind == "message" and is_cut(bytes.fromhex(record["hex"]), answer)
-    return Question(engine, words, FirstWords(engine, answer, is_front))
+    skipped = not_compared(bytes.fromhex(record["hex"]), answer) if kind == "message" else ()
+    return Question(engine, words, FirstWords(engine, answer, skipped))
 
 
 def is_fault(it, known):
