@@ -25,7 +25,9 @@ IN_PYTHON = (
 )
 FLAGS = "-std=c11 -O2 -Wall -Wextra".split()
 PYTHONS = (sys.executable, "/usr/bin/python3")
+BUSES = ("dbus-daemon", "dbus-broker")
 MOST_NAMES = 3
+LONGEST_RULE = 50
 
 # An answer that differs: the case, the question's first word, whether it is as it was, and as rewritten, which was wanted and which was found.
 Differs = collections.namedtuple("Differs", "name kind was is_now wanted found is_choice")
@@ -131,6 +133,20 @@ def lost_rows(results, is_chosen):
             yield f"| {name} | encodes another body | {len(found)} | {names_of(found)} |"
 
 
+def rule_rows():
+    """A line for each rule of which a bus says something else."""
+    asked = [*asked_of("plain", [DATA / "rules.txt"])]
+    python = python_with("jeepney")
+    for its in zip(*([*answers_of([python, str(HERE / "with_bus.py"), bus], asked)[0]] for bus in BUSES)):
+        if any(it.wanted not in (None, it.answer) for it in its):
+            case, question = its[0][:2]
+            text = bytes.fromhex(question.words.split(" ")[1]).decode().replace("\t", "\\t")
+            ours = question.wanted.right.split(" ")[0]
+            theirs = ["accepted" if it.answer == "yes" else "refused" for it in its]
+            shown = f"`{text}`" if len(text) < LONGEST_RULE else case.name
+            yield f"| {shown} | {ours}{', *profile*' if case.is_choice else ''} | {' | '.join(theirs)} |"
+
+
 def refused_inputs():
     """How many inputs are refused, as they were and as rewritten."""
     was = now = 0
@@ -154,6 +170,8 @@ def main():
     tables = {"rows": rows, "faults": taken_rows(results, False), "choices": taken_rows(results, True)}
     tables["missed"] = [*missed_rows(results, False), *lost_rows(results, False)]
     tables["missed_choices"] = [*missed_rows(results, True), *lost_rows(results, True)]
+    tables["rules"] = rule_rows()
+    tables["buses"] = (" | ".join(f"{it} {re.search(r'[0-9][0-9.]*', output_of(it, '--version'))[0]}" for it in BUSES),)
     page = (HERE / "page.md").read_text().format(was=was, now=now, **{name: "\n".join(lines) for name, lines in tables.items()})
     (ROOT / "docs" / "PEERS.md").write_text(page)
 
