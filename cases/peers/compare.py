@@ -133,16 +133,16 @@ def lost_rows(results, is_chosen):
             yield f"| {name} | encodes another body | {len(found)} | {names_of(found)} |"
 
 
-def rule_rows():
-    """A line for each rule of which a bus says something else."""
-    asked = [*asked_of("plain", [DATA / "rules.txt"])]
+def said_by_buses(file):
+    """A line for each rule or line of which a bus says something else."""
+    asked = [*asked_of("plain", [DATA / file])]
     python = python_with("jeepney")
     for its in zip(*([*answers_of([python, str(HERE / "with_bus.py"), bus], asked)[0]] for bus in BUSES)):
         if any(it.wanted not in (None, it.answer) for it in its):
             case, question = its[0][:2]
-            text = bytes.fromhex(question.words.split(" ")[1]).decode().replace("\t", "\\t")
+            text = bytes.fromhex(question.words.split(" ")[-1]).decode("latin1").replace("\t", "\\t")
             ours = question.wanted.right.split(" ")[0]
-            theirs = ["accepted" if it.answer == "yes" else "refused" for it in its]
+            theirs = [{"yes": "accepted", "no": "refused"}.get(word := it.answer.partition(":")[0], word) for it in its]
             shown = f"`{text}`" if len(text) < LONGEST_RULE else case.name
             yield f"| {shown} | {ours}{', *profile*' if case.is_choice else ''} | {' | '.join(theirs)} |"
 
@@ -170,7 +170,7 @@ def main():
     tables = {"rows": rows, "faults": taken_rows(results, False), "choices": taken_rows(results, True)}
     tables["missed"] = [*missed_rows(results, False), *lost_rows(results, False)]
     tables["missed_choices"] = [*missed_rows(results, True), *lost_rows(results, True)]
-    tables["rules"] = rule_rows()
+    tables["rules"], tables["lines"] = said_by_buses("rules.txt"), said_by_buses("client_lines.txt")
     tables["buses"] = (" | ".join(f"{it} {re.search(r'[0-9][0-9.]*', output_of(it, '--version'))[0]}" for it in BUSES),)
     page = (HERE / "page.md").read_text().format(was=was, now=now, **{name: "\n".join(lines) for name, lines in tables.items()})
     (ROOT / "docs" / "PEERS.md").write_text(page)

@@ -1,6 +1,7 @@
 #!/usr/bin/python3
 """with_bus.py dbus-daemon | dbus-broker: starts that bus, and answers `rule` by its AddMatch, and `match` by whether it
-delivers the message. Only signals without SENDER, DESTINATION and UNIX_FDS can be asked of a bus."""
+delivers the message. Only signals without SENDER, DESTINATION and UNIX_FDS can be asked of a bus. `line client` is
+answered by what it replies to the line in three of its states, of root."""
 
 import os
 import pathlib
@@ -26,6 +27,19 @@ BUS = DBusAddress("/org/freedesktop/DBus", bus_name="org.freedesktop.DBus", inte
 SIGNAL = 4
 SET_BY_THE_BUS = {6, 7, 9}
 LAST = b"LastOfAll\0"
+# What takes a server to WaitingForAuth, WaitingForData and WaitingForBegin, and what it replies there to a line of each
+# meaning: True is an answer to a mechanism.
+BEFORE = ((), (b"AUTH EXTERNAL",), (b"AUTH EXTERNAL 30",))
+TO_A_MECHANISM = ("DATA", "OK", "REJECTED")
+MEANINGS = {
+    (True, "ERROR", "ERROR"): "auth",
+    ("closes", "closes", "waits"): "begin",
+    ("ERROR", True, True): "cancel",
+    ("ERROR", True, "ERROR"): "data",
+    (True, True, True): "error",
+    ("ERROR", "ERROR", "AGREE_UNIX_FD"): "negotiate",
+    ("ERROR", "ERROR", "ERROR"): "other",
+}
 
 
 def start(name, room):
@@ -62,7 +76,31 @@ def deliver(hears, sends, rule, data):
     return "yes" if heard.count(sends.unique_name.encode() + b"\0") > 1 else "no"
 
 
+def reply_to(path, before, line):
+    said = b""
+    with socket.socket(socket.AF_UNIX) as server:
+        server.settimeout(1)
+        server.connect(path)
+        server.sendall(b"\0" + b"".join(it + b"\r\n" for it in (*before, line)))
+        try:
+            while said.count(b"\r\n") <= len(before):
+                if not (read := server.recv(1 << 16)):
+                    return "closes"
+                said += read
+        except TimeoutError:
+            return "waits"
+        except ConnectionError:
+            return "closes"
+    word = said.split(b"\r\n")[len(before)].split(b" ")[0].decode()
+    return word in TO_A_MECHANISM or word
+
+
 def answer(address, kind, *words):
+    if kind == "line" and words[0] == "client":
+        line = bytes.fromhex(words[1].replace("-", ""))
+        if not all(0 < byte < 128 for byte in line):
+            return "?"
+        return MEANINGS.get(tuple(reply_to(address.partition("=")[2], it, line) for it in BEFORE), "?")
     try:
         rule, *data = [bytes.fromhex(word.replace("-", "")) for word in words]
         with open_dbus_connection(address) as hears, open_dbus_connection(address) as sends:
