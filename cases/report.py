@@ -6,7 +6,7 @@ import itertools
 import json
 import re
 import sys
-from xml.sax.saxutils import quoteattr
+from html import escape
 
 from ask_plain import FILES, VERDICTS, FirstWords, SameBody, body_of, not_compared
 from questions import Question
@@ -135,8 +135,8 @@ def junit(outcome, known, cases, *_):
     counts = f'tests="{outcome.agree + len(told)}" failures="{len(told)}" errors="{len(outcome.ends)}"'
     yield f'<testsuite name="dbus-cases" {counts}>'
     for it in told:
-        yield f"<testcase classname={quoteattr(it.case.file)} name={quoteattr(name_of(it))}>"
-        yield f"<failure message={quoteattr(difference(it))}/></testcase>"
+        yield f'<testcase classname="{it.case.file}" name="{name_of(it)}">'
+        yield f'<failure message="{escape(difference(it))}"/></testcase>'
     yield from (f"<system-err>{it}</system-err>" for it in outcome.ends)
     yield "</testsuite>"
 
