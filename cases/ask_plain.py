@@ -11,6 +11,8 @@ from run import UNKNOWN
 from streams import stated_length
 
 HEX = re.compile("([0-9a-f]{2})+")
+# How the field begins that counts descriptors, which do not come with the bytes.
+UNIX_FDS = b"\t\1u\0"
 # The first words of answers that are also `yes`, or `no`.
 VERDICTS = {"yes": ("whole", "accepted", "unique", "well-known", "yes"), "no": ("refused", "bad", "too", "partial", "no")}
 
@@ -24,14 +26,14 @@ def is_right(wanted, answer):
 
 
 class FirstWords:
-    """What is wanted of an engine: the first words of the right answer. What waits for more of bytes that are refused and cut is not compared."""
+    """What is wanted of an engine: the first words of the right answer. Some answers are not compared."""
 
-    def __init__(self, engine, right, is_cut=False):
-        self.engine, self.right, self.is_cut = engine, right, is_cut
+    def __init__(self, engine, right, not_compared=()):
+        self.engine, self.right, self.not_compared = engine, right, not_compared
 
     def __call__(self, answers):
         answer = answers[self.engine]
-        if answer in (UNKNOWN, "") or self.is_cut and answer == "partial":
+        if answer in (UNKNOWN, "") or answer.partition(":")[0].split(" ")[0] in self.not_compared:
             return None
         return answer if is_right(self.right, answer) else self.right
 
@@ -50,13 +52,19 @@ class SameBody:
         return answer if HEX.fullmatch(answer) and body_of(bytes.fromhex(answer)) in self.bodies else self.right
 
 
-def question(engine, words, right, is_cut=False):
-    return Question(engine, words, FirstWords(engine, right, is_cut))
+def question(engine, words, right, not_compared=()):
+    return Question(engine, words, FirstWords(engine, right, not_compared))
+
+
+def not_compared(data, answer):
+    """The answers that are not compared: to wait for more of a refused front, and to refuse what has no descriptors."""
+    is_front = answer.startswith("refused") and (len(data) < 16 or len(data) < stated_length(data))
+    lacks = answer.startswith("whole") and (UNIX_FDS in data or b"h" in data)
+    return ("partial",) if is_front else ("no", "refused") if lacks else ()
 
 
 def ask_bytes(engine, data, limits, answer):
-    is_cut = answer.startswith("refused") and (len(data) < 16 or len(data) < stated_length(data))
-    return question(engine, words_of("message", hexed(data), limits), answer, is_cut)
+    return question(engine, words_of("message", hexed(data), limits), answer, not_compared(data, answer))
 
 
 def body_of(data):
@@ -81,7 +89,7 @@ def asker_of(file):
             if data is not None:
                 yield ask_bytes(f"message in {order} endian", data, case[1], case[4])
             if not isinstance(it, str) and it.data != data:
-                yield ask_bytes(f"message in {order} endian, rewritten,", it.data, "", it.answer)
+                yield ask_bytes(f"message in {order} endian, rewritten", it.data, "", it.answer)
             # Descriptors do not come with bytes.
             if not isinstance(it, str) and it.answer.startswith("whole") and file != "descriptors.txt":
                 columns[order] = it.data

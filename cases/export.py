@@ -7,7 +7,6 @@ import gzip
 import io
 import json
 import pathlib
-import re
 import sys
 import tarfile
 
@@ -15,37 +14,17 @@ sys.dont_write_bytecode = True
 
 from ask_plain import FILES  # noqa: E402
 from read_cases import DATA  # noqa: E402
-from run import asked_of  # noqa: E402
+from report import lines, rules  # noqa: E402
 
 VERSION = 1
 NAME = f"dbus-cases-{VERSION}"
 CASES = DATA.parent
 ROOT = CASES.parent
 READERS = ("read_cases.py", "read_cases.pl", "rewritten.py")
-SCRIPTS = ("README.md", "run.py", "ask_plain.py", "questions.py", "handshakes.py", "seen.py", "streams.py", *READERS)
+ASKERS = ("run.py", "report.py", "ask_plain.py", "questions.py", "handshakes.py", "seen.py", "streams.py")
+SCRIPTS = ("README.md", *ASKERS, *READERS)
+DOCS = ("AUTHENTICATION.md", "FAULTS.md", "MATCH-RULES.md", "PEERS.md", "WIRE-FORMAT.md")
 PEERS = (".c", ".h", ".py")
-
-
-def sections_of(path):
-    """The sections of the D-Bus Specification that the comment at a file's head names."""
-    head = re.match(r"(#.*\n)+", path.read_text())[0].replace("\n# ", " ")
-    named = re.search(r"D-Bus Specification,((?: and|,)? \"[^\"]+\")+", head)
-    return re.findall(r'"([^"]+)"', named[0]) if named else []
-
-
-def lines():
-    """A line of JSON for each question."""
-    for name in FILES:
-        sections = sections_of(DATA / name)
-        for it in asked_of("plain", [DATA / name]):
-            for question in it.questions:
-                kind, *words = question.words.split(" ")
-                case = {"name": f"{name.removesuffix('.txt')}/{it.name}/{question.engine.strip(',')}", "question": kind}
-                hexed = [word for word in words if re.fullmatch("-|([0-9a-f]{2})+", word)]
-                other = [word for word in words if word not in hexed]
-                case |= {"hex": hexed[-1].replace("-", "")} | ({"rule": hexed[0].replace("-", "")} if kind == "match" else {})
-                case |= ({"with": other} if other else {}) | {"answer": question.wanted.right} | ({"sections": sections} if sections else {})
-                yield json.dumps(case) + "\n"
 
 
 def files(cases):
@@ -53,9 +32,11 @@ def files(cases):
     yield "LICENSE", (ROOT / "LICENSE").read_bytes()
     yield "VERSION", f"{VERSION}\n".encode()
     yield "cases.jsonl", cases
+    yield "rules.json", json.dumps(rules(), indent=1).encode()
     names = [*SCRIPTS, *(f"data/{name}" for name in FILES)]
     names += [f"peers/{it.name}" for it in (CASES / "peers").iterdir() if it.suffix in PEERS]
     yield from ((name, (CASES / name).read_bytes()) for name in sorted(names))
+    yield from ((f"docs/{name}", (ROOT / "docs" / name).read_bytes()) for name in DOCS)
 
 
 def archive(cases):

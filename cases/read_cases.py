@@ -8,15 +8,26 @@ import sys
 
 # Where the files are.
 DATA = pathlib.Path(__file__).resolve().parent / "data"
+CHOICE = " choice"
 ITEM = re.compile(r'(?:(\d+)\*)?(?:"((?:[^"\\]|\\.)*)"|((?:[0-9a-f]{2})+))(?:\s+|$)')
 ESCAPE = re.compile(rb'\\(?:x([0-9a-f]{2})|(["\\]))')
 
 
-def read_cases(path):
-    """The columns of each case, of which the first is its name."""
+def read_lines(path):
+    """The columns of each case as they are written."""
     with open(path, encoding="utf-8") as file:
         lines = [line.strip() for line in file]
     return [[it.strip() for it in re.split(r" \|(?= |$)", line)] for line in lines if line and line[0] != "#"]
+
+
+def read_cases(path):
+    """The columns of each case, of which the first is its name."""
+    return [[name.removesuffix(CHOICE), *columns] for name, *columns in read_lines(path)]
+
+
+def choices(path):
+    """The names of the cases whose answer the specification leaves open."""
+    return {name.removesuffix(CHOICE) for name, *_ in read_lines(path) if name.endswith(CHOICE)}
 
 
 def read_bytes(column):

@@ -63,12 +63,12 @@ class Draft:
         self.take(-self.at % boundary)
 
     def take(self, count, missing=b"\0"):
-        """As many bytes, with what is missing of them."""
+        """As many bytes, with what is missing of them, whose last byte goes on."""
         start, self.at = self.at, self.at + count
         if self.at > MOST:
             raise ValueError("too long")
         lacks = max(self.at - len(self.data), 0)
-        self.data += (missing * lacks)[:lacks]
+        self.data += (missing + missing[-1:] * lacks)[:lacks]
         return bytes(self.data[start : self.at])
 
     def number(self, width):
@@ -82,7 +82,7 @@ class Draft:
         length = self.number(width)
         given = self.data[self.at : self.at + length]
         if missing == b".":
-            missing = b"a" if b"." in given else b".a" if (length - len(given)) % 2 == 0 else b"a.a.a"
+            missing = b"a" if b"." in given else b".a" if given.strip(b":") else b"a.a"
         text = self.take(length, missing)
         self.take(1)
         return text
@@ -118,7 +118,7 @@ class Draft:
         start = self.at
         while self.at < start + length:
             self.value(element)
-        if self.at > self.given and self.is_fitted:
+        if self.at > min(self.given, start + length) and self.is_fitted:
             self.state(place, self.at - start)
 
     def field(self):
@@ -133,8 +133,15 @@ class Draft:
             self.types = self.value("g").decode()
         elif types == "s" and code in NAMES_WITH_DOTS:
             self.value("s", b".")
+        elif types == "u" and code == REPLY_SERIAL:
+            self.align(4)
+            self.take(4, b"\1")
         else:
             self.values(types)
+
+    def is_over(self):
+        """Whether more was put in than a part was stated to have."""
+        return self.is_fitted and self.at > self.given
 
     def fields(self):
         """Reads the fields, of which the last one given is completed, and returns where they are stated to end."""
@@ -167,11 +174,12 @@ def filled(data, reason):
     draft, is_short = Draft(data, reason), len(data) < stated_length(data) <= MOST
     try:
         end = draft.fields()
-        if is_short and len(data) < end:
+        if draft.is_over() or is_short and len(data) < end:
             draft.fit(12, 16, end - 16)
         draft.align(8)
         body = draft.at
         draft.values(draft.types)
+        is_short = is_short or draft.is_over()
         if is_short and reason != "Trailing":
             draft.fit(4, body, int.from_bytes(data[4:8], draft.order))
     except BROKEN:

@@ -1,13 +1,25 @@
 #!/usr/bin/env python3
-"""run.py [--ask SET] [FILE..] -- COMMAND: asks a program questions, and compares its answers with what the cases of the files say.
+"""run.py [OPTIONS] [FILE..] -- COMMAND: asks a program questions, and compares its answers with what the cases say.
 
 The program reads a question a line, and writes an answer a line. A set of questions is a module ask_SET.py beside this one: `plain`, which any
 implementation can answer (README.md), or the name of a program of this repository that answers more. Without files all of the set's are asked.
-A line is printed for each answer that differs, and last how many cases there are, and how many answers agree, differ and were skipped; of another set
-than `plain` how many cases, questions that were answered and differences there are. The exit status is 1 if there is a difference, or if the program
-ends early.
+Answers that differ are told in one of these forms. If none is named, a terminal has a summary, and a file lines:
+
+    --summary   by what is wrong, worst first, each with one example and its bytes
+    --lines     a line for each, in the order of the files
+    --json      a line of JSON for each
+    --names     their names alone
+    --junit     as JUnit has it, in XML
+
+    --case NAME    asks this case alone
+    --known FILE   what is named there, a name a line, is no fault
+    --ask SET      asks another set than `plain`
+
+The last line counts answers. The exit status is 1 if one differs that is neither known nor of a case marked `choice`,
+or if the program ends early.
 """
 
+import argparse
 import collections
 import concurrent.futures as futures
 import importlib
@@ -18,23 +30,29 @@ import sys
 
 sys.dont_write_bytecode = True
 
-from read_cases import DATA, read_cases  # noqa: E402
+from read_cases import DATA, choices, read_cases  # noqa: E402
 
 # The answer of a program that does not know a question.
 UNKNOWN = "?"
 MOST_SHOWN = 300
+# The questions of `plain`, as export.py keeps them in an archive.
+KEPT = DATA.parent / "cases.jsonl"
+FORMS = ("summary", "lines", "json", "names", "junit")
 
-Asked = collections.namedtuple("Asked", "file name questions")
+Asked = collections.namedtuple("Asked", "file name questions is_choice")
 # An answer to a question of a case, and which is wanted: None if it is not compared. There is no answer if the program ended before.
 Answered = collections.namedtuple("Answered", "case question answer wanted")
+# How many answers there are, agree and are not compared, those that differ, and what is told of the program's end.
+Outcome = collections.namedtuple("Outcome", "count agree skipped differing ends")
 
 
 def asked_of(name, paths=()):
     """What the set of this name asks of each case of the files."""
     files = importlib.import_module(f"ask_{name}").FILES
     for path in paths or [DATA / file for file in files]:
+        chosen = choices(path)
         for case in read_cases(path):
-            yield Asked(path.name, case[0], [*files[path.name](case, path.parent)])
+            yield Asked(path.name, case[0], [*files[path.name](case, path.parent)], case[0] in chosen)
 
 
 def lines_of(asked):
@@ -82,18 +100,13 @@ def answers_of(command, asked, **how):
 
 
 def ask(command, asked):
-    """How many questions the program answered, how many answers agree and how many are not compared, and the differences."""
     said, status = answers_of(command, asked)
-    count, agree, skipped, told = 0, 0, 0, []
-    for it in said:
-        line = difference(it)
-        count += it.answer not in (None, UNKNOWN)
-        skipped += it.wanted is None
-        agree += it.wanted is not None and not line
-        told += [line] if line else []
-    if status:
-        told.append(f"the program ended with status {status}")
-    return count, agree, skipped, told
+    said = [*said]
+    differing = [it for it in said if difference(it)]
+    skipped = sum(it.wanted is None for it in said)
+    count = sum(it.answer not in (None, UNKNOWN) for it in said)
+    ends = [f"the program ended with status {status}"] if status else []
+    return Outcome(count, len(said) - skipped - len(differing), skipped, differing, ends)
 
 
 def ask_side_by_side(command, asked):
@@ -101,8 +114,19 @@ def ask_side_by_side(command, asked):
     jobs = len(os.sched_getaffinity(0))
     with futures.ThreadPoolExecutor(jobs) as pool:
         shares = [*pool.map(lambda n: ask(command, asked[n::jobs]), range(jobs))]
-    counts, agree, skipped, told = zip(*shares)
-    return sum(counts), sum(agree), sum(skipped), [line for lines in told for line in lines]
+    return Outcome(*(sum(parts[1:], parts[0]) for parts in zip(*shares)))
+
+
+def options(words):
+    parser = argparse.ArgumentParser(usage=__doc__.replace("%", "%%"), add_help=False)
+    for form in FORMS:
+        parser.add_argument(f"--{form}", dest="form", action="store_const", const=form)
+    parser.set_defaults(form="summary" if sys.stdout.isatty() else "lines")
+    parser.add_argument("--ask", default="plain")
+    parser.add_argument("--case")
+    parser.add_argument("--known", type=pathlib.Path)
+    parser.add_argument("files", nargs="*", type=pathlib.Path)
+    return parser.parse_args(words)
 
 
 def main(*words):
@@ -110,17 +134,17 @@ def main(*words):
         print(__doc__, file=sys.stderr)
         return 2
     at = words.index("--")
-    named, command = words[:at], words[at + 1 :]
-    name = "plain"
-    if named[:1] == ("--ask",):
-        _, name, *named = named
-    asked = [*asked_of(name, [pathlib.Path(it) for it in named])]
-    count, agree, skipped, told = ask_side_by_side(command, asked)
-    last = f"{len(asked)} cases, {count} questions, {len(told)} differ"
-    if name == "plain":
-        last = f"{len(asked)} cases: {agree} agree, {len(told)} differ, {skipped} skipped"
-    print(*told, last, sep="\n")
-    return 1 if told else 0
+    told, command = options(words[:at]), words[at + 1 :]
+    import report
+
+    is_kept = told.ask == "plain" and KEPT.exists() and not told.files
+    asked = [*(report.kept(KEPT) if is_kept else asked_of(told.ask, told.files))]
+    asked = [it for it in asked if it.questions and told.case in (None, it.name)]
+    known = set(told.known.read_text().split("\n")) if told.known else set()
+    outcome = ask_side_by_side(command, asked)
+    told_of = report.FORMS[told.form](outcome, known, len(asked), told.ask == "plain")
+    print(*told_of, sep="\n")
+    return 1 if report.faults(outcome, known) or outcome.ends else 0
 
 
 if __name__ == "__main__":

@@ -25,13 +25,12 @@ IN_PYTHON = (
 )
 FLAGS = "-std=c11 -O2 -Wall -Wextra".split()
 PYTHONS = (sys.executable, "/usr/bin/python3")
-# What the specification leaves open: reasons, and cases.
-CHOSEN_REASONS = ("FieldTwice", "ZeroSerial of a field")
-CHOSEN_CASES = re.compile("dict_entries_are_no_open_containers|dict_that_repeats_a_key|dict_with_a_repeated_key|dict_of_variants_with_62_open|dict_with_63_open|path_that_is_local|interface_that_is_local")
+BUSES = ("dbus-daemon", "dbus-broker")
 MOST_NAMES = 4
+LONGEST_RULE = 50
 
 # An answer that differs: the case, the question's first word, whether it is as it was, and as rewritten, which was wanted and which was found.
-Differs = collections.namedtuple("Differs", "name kind was is_now wanted found")
+Differs = collections.namedtuple("Differs", "name kind was is_now wanted found is_choice")
 
 
 def output_of(*words):
@@ -68,12 +67,12 @@ def judge(command, asked):
         sys.exit(f"{command}: status {status}")
     told, waits = [], [0, 0]
     for case, question, answer, wanted in said:
-        was = not question.engine.endswith("rewritten,")
-        is_now = not was or f"{question.engine}, rewritten," not in [it.engine for it in case.questions]
+        was = not question.engine.endswith("rewritten")
+        is_now = not was or f"{question.engine}, rewritten" not in [it.engine for it in case.questions]
         if wanted is None and answer == "partial":
             waits = [waits[0] + was, waits[1] + is_now]
         if wanted not in (None, answer):
-            told.append(Differs(case.name, question.words.split(" ")[0], was, is_now, wanted, answer))
+            told.append(Differs(case.name, question.words.split(" ")[0], was, is_now, wanted, answer, case.is_choice))
     return told, waits
 
 
@@ -108,7 +107,7 @@ def taken_rows(results, is_chosen):
     found = collections.defaultdict(lambda: {name: [] for name in results})
     for name, told in results.items():
         for it in taken(told):
-            if it.is_now and (reason_of(it) in CHOSEN_REASONS) == is_chosen:
+            if it.is_now and it.is_choice == is_chosen:
                 found[reason_of(it)][name].append(it)
     for why, by_peer in sorted(found.items()):
         first = next(its[0] for its in by_peer.values() if its)
@@ -120,7 +119,7 @@ def missed_rows(results, is_chosen):
     for name, told in results.items():
         found = collections.defaultdict(list)
         for it in missed(told):
-            if bool(CHOSEN_CASES.match(it.name)) == is_chosen:
+            if it.is_choice == is_chosen:
                 words = it.found.partition(":")[2].strip() or it.found
                 found[re.sub(r"\d+", "N", words).replace("|", "\\|")].append(it)
         yield from (f"| {name} | {words} | {len(its)} | {names_of(its)} |" for words, its in found.items())
@@ -129,9 +128,23 @@ def missed_rows(results, is_chosen):
 def lost_rows(results, is_chosen):
     """A line for each peer that encodes messages again with other bodies."""
     for name, told in results.items():
-        found = [it for it in told if it.kind == "again" and bool(CHOSEN_CASES.match(it.name)) == is_chosen]
+        found = [it for it in told if it.kind == "again" and it.is_choice == is_chosen]
         if found:
             yield f"| {name} | encodes another body | {len(found)} | {names_of(found)} |"
+
+
+def said_by_buses(file):
+    """A line for each rule or line of which a bus says something else."""
+    asked = [*asked_of("plain", [DATA / file])]
+    python = python_with("jeepney")
+    for its in zip(*([*answers_of([python, str(HERE / "with_bus.py"), bus], asked)[0]] for bus in BUSES)):
+        if any(it.wanted not in (None, it.answer) for it in its):
+            case, question = its[0][:2]
+            text = bytes.fromhex(question.words.split(" ")[-1]).decode("latin1").replace("\t", "\\t")
+            ours = question.wanted.right.split(" ")[0]
+            theirs = [{"yes": "accepted", "no": "refused"}.get(word := it.answer.partition(":")[0], word) for it in its]
+            shown = f"`{text}`" if len(text) < LONGEST_RULE else case.name
+            yield f"| {shown} | {ours}{', *profile*' if case.is_choice else ''} | {' | '.join(theirs)} |"
 
 
 def refused_inputs():
@@ -157,6 +170,8 @@ def main():
     tables = {"rows": rows, "faults": taken_rows(results, False), "choices": taken_rows(results, True)}
     tables["missed"] = [*missed_rows(results, False), *lost_rows(results, False)]
     tables["missed_choices"] = [*missed_rows(results, True), *lost_rows(results, True)]
+    tables["rules"], tables["lines"] = said_by_buses("rules.txt"), said_by_buses("client_lines.txt")
+    tables["buses"] = (" | ".join(f"{it} {re.search(r'[0-9][0-9.]*', output_of(it, '--version'))[0]}" for it in BUSES),)
     page = (HERE / "page.md").read_text().format(was=was, now=now, **{name: "\n".join(lines) for name, lines in tables.items()})
     (ROOT / "docs" / "PEERS.md").write_text(page)
 
