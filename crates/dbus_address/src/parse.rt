@@ -71,7 +71,7 @@ pub(crate) fn fault_in(text: &[u8]) -> Option<AddressFault>
 /// match parse_addresses(b"unix:path=/run/user/1000/bus") {
 ///     Ok(addresses) => {
 ///         for address in addresses {
-///             if address.transport == b"unix" {
+///             if address.transport == b"unix".as_slice() {
 ///                 println!(rt; "a socket of this machine")?;
 ///             }
 ///         }

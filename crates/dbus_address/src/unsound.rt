@@ -58,6 +58,8 @@ impl<'a> AddressView<'a> {
     /// The value of the key, if the address has it. D-Bus Specification, "Server Addresses".
     ///
     /// ```rust
+    /// use dbus_address::parse_addresses;
+    ///
     /// if let Ok(addresses) = parse_addresses(b"unix:path=/run/bus") {
     ///     for address in addresses {
     ///         let _path = address.value(b"path");
