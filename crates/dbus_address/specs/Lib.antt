@@ -1,0 +1,11 @@
+pub mod Bytes
+pub mod Addresses
+pub mod Parts
+pub mod Flaws
+pub mod Scans
+pub mod Faults
+pub mod Laws
+pub mod Views
+pub mod Written
+pub mod WrittenViews
+pub mod FaultTexts
