@@ -1,5 +1,5 @@
 -- What the writers got of a run, by what became of a writer of an output.
-use Rattle.std.proofs.Common.{◌≡◌, ℕ, Bool, true, false, List, [], length, None, Option, inl, inr, refl, sym, ap, ◌∙◌, subst, arith}
+use Rattle.std.proofs.Common.{◌≡◌, ℕ, Bool, true, false, List, [], None, Option, inl, inr, refl, sym, ap, ◌∙◌, subst, arith}
 use Rattle.std.proofs.KnownBytes.{Consumes-nil}
 use Rattle.std.proofs.Math.Path.{transport}
 use Rattle.std.proofs.lemmas.Bool.{false≢true}
@@ -7,23 +7,21 @@ use Rattle.dbus_device.specs.Device.{Wrote}
 use Rattle.dbus_device.specs.Packets.{Packets}
 use Rattle.cli_options.specs.declared.command.Command.{Command}
 use Rattle.cli_options.specs.declared.settings.Settings.{Settings}
-use Rattle.cli_report.specs.Devices.{Taken, Writing, reading, taken, writing}
+use Rattle.cli_report.specs.Devices.{Taken, reading, taken, writing}
 use Rattle.cli_report.specs.Gathering.{Breaks}
 use Rattle.cli_report.proofs.GatherSteps.{passes_whole}
 use Rattle.cli_report.specs.Telling.{Told}
 use Rattle.cli_report.specs.declared.ending.Cause.TheVariants.{Memory, ReadFailed, WriteFailed, TooManyReads}
 use Rattle.cli_report.specs.declared.ending.ExitStatus.{ExitStatus}
 use Rattle.cli_report.specs.declared.ending.ExitStatus.TheVariants as status
-use Rattle.cli_run.specs.Output.{command_of, form_of, IsFilledBy, is_check, is_filled, output_of, owners_known}
+use Rattle.cli_run.specs.Output.{command_of, IsFilledBy, is_check, is_filled, owners_known}
 use Rattle.cli_run.specs.Going.{GivesUp, Goes, GoesFar, GoesThrough, IsMore, StopsWithin}
 use Rattle.cli_run.specs.Inputs.{Part, Placed, sizes_of}
-use Rattle.cli_run.specs.Needed.{IsReadFor}
 use Rattle.cli_run.specs.OutputWriting.{LeavesFirst}
 use Rattle.cli_run.specs.Rendering.{Makes, OutputState, state_of}
-use Rattle.cli_run.specs.Running.{RunsWith, Writes, WritesSome}
+use Rattle.cli_run.specs.Running.{Writes, WritesSome}
 use Rattle.cli_run.specs.Told.{GotFirst, GotSecond, first_of, second_of}
 use Rattle.cli_run.specs.Visiting.{WantsAll}
-use Rattle.cli_run.specs.VisitorLaws.{first_nothing, told_nothing, written_none, wrote_nothing}
 use Rattle.cli_run.specs.declared.output.OutputRenderer.{OutputRenderer}
 use Rattle.cli_run.specs.declared.visitor.RunStop.{RunStop}
 use Rattle.cli_run.specs.declared.visitor.RunStop.TheVariants.{Cause as ByCause, Untold}

@@ -1,6 +1,6 @@
 -- What becomes of a writer of an output by one message, if it writes what is gathered, and by a
 -- text that it tells; and what the writers got of a run then.
-use Rattle.std.proofs.Common.{◌≡◌, ◌≢◌, ℕ, Bool, true, false, List, [], ◌∷◌, Option, Result, Ok, Err, OnErr, OnOk, refl, sym, ap, ◌∙◌, subst}
+use Rattle.std.proofs.Common.{◌≡◌, ◌≢◌, ℕ, Bool, true, false, List, [], ◌∷◌, Option, Result, Ok, Err, OnErr, OnOk, refl, sym, ◌∙◌, subst}
 use Rattle.std.proofs.Math.Path.{transport}
 use Rattle.std.specs.declared.alloc.AllocError.{AllocError}
 use Rattle.dbus_device.specs.Device.{Wrote}

@@ -1,11 +1,10 @@
 use Rattle.std.proofs.Common.{◌≡◌, ℕ, Bool, true, List, [], ◌∷◌, ◌++◌, length, Result, Ok, Err, OnOk, inl, inr, refl, sym, ap, ◌∙◌, subst, append-nil}
 use Rattle.std.proofs.lemmas.Bool.{false≢true}
-use Rattle.std.specs.declared.alloc.AllocError.{AllocError}
 use Rattle.dbus_value_model.specs.declared.order.Order.{Order}
 use Rattle.dbus_message_model.specs.Messages.{MessageTree}
 use Rattle.cli_options.specs.declared.file_form.FileForm.{FileForm}
 use Rattle.cli_run.specs.Handing.{front_of}
-use Rattle.cli_run.specs.Output.{IsOutputOf, begins_file, command_of, form_of, header_if, owners_known, text_if, written}
+use Rattle.cli_run.specs.Output.{IsOutputOf, begins_file, form_of, header_if, text_if, written}
 use Rattle.cli_run.specs.OutputWriting.{placed_at}
 use Rattle.cli_run.specs.Rendering.{Makes, OutputState, state_after, state_of}
 use Rattle.cli_run.specs.declared.framing.Front.{Front}
