@@ -12,7 +12,8 @@ use Rattle.cli_run.specs.Going.{IsMore, IsStopOf, StopsWithin, closing_line}
 use Rattle.cli_run.specs.Inputs.{ArePlaced, Placed}
 use Rattle.cli_run.specs.Output.{IsFilledBy, IsOutputOfAll, after, check_line, fault_line, is_spent, status_of}
 use Rattle.cli_run.specs.Running.{RunsWith, Writes, WritesSome}
-use Rattle.cli_run.specs.VisitorLaws.{and_false, told_nothing, wrote_nothing}
+use Rattle.cli_run.specs.RenderingLaws.{and_false}
+use Rattle.cli_run.specs.VisitorLaws.{told_nothing, wrote_nothing}
 use Rattle.cli_run.specs.Visiting.{WantsAll}
 use Rattle.cli_report.specs.Devices.{Reading, Writing, taken, writing}
 use Rattle.cli_report.specs.Telling.{Told}

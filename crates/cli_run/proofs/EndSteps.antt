@@ -1,5 +1,5 @@
 -- What the writers got of a run, by what became of a writer of an output.
-use Rattle.std.proofs.Common.{◌≡◌, ℕ, Bool, true, false, List, [], length, None, Option, inl, inr, refl, sym, ap, ◌∙◌, subst, arith}
+use Rattle.std.proofs.Common.{◌≡◌, ℕ, Bool, true, false, List, [], None, Option, inl, inr, refl, sym, ap, ◌∙◌, subst, arith}
 use Rattle.std.proofs.KnownBytes.{Consumes-nil}
 use Rattle.std.proofs.Math.Path.{transport}
 use Rattle.std.proofs.lemmas.Bool.{false≢true}
@@ -7,26 +7,24 @@ use Rattle.dbus_device.specs.Device.{Wrote}
 use Rattle.dbus_device.specs.Packets.{Packets}
 use Rattle.cli_options.specs.declared.command.Command.{Command}
 use Rattle.cli_options.specs.declared.settings.Settings.{Settings}
-use Rattle.cli_report.specs.Devices.{Taken, Writing, reading, taken, writing}
-use Rattle.cli_report.specs.Gathering.{Breaks, gathered_bytes}
+use Rattle.cli_report.specs.Devices.{Taken, reading, taken, writing}
+use Rattle.cli_report.specs.Gathering.{Breaks}
 use Rattle.cli_report.proofs.GatherSteps.{passes_whole}
 use Rattle.cli_report.specs.Telling.{Told}
 use Rattle.cli_report.specs.declared.ending.Cause.TheVariants.{Memory, ReadFailed, WriteFailed, TooManyReads}
 use Rattle.cli_report.specs.declared.ending.ExitStatus.{ExitStatus}
 use Rattle.cli_report.specs.declared.ending.ExitStatus.TheVariants as status
-use Rattle.cli_run.specs.Output.{after, command_of, form_of, IsFilledBy, IsOutputOfAll, is_check, is_filled, output_of, owners_known}
-use Rattle.cli_run.specs.Going.{Goes, GoesFar, GoesThrough, IsMore, StopsWithin}
+use Rattle.cli_run.specs.Output.{command_of, IsFilledBy, is_check, is_filled, owners_known}
+use Rattle.cli_run.specs.Going.{GivesUp, Goes, GoesFar, GoesThrough, IsMore, StopsWithin}
 use Rattle.cli_run.specs.Inputs.{Part, Placed, sizes_of}
-use Rattle.cli_run.specs.Needed.{IsReadFor}
-use Rattle.cli_run.specs.OutputWriting.{LeavesFirst, LeavesWritten, WritesAll}
-use Rattle.cli_run.specs.Running.{RunsWith, Writes, WritesSome}
+use Rattle.cli_run.specs.OutputWriting.{LeavesFirst}
+use Rattle.cli_run.specs.Rendering.{Makes, OutputState, state_of}
+use Rattle.cli_run.specs.Running.{Writes, WritesSome}
 use Rattle.cli_run.specs.Told.{GotFirst, GotSecond, first_of, second_of}
-use Rattle.cli_run.specs.Visiting.{FillsBy, WantsAll}
-use Rattle.cli_run.specs.VisitorLaws.{first_nothing, told_nothing, written_none, wrote_nothing}
-use Rattle.cli_run.specs.declared.output_writer.OutputWriter.{OutputWriter}
+use Rattle.cli_run.specs.Visiting.{WantsAll}
+use Rattle.cli_run.specs.declared.output.OutputRenderer.{OutputRenderer}
 use Rattle.cli_run.specs.declared.visitor.RunStop.{RunStop}
 use Rattle.cli_run.specs.declared.visitor.RunStop.TheVariants.{Cause as ByCause, Untold}
-use Rattle.cli_run.specs.declared.place.Carried.{Carried}
 use Rattle.cli_run.proofs.Wanted.{wanted_as}
 
 -- what more follows a stop is said otherwise
@@ -113,92 +111,54 @@ got_first held failures g w0 w1 none true Untold bytes p = subst (λ (x : List �
 got_first held failures g w0 w1 none false Untold bytes p = passes_whole held failures bytes g [] w0 w1 none refl p
 
 -- nothing is read for want of memory
-pub unread : {R W E : Type 0} (left : R → Option (List ℕ)) (calls read_failures : R → ℕ) (packets : R → Option Packets) (r : R) (held : W → Option (List ℕ)) (failures : W → ℕ) (w : W) (second_held : E → Option (List ℕ)) (second_failures : E → ℕ) (e0 e1 : E)
-    (settings : Settings) (most : ℕ) (command : Command) (end : ExitStatus) → end ≡ status.Failed → Told second_held second_failures e0 e1 Memory
-    → RunsWith (reading left calls read_failures packets r r) (writing held failures w w) (writing second_held second_failures e0 e1) settings most command end
-unread left calls read_failures packets r held failures w second_held second_failures e0 e1 settings most command end failed told =
-    let none : [] ≡ first_of (is_check command) (output_of (form_of command) false settings.window [] []) [] = sym (ap (λ l. first_of (is_check command) l []) (written_none settings.window) ∙ first_nothing (is_check command)) in
-    inr (record {
-      failed = failed;
-      stop = ByCause Memory;
-      before = e0;
-      within = record {
-        parts = [];
-        rest = [];
-        told = [];
-        covers = record { bytes = []; consumed = Consumes-nil (left r); called = (0, omega arith, omega arith); begin = refl; ends = λ e. absurd (false≢true e); tells = refl };
-        more = [];
-        all = inl refl;
-        caused = refl;
-        messages = [];
-        placed = refl;
-        wanted = tt;
-        unfilled = λ never. absurd never;
-        came = record {
-          texts = [];
-          made = refl;
-          first = subst (λ (l : List ℕ). Wrote held failures w l w) none (wrote_nothing held failures w);
-          second = told_nothing second_held second_failures (is_check command) e0 e0 refl;
-        };
-      };
-      tells = told;
-    })
+pub unread : {R E : Type 0} (left : R → Option (List ℕ)) (calls read_failures : R → ℕ) (packets : R → Option Packets) (r : R) (held : E → Option (List ℕ)) (failures : E → ℕ) (e0 e1 : E) (settings : Settings) (most : ℕ) (is_check : Bool) {F : List Placed → Bool → Type 0}
+    (Q : E → List Placed → (told : List ℕ) → RunStop → Type 0) (end : ExitStatus) → end ≡ status.Failed → Told held failures e0 e1 Memory → Q e0 [] [] (ByCause Memory)
+    → GivesUp (taken (reading left calls read_failures packets r r)) settings most is_check F (writing held failures e0 e1) Q end
+unread left calls read_failures packets r held failures e0 e1 settings most is_check Q end failed told came = record {
+  failed = failed;
+  stop = ByCause Memory;
+  before = e0;
+  within = record {
+    parts = [];
+    rest = [];
+    told = [];
+    covers = record { bytes = []; consumed = Consumes-nil (left r); called = (0, omega arith, omega arith); begin = refl; ends = λ e. absurd (false≢true e); tells = refl };
+    more = [];
+    all = inl refl;
+    caused = refl;
+    messages = [];
+    placed = refl;
+    wanted = tt;
+    unfilled = λ never. absurd never;
+    came = came;
+  };
+  tells = told;
+}
 
--- the writers at the end are w2 and e2
-module _ {A W E : Type 0} (held : W → Option (List ℕ)) (failures : W → ℕ) (second_held : E → Option (List ℕ)) (second_failures : E → ℕ) (a b : OutputWriter A W E) (settings : Settings) (command : Command)
-    (own : command_of a.output ≡ command) (carried : a.carried ≡ record { window = settings.window; begun = false; owners = None }) (none : gathered_bytes a.gathered ≡ []) {w2 : W} {e2 : E}
-    (first : b.first.now ≡ w2) (second : b.second.now ≡ e2) where
-  abbrev w : Writing W
-  w = writing held failures a.first.now w2
+-- what is said of what makes an output is said of its command: the writers at the end are w2 and e2
+module _ {W E : Type 0} (held : W → Option (List ℕ)) (failures : W → ℕ) (second_held : E → Option (List ℕ)) (second_failures : E → ℕ) (w0 w2 : W) (e0 e2 : E) (settings : Settings) (command : Command) {own : Command} (same : own ≡ command) where
+  abbrev pub start : OutputState
+  start = record { command = command; window = settings.window; begun = false; owners = owners_known command None }
 
-  abbrev e : Writing E
-  e = writing second_held second_failures a.second.now e2
-
-  made_as : (items : List Placed) (texts : List (List ℕ)) → IsOutputOfAll (command_of a.output) (owners_known (command_of a.output) a.carried.owners) items texts
-      → IsOutputOfAll command (owners_known command None) items texts
-  made_as items texts made = transport (λ i. IsOutputOfAll (own i) (owners_known (own i) (carried i).owners) items texts) made
-
-  writes_as : gathered_bytes b.gathered ≡ [] → (items : List Placed) (told : List ℕ) → WritesAll held failures second_held second_failures a b items told → Writes w e settings command items told
-  writes_as last items told h = record {
+  pub wrote_as : (items : List Placed) (told : List ℕ) → (t : OutputState) × (text : List ℕ) × Makes start items text t × Wrote held failures w0 (first_of (is_check own) text told) w2 × Wrote second_held second_failures e0 (second_of (is_check own) told) e2
+      → Writes (writing held failures w0 w2) (writing second_held second_failures e0 e2) settings command items told
+  wrote_as items told (t, text, h, first, second) = record {
     texts = h.texts;
-    made = made_as items h.texts h.made;
-    first = transport (λ i. Wrote held failures a.first.now (first_of (is_check (own i)) (output_of (form_of (own i)) (carried i).begun (carried i).window items h.texts) told) (first i))
-        (passes_whole held failures _ (gathered_bytes a.gathered) (gathered_bytes b.gathered) a.first.now b.first.now none last h.passes);
-    second = transport (λ i. Wrote second_held second_failures a.second.now (second_of (is_check (own i)) told) (second i)) h.tells;
+    made = h.made;
+    first = transport (λ i. Wrote held failures w0 (first_of (is_check (same i)) (h.text_is i) told) w2) first;
+    second = transport (λ i. Wrote second_held second_failures e0 (second_of (is_check (same i)) told) e2) second;
   }
 
-  leaves_as : (stop : RunStop) (items : List Placed) (told : List ℕ) → LeavesWritten held failures second_held second_failures a b items told stop → WritesSome w e settings command items told stop
-  leaves_as stop items told h = record {
+  pub left_as : (stop : RunStop) (items : List Placed) (told : List ℕ) → (t : OutputState) × (text : List ℕ) × Makes start items text t × GotFirst held failures (is_check own) stop (first_of (is_check own) text told) w0 w2
+      × GotSecond second_held second_failures (is_check own) stop (second_of (is_check own) told) e0 e2 → WritesSome (writing held failures w0 w2) (writing second_held second_failures e0 e2) settings command items told stop
+  left_as stop items told (t, text, h, first, second) = record {
     texts = h.texts;
-    made = made_as items h.texts h.made;
-    first = transport (λ i. GotFirst held failures (is_check (own i)) stop (first_of (is_check (own i)) (output_of (form_of (own i)) (carried i).begun (carried i).window items h.texts) told) a.first.now (first i))
-        (got_first held failures (gathered_bytes a.gathered) a.first.now b.first.now none (is_check (command_of a.output)) stop _ h.leaves);
-    second = transport (λ i. GotSecond second_held second_failures (is_check (own i)) stop (second_of (is_check (own i)) told) a.second.now (second i)) h.tells;
+    made = h.made;
+    first = transport (λ i. GotFirst held failures (is_check (same i)) stop (first_of (is_check (same i)) (h.text_is i) told) w0 w2) first;
+    second = transport (λ i. GotSecond second_held second_failures (is_check (same i)) stop (second_of (is_check (same i)) told) e0 e2) second;
   }
 
-  abbrev Writer : OutputWriter A W E → OutputWriter A W E → List Placed → (told : List ℕ) → Type 0
-  Writer x y items told = WritesAll held failures second_held second_failures x y items told
-
-  abbrev full : OutputWriter A W E → Bool
-  full x = is_filled (command_of x.output) x.carried.window
-
-  -- whether it wants no more
-  filled_as : (items : List Placed) (filled : Bool) → FillsBy Writer full a items filled → IsFilledBy command settings.window items filled
-  filled_as items filled (x, told, h, is) =
-      let output : command_of x.output ≡ command = ap command_of h.same_output ∙ own in
-      let window : x.carried.window ≡ after settings.window (length h.texts) = h.window ∙ ap (λ (c : Carried). after c.window (length h.texts)) carried in
-      (h.texts, made_as items h.texts h.made, sym (λ i. is_filled (output i) (window i)) ∙ is)
-
-  -- ---- the same of a source that stands where this one does
-
-  module _ {R : Type 0} (left : R → Option (List ℕ)) (calls read_failures : R → ℕ) (packets : R → Option Packets) (most : ℕ) (r0 r1 : R) (c : Bool) (checks : c ≡ is_check command) {r2 : R} (source : r1 ≡ r2) where
-    pub ran : {N : (size : ℕ) → Type 0} {end : ExitStatus} → gathered_bytes b.gathered ≡ []
-        → Goes (taken (reading left calls read_failures packets r0 r1)) settings most c (FillsBy Writer full a) N (Writer a b) end → ((size : ℕ) → N size → IsReadFor (reading left calls read_failures packets r0 r1) size)
-        → Goes (taken (reading left calls read_failures packets r0 r2)) settings most (is_check command) (IsFilledBy command settings.window) (IsReadFor (reading left calls read_failures packets r0 r2)) (Writes w e settings command) end
-    ran {N} {end} last g reads =
-        transport (λ i. Goes (taken (reading left calls read_failures packets r0 (source i))) settings most (checks i) (IsFilledBy command settings.window) (IsReadFor (reading left calls read_failures packets r0 (source i))) (Writes w e settings command) end) (ends_as filled_as reads (writes_as last) g)
-
-    pub gave_up : {stop : RunStop} → StopsWithin (taken (reading left calls read_failures packets r0 r1)) settings most c (FillsBy Writer full a) (LeavesWritten held failures second_held second_failures a b) stop
-        → StopsWithin (taken (reading left calls read_failures packets r0 r2)) settings most (is_check command) (IsFilledBy command settings.window) (WritesSome w e settings command) stop
-    gave_up {stop} s =
-        transport (λ i. StopsWithin (taken (reading left calls read_failures packets r0 (source i))) settings most (checks i) (IsFilledBy command settings.window) (WritesSome w e settings command) stop) (stops_as filled_as (leaves_as stop) s)
+  -- whether no more are wanted
+  pub filled_as : {A : Type 0} (items : List Placed) (filled : Bool) → (c : OutputRenderer A) × (t : OutputState) × (text : List ℕ) × Makes start items text t × (t ≡ state_of c) × (is_filled (command_of c.output) c.window ≡ filled)
+      → IsFilledBy command settings.window items filled
+  filled_as items filled (c, t, text, h, there, is) = (h.texts, h.made, ap (λ (x : OutputState). is_filled x.command x.window) (sym h.then ∙ there) ∙ is)

@@ -14,6 +14,7 @@ pub mod GoSteps
 pub mod GoEnds
 pub mod CloseSteps
 pub mod EndSteps
+pub mod WriterSteps
 pub mod RunSteps
 pub mod SameParts
 pub mod SameOutputs

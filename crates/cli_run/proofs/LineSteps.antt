@@ -1,8 +1,6 @@
 -- What becomes of a visitor that lists messages by a message and by a text that is told, and how a run
 -- ends that lists messages.
-use Rattle.std.proofs.Common.{◌≡◌, ◌≢◌, ℕ, Bool, false, List, [], ◌∷◌, ◌++◌, length, Option, Result, Ok, Err, inl, inr, refl, sym, ap, ◌∙◌, subst, arith, append-nil}
-use Rattle.std.proofs.lemmas.Bool.{false≢true}
-use Rattle.std.proofs.KnownBytes.{Consumes-nil}
+use Rattle.std.proofs.Common.{◌≡◌, ◌≢◌, ℕ, Bool, false, List, [], ◌∷◌, ◌++◌, length, Option, Result, Ok, Err, inl, inr, refl, sym, ap, ◌∙◌, subst, append-nil}
 use Rattle.std.proofs.Math.Path.{transport}
 use Rattle.dbus_value_model.specs.declared.order.Order.{Order}
 use Rattle.dbus_message_model.specs.Messages.{MessageTree}
@@ -45,7 +43,7 @@ use Rattle.cli_run.specs.declared.line_listing.LinesCarried.{LinesCarried}
 use Rattle.cli_run.specs.declared.place.MessagePlace.{MessagePlace}
 use Rattle.cli_run.specs.declared.visitor.RunStop.{RunStop}
 use Rattle.cli_run.specs.declared.visitor.RunStop.TheVariants.{Cause as ByCause, Untold}
-use Rattle.cli_run.proofs.EndSteps.{ends_as, got_first, stops_as}
+use Rattle.cli_run.proofs.EndSteps.{ends_as, got_first, stops_as, unread as unread_by}
 
 -- ---- each message has a line
 
@@ -272,23 +270,5 @@ pub unread : {R W E : Type 0} (left : R → Option (List ℕ)) (calls read_failu
     (settings : Settings) (most : ℕ) (wanted : WantedLines) (end : ExitStatus) → end ≡ status.Failed → Told second_held second_failures e0 e1 Memory
     → ListsLines (reading left calls read_failures packets r r) (writing held failures w w) (writing second_held second_failures e0 e1) settings wanted most end
 unread left calls read_failures packets r held failures w second_held second_failures e0 e1 settings most wanted end failed told =
-    inr (record {
-      failed = failed;
-      stop = ByCause Memory;
-      before = e0;
-      within = record {
-        parts = [];
-        rest = [];
-        told = [];
-        covers = record { bytes = []; consumed = Consumes-nil (left r); called = (0, omega arith, omega arith); begin = refl; ends = λ e. absurd (false≢true e); tells = refl };
-        more = [];
-        all = inl refl;
-        caused = refl;
-        messages = [];
-        placed = refl;
-        wanted = tt;
-        unfilled = λ never. absurd never;
-        came = ([], refl, subst (λ (l : List ℕ). Wrote held failures w l w) (sym (written_none settings.window)) (wrote_nothing held failures w), wrote_nothing second_held second_failures e0);
-      };
-      tells = told;
-    })
+    inr (unread_by left calls read_failures packets r second_held second_failures e0 e1 settings most false _ end failed told
+    ([], refl, subst (λ (l : List ℕ). Wrote held failures w l w) (sym (written_none settings.window)) (wrote_nothing held failures w), wrote_nothing second_held second_failures e0))

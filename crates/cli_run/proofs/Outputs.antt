@@ -25,7 +25,7 @@ use Rattle.cli_run.specs.Laws.{OneFront, OneOutput, SomeOutput}
 use Rattle.cli_run.specs.Output.{AreAlike, IsExact, begun_after, form_of, framed, header_before, header_if, is_framed, whole_output, IsFront, IsOutputOf, IsOutputOfAll, IsTextOf, Picks, last_line, line_place, seen_if, shown_text, told_place, owners_after, owners_known, owners_after_all}
 use Rattle.cli_report.specs.Gathering.{IsPrefixTo}
 use Rattle.cli_run.specs.declared.place.MessagePlace.{MessagePlace}
-use Rattle.cli_run.specs.VisitorLaws.{header_both, output_both}
+use Rattle.cli_run.specs.RenderingLaws.{header_both, output_both}
 use Rattle.cli_run.proofs.PartLaws.{placed_both, some_placed}
 
 -- ---- there is one

@@ -31,6 +31,7 @@ use Rattle.cli_run.specs.Inputs.{ArePlaced, BeginWithParts, IsLast, IsTellable, 
 use Rattle.cli_run.specs.Output.{IsFilledBy, IsFirstOutput, IsFront, IsOutputOfAll, check_line, fault_line, form_of, header_before, is_check, last_line, output_of, owners_known, second_output, whole_output}
 use Rattle.cli_run.specs.Refusals.{IsFaultIn}
 use Rattle.cli_run.specs.Told.{GotFirst, GotSecond, TellsStop, first_of, second_of}
+use Rattle.cli_run.specs.RenderingLaws.{no_header, no_texts}
 use Rattle.cli_run.specs.VisitorLaws.{first_nothing, second_nothing, wrote_both, wrote_stopped}
 use Rattle.cli_report.specs.declared.ending.ExitStatus.{ExitStatus}
 use Rattle.cli_report.specs.declared.ending.ExitStatus.TheVariants as status
@@ -58,20 +59,10 @@ never_filled asked command items filled = false≢true filled.2
 
 -- `check` makes no texts, and its line goes to the first writer. Of another command the line goes
 -- to the second
-no_texts : (items : List Placed) (texts : List (List ℕ)) → IsOutputOfAll Check (known_first empty) items texts → texts ≡ []
-no_texts [] texts made = made
-no_texts (m ∷ items) texts made =
-    let none : made.0 ≡ [] = elim made.3 [ inl some ↦ absurd some.0 | inr none ↦ none.1 ] in
-    made.2 ∙ (λ i. none i ++ no_texts items made.1 made.4 i)
-
-no_header : (items : List Placed) → header_before Raw false items ≡ []
-no_header [] = refl
-no_header (m ∷ items) = refl
-
 first_due : (checks_rest : Bool) (command : Command) (items : List Placed) (texts : List (List ℕ)) (line : List ℕ) → IsOutputOfAll command (owners_known command None) items texts
     → first_of (is_check command) (output_of (form_of command) false (all_of_them checks_rest) items texts) line ≡ whole_output (form_of command) items texts ++ first_of (is_check command) [] line
 first_due checks_rest Check items texts line made =
-    let none : whole_output Raw items texts ≡ [] = λ i. no_header items i ++ concat (no_texts items texts made i) in
+    let none : whole_output Raw items texts ≡ [] = λ i. no_header false items i ++ concat (no_texts (known_first empty) items texts made i) in
     ap (λ (l : List ℕ). l ++ line) (sym none)
 first_due checks_rest command items texts line made = ap (λ l. header_before (form_of command) false items ++ l) (written_all checks_rest texts) ∙ sym (append-nil (whole_output (form_of command) items texts))
 

@@ -1,35 +1,22 @@
--- What is written of one message, and what is read of the next one. g0 and g1 are what is gathered
--- before and after.
-use Rattle.std.specs.Prelude.{◌≡◌, ◌↔◌, ℕ, Bool, true, false, IsTrue, List, [], ◌++◌, length, Option, None, Result, Ok, Err, IfOk}
-use Rattle.dbus_value_model.specs.declared.order.Order.{Order}
+-- What is written of one message, and what is read of the next one.
+use Rattle.std.specs.Prelude.{◌≡◌, ◌↔◌, ℕ, Bool, true, false, IsTrue, List, [], ◌++◌, Option, None, Result, Ok, Err}
 use Rattle.dbus_message_model.specs.Messages.{MessageTree}
 use Rattle.dbus_validate.specs.declared.validating.Validated.{Validated}
 use Rattle.dbus_stream.specs.Next.{DeviceCounts}
 use Rattle.dbus_stream.specs.RawReading.{Reads, Advances, ReadsNothing, done_of, kept, source_of, stopped_of}
 use Rattle.dbus_stream.specs.declared.raw_reader.RawReader.{RawReader}
-use Rattle.dbus_json.specs.declared.integers.Integers.{Integers}
-use Rattle.dbus_json.specs.JsonMessages.{IsJsonLine}
 use Rattle.dbus_names.specs.declared.names.Names.{Names}
 use Rattle.cli_options.specs.declared.command.Command.{Command}
-use Rattle.cli_report.specs.Devices.{Writing}
-use Rattle.cli_run.specs.Output.{after, begins_file, form_of, framed, header_if, is_framed, written, IsOutputOf, IsTextOf, line_place, Picks, owners_after, owners_known}
-use Rattle.cli_report.specs.Gathering.{GathersOrNot}
-use Rattle.cli_report.specs.declared.ending.Cause.{Cause}
+use Rattle.cli_run.specs.Output.{begins_file, framed, header_if, is_framed, Picks, owners_after, owners_known}
 use Rattle.cli_report.specs.declared.ending.Cause.TheVariants.{WriteFailed}
 use Rattle.cli_run.specs.Inputs.{Placed}
 use Rattle.cli_options.specs.declared.file_form.FileForm.{FileForm}
 use Rattle.cli_run.specs.declared.framing.Front.{Front}
 use Rattle.cli_run.specs.declared.counted.NoMessage.{NoMessage}
 use Rattle.cli_run.specs.declared.counted.NoMessage.TheVariants.{Reader, Writer, Enough}
-use Rattle.cli_run.specs.declared.place.Carried.{Carried}
 use Rattle.cli_run.specs.declared.place.MessagePlace.{MessagePlace}
 use Rattle.cli_run.specs.declared.visitor.RunStop.{RunStop}
 use Rattle.cli_run.specs.declared.visitor.RunStop.TheVariants.{Cause as ByCause}
-
--- a line of JSON of one message was written or gathered, which has this place in its input
-abbrev pub WritesJson : {W : Type 0} → Writing W → Integers → Order → MessageTree → MessagePlace → List ℕ → List ℕ → Result (Unit {0}) Cause → Type 0
-WritesJson w integers order message place g0 g1 result =
-    (out : List ℕ) × IsJsonLine integers order message (line_place place) out × GathersOrNot w.held w.failures out g0 g1 w.old w.new result
 
 -- what comes before a message of this place in this form
 abbrev pub front_of : FileForm → MessagePlace → (begun : Bool) → Front
@@ -39,34 +26,11 @@ front_of form place begun = record { begins_file = begins_file form place begun;
 abbrev pub after_front : Front → List ℕ → List ℕ
 after_front front bytes = header_if front.begins_file ++ framed front.is_framed front.time bytes
 
--- it was written or gathered so
-abbrev pub WritesFramed : {W : Type 0} → Writing W → Front → (bytes g0 g1 : List ℕ) → Result (Unit {0}) Cause → Type 0
-WritesFramed w front bytes g0 g1 result = GathersOrNot w.held w.failures (after_front front bytes) g0 g1 w.old w.new result
-
--- the text that a command makes of one message, which has this place in its input, was written or
--- gathered, after the header of a file if that is due
-abbrev pub WritesOne : {W : Type 0} → Writing W → Command → (begun : Bool) → Order → MessageTree → MessagePlace → List ℕ → List ℕ → Result (Unit {0}) Cause → Type 0
-WritesOne w command begun order message place g0 g1 result =
-    (text : List ℕ) × IsTextOf command order message place text × GathersOrNot w.held w.failures (header_if (begins_file (form_of command) place begun) ++ text) g0 g1 w.old w.new result
-
 -- whether the command makes a text of a message, and what it has learned of the owners of names
 -- before and after it
 pub record IsPicked (command : Command) (message : MessageTree) (old new : Option Names) (picked : Bool) : Type 0 where
   pub picks : IsTrue picked ↔ Picks command (owners_known command old) message
   pub owners : owners_known command new ≡ owners_after command (owners_known command old) message
-
--- what is carried on to what follows such texts of a message
-pub record GoesOnAfter (command : Command) (message : MessageTree) (texts : List (List ℕ)) (old new : Carried) : Type 0 where
-  pub window : new.window ≡ after old.window (length texts)
-  pub begun : new.begun ≡ true
-  pub owners : owners_known command new.owners ≡ owners_after command (owners_known command old.owners) message
-
--- what the window lets through of the texts that a command makes of one message was written or
--- gathered, after the header of a file if that is due
-abbrev pub HandsOne : {W : Type 0} → Writing W → Command → (old new : Carried) → Order → MessageTree → MessagePlace → List ℕ → List ℕ → Result (Unit {0}) Cause → Type 0
-HandsOne w command old new order message place g0 g1 result = (texts : List (List ℕ)) × IsOutputOf command (owners_known command old.owners) order message place texts
-    × IfOk result (λ _. GoesOnAfter command message texts old new)
-    × GathersOrNot w.held w.failures (header_if (begins_file (form_of command) place old.begun) ++ written old.window texts) g0 g1 w.old w.new result
 
 -- a reader stands where it stood, and may have looked at what it keeps
 pub record Stays {R A : Type 0} (old now : RawReader R A) : Type 0 where

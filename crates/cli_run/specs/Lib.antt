@@ -7,6 +7,7 @@ pub mod Told
 pub mod ByName
 pub mod Visiting
 pub mod OutputWriting
+pub mod Rendering
 pub mod Handing
 pub mod Needed
 pub mod Onward
@@ -21,6 +22,7 @@ pub mod CallSumming
 pub mod LineListing
 pub mod LineLaws
 pub mod VisitorLaws
+pub mod RenderingLaws
 pub mod CallLaws
 pub mod SumLaws
 pub mod Laws

@@ -17,14 +17,10 @@ use Rattle.cli_run.specs.Output.{is_spent, written}
 use Rattle.cli_run.specs.OutputWriting.{LeavesFirst}
 use Rattle.cli_run.specs.Told.{GotSecond}
 use Rattle.cli_run.specs.Visiting.{AddsUp}
-use Rattle.cli_run.specs.VisitorLaws.{after_more, after_none, first_after, second_after, written_more, written_none, wrote_both, wrote_nothing}
+use Rattle.cli_run.specs.VisitorLaws.{after_more, after_none, first_after, no_messages, second_after, written_more, written_none, wrote_both, wrote_nothing}
 use Rattle.cli_run.specs.declared.line_listing.Liner.{Liner}
 use Rattle.cli_run.specs.declared.visitor.RunStop.{RunStop}
 use Rattle.cli_run.specs.declared.visitor.RunStop.TheVariants.{Cause as ByCause}
-
-no_messages : (s t : List Placed) → s ++ t ≡ [] → (s ≡ []) × (t ≡ [])
-no_messages [] t none = (refl, none)
-no_messages (m ∷ s) t none = absurd cc
 
 -- messages after others
 lines_of_both : (wanted : WantedLines) (os : NameState) (before : List Numbered) (s t : List Placed) (a b : List (List ℕ)) → AreLinesOf wanted os before s a

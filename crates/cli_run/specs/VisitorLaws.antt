@@ -1,6 +1,6 @@
 -- The laws of the visitors, and of what a writer or a window lets through of more. They are here,
 -- and not in proofs/, because the trait's law names them.
-use Rattle.std.proofs.Common.{◌≡◌, ℕ, ◌+◌, Bool, true, false, ◌&&◌, List, [], ◌++◌, length, Option, refl, sym, ap, ◌∙◌, subst, arith, length-append, zero, suc, ◌-◌, ◌∷◌, None, Some, option_map, take, drop, length-drop, append_assoc}
+use Rattle.std.proofs.Common.{◌≡◌, ℕ, ◌+◌, Bool, true, false, List, [], ◌++◌, length, Option, refl, sym, ap, ◌∙◌, subst, arith, length-append, zero, suc, ◌-◌, ◌∷◌, None, Some, option_map, take, drop, length-drop, append_assoc}
 use Rattle.std.specs.Io.KnownBytes.{Appends}
 use Rattle.std.specs.Option.{option_to_list}
 use Rattle.std.proofs.KnownBytes.{Appends-nil, Appends-trans}
@@ -13,7 +13,7 @@ use Rattle.cli_run.specs.declared.visitor.RunStop.TheVariants.{Cause as ByCause,
 use Rattle.std.specs.List.{concat}
 use Rattle.std.proofs.lemmas.List.Folds.{concat-append}
 use Rattle.cli_options.specs.declared.window.Window.{Window}
-use Rattle.cli_run.specs.Output.{after, at_most, begun_after, form_of, header_before, header_if, is_framed, output_of, written, command_of, IsOutputOfAll, is_check, is_filled, owners_after, owners_after_all, owners_known}
+use Rattle.cli_run.specs.Output.{after, at_most, written}
 use Rattle.dbus_count.specs.Counting.{with_names, counting_of, names_of}
 use Rattle.dbus_count.specs.declared.count.Count.{Count}
 use Rattle.dbus_count.specs.Spans.{with_time, with_times}
@@ -21,16 +21,12 @@ use Rattle.dbus_count.specs.declared.span.Span.{Span}
 use Rattle.cli_run.specs.ByName.{CountsMessages, LeavesCounted, after_messages, times_of}
 use Rattle.cli_run.specs.Inputs.{Placed}
 use Rattle.cli_run.specs.Visiting.{AddsUp}
-use Rattle.dbus_names.specs.NameStates.{NameState}
-use Rattle.cli_options.specs.declared.command.Command.{Command}
-use Rattle.cli_options.specs.declared.file_form.FileForm.{FileForm}
-use Rattle.cli_report.specs.Gathering.{Leaves, Passes, gathered_bytes}
+use Rattle.cli_report.specs.Gathering.{Leaves as LeavesBy, Passes, gathered_bytes}
 use Rattle.cli_report.specs.PageLaws.{breaks_after, passes_both, passes_none}
 use Rattle.cli_report.specs.declared.ending.Cause.{Cause}
-use Rattle.cli_report.specs.declared.ending.Cause.TheVariants.{WriteFailed}
+use Rattle.cli_report.specs.declared.ending.Cause.TheVariants.{Memory, ReadFailed, WriteFailed, TooManyReads}
 use Rattle.cli_run.specs.OutputWriting.{LeavesFirst, LeavesWritten, WritesAll}
 use Rattle.cli_run.specs.declared.output_writer.OutputWriter.{OutputWriter}
-use Rattle.cli_run.specs.declared.place.Carried.{Carried}
 
 -- ---- what a writer got, and then more
 
@@ -165,46 +161,7 @@ module _ {E : Type 0} (held : E → Option (List ℕ)) (failures : E → ℕ) wh
     );
   }
 
--- ---- what writes an output, and what a command makes of messages after others
-
--- messages after others
-pub output_both : (command : Command) (os : NameState) (items more : List Placed) (a b : List (List ℕ)) → IsOutputOfAll command os items a
-    → IsOutputOfAll command (owners_after_all command os items) more b → IsOutputOfAll command os (items ++ more) (a ++ b)
-output_both command os [] more a b p q = subst (λ l. IsOutputOfAll command os more (l ++ b)) (sym p) q
-output_both command os (m ∷ items) more a b p q =
-    (p.0, p.1 ++ b, ap (λ l. l ++ b) p.2 ∙ append_assoc p.0 p.1 b, p.3, output_both command (owners_after command os m.item.message) items more p.1 b p.4 q)
-
--- the owners after messages, and after others
-after_all_both : (command : Command) (os : NameState) (items more : List Placed)
-    → owners_after_all command os (items ++ more) ≡ owners_after_all command (owners_after_all command os items) more
-after_all_both command os [] more = refl
-after_all_both command os (m ∷ items) more = after_all_both command (owners_after command os m.item.message) items more
-
--- the header comes before the first message alone
-pub and_false : (b : Bool) → b && false ≡ false
-and_false true = refl
-and_false false = refl
-
-header_once : (form : FileForm) (items : List Placed) → header_before form true items ≡ []
-header_once form [] = refl
-header_once form (m ∷ items) = ap header_if (and_false (is_framed form m.place))
-
--- what comes after it goes on
-pub header_both : (form : FileForm) (begun : Bool) (items more : List Placed) (a b : List ℕ) → (items ≡ [] → a ≡ [])
-    → (header_before form begun items ++ a) ++ (header_before form (begun_after begun items) more ++ b) ≡ header_before form begun (items ++ more) ++ (a ++ b)
-header_both form begun [] more a b none =
-    ap (λ l. l ++ (header_before form begun more ++ b)) (none refl) ∙ ap (λ l. header_before form begun more ++ (l ++ b)) (sym (none refl))
-header_both form begun (m ∷ items) more a b none =
-    ap (λ l. (header_before form begun (m ∷ items) ++ a) ++ (l ++ b)) (header_once form more) ∙ append_assoc (header_before form begun (m ∷ items)) a b
-
-pub begun_both : (begun : Bool) (items more : List Placed) → begun_after (begun_after begun items) more ≡ begun_after begun (items ++ more)
-begun_both begun [] more = refl
-begun_both begun (m ∷ items) [] = refl
-begun_both begun (m ∷ items) (l ∷ more) = refl
-
--- of no messages no texts are made
-pub none_written : (command : Command) (os : NameState) (window : Window) (items : List Placed) (texts : List (List ℕ)) → IsOutputOfAll command os items texts → items ≡ [] → written window texts ≡ []
-none_written command os window items texts made none = ap (λ t. written window t) (subst (λ (l : List Placed). IsOutputOfAll command os l texts) none made) ∙ written_none window
+-- ---- what writes an output
 
 -- what the first writer gets of more
 first_both : (is_check : Bool) (out told more text : List ℕ) → first_of is_check out told ++ first_of is_check more text ≡ first_of is_check (out ++ more) (told ++ text)
@@ -217,8 +174,8 @@ first_nothing false = refl
 
 module _ {W : Type 0} (held : W → Option (List ℕ)) (failures : W → ℕ) where
   -- bytes that went through, and then others as far as a cause lets them come
-  leaves_both : (cause : Cause) (a b g0 g1 : List ℕ) (w0 w1 w2 : W) → Passes held failures a g0 g1 w0 w1 → Leaves held failures cause b g1 [] w1 w2
-      → Leaves held failures cause (a ++ b) g0 [] w0 w2
+  leaves_both : (cause : Cause) (a b g0 g1 : List ℕ) (w0 w1 w2 : W) → Passes held failures a g0 g1 w0 w1 → LeavesBy held failures cause b g1 [] w1 w2
+      → LeavesBy held failures cause (a ++ b) g0 [] w0 w2
   leaves_both WriteFailed a b g0 g1 w0 w1 w2 p q = breaks_after held failures a b g0 g1 w0 w1 w2 p q
   leaves_both cause a b g0 g1 w0 w1 w2 p q = passes_both held failures a b g0 g1 [] w0 w1 w2 p q
 
@@ -228,106 +185,97 @@ module _ {W : Type 0} (held : W → Option (List ℕ)) (failures : W → ℕ) wh
   first_after true Untold a b g0 g1 w0 w1 w2 p q = breaks_after held failures a b g0 g1 w0 w1 w2 p q
   first_after false Untold a b g0 g1 w0 w1 w2 p q = passes_both held failures a b g0 g1 [] w0 w1 w2 p q
 
-module _ {A W E : Type 0} (held : W → Option (List ℕ)) (failures : W → ℕ) (second_held : E → Option (List ℕ)) (second_failures : E → ℕ) where
-  module _ (a b c : OutputWriter A W E) (s t : List Placed) (p q : List ℕ) (h : WritesAll held failures second_held second_failures a b s p) where
-    abbrev own : Command
-    own = command_of a.output
+-- no messages after others
+pub no_messages : (s t : List Placed) → s ++ t ≡ [] → (s ≡ []) × (t ≡ [])
+no_messages [] t none = (refl, none)
+no_messages (m ∷ s) t none = absurd cc
 
-    abbrev os : NameState
-    os = owners_known own a.carried.owners
+module _ {C S W E : Type 0} (stands : C → S → Type 0) (makes : S → List Placed → List ℕ → S → Type 0) (silent : C → Bool) (held : W → Option (List ℕ)) (failures : W → ℕ) (second_held : E → Option (List ℕ)) (second_failures : E → ℕ) where
+  abbrev Takes : OutputWriter C W E → OutputWriter C W E → List Placed → (told : List ℕ) → Type 0
+  Takes a b s p = WritesAll stands makes silent held failures second_held second_failures a b s p
 
-    -- what the first writer gets of these texts and those that are made from where they leave off
-    first_more : (texts : List (List ℕ)) → first_of (is_check own) (output_of (form_of own) a.carried.begun a.carried.window s h.texts) p ++ first_of (is_check own) (output_of (form_of own) b.carried.begun b.carried.window t texts) q
-        ≡ first_of (is_check own) (output_of (form_of own) a.carried.begun a.carried.window (s ++ t) (h.texts ++ texts)) (p ++ q)
-    first_more texts =
-        let form = form_of own in
-        let was = a.carried.begun in
-        let now = b.carried.window in
-        let one = written a.carried.window h.texts in
-        first_both (is_check own) (output_of form was a.carried.window s h.texts) p (output_of form b.carried.begun now t texts) q
-        ∙ ap (λ l. first_of (is_check own) l (p ++ q)) (
-        ap (λ x. (header_before form was s ++ one) ++ (header_before form x t ++ written now texts)) h.begun
-        ∙ header_both form was s t one (written now texts) (none_written own os a.carried.window s h.texts h.made)
-        ∙ ap (λ l. header_before form was (s ++ t) ++ l) (written_more a.carried.window now h.texts texts h.window)
-        )
+  abbrev Leaves : OutputWriter C W E → OutputWriter C W E → List Placed → (told : List ℕ) → RunStop → Type 0
+  Leaves a b s p stop = LeavesWritten stands makes silent held failures second_held second_failures a b s p stop
 
-    made_both : (texts : List (List ℕ)) → IsOutputOfAll (command_of b.output) (owners_known (command_of b.output) b.carried.owners) t texts → IsOutputOfAll own os (s ++ t) (h.texts ++ texts)
-    made_both texts made =
-        output_both own os s t h.texts texts h.made
-        (transport (λ i. IsOutputOfAll (command_of (h.same_output i)) (((λ j. owners_known (command_of (h.same_output j)) b.carried.owners) ∙ h.owners) i) t texts) made)
-
-    joins : WritesAll held failures second_held second_failures b c t q → WritesAll held failures second_held second_failures a c (s ++ t) (p ++ q)
-    joins k =
-        let command : command_of b.output ≡ own = λ i. command_of (h.same_output i) in
-        let owners = transport (λ i. owners_known (command i) c.carried.owners ≡ owners_after_all (command i) (owners_known (command i) b.carried.owners) t) k.owners in
-        let passes = transport (λ i. Passes held failures (first_of (is_check (command i)) (output_of (form_of (command i)) b.carried.begun b.carried.window t k.texts) q) (gathered_bytes b.gathered) (gathered_bytes c.gathered) b.first.now c.first.now) k.passes in
-        let tells = transport (λ i. Wrote second_held second_failures b.second.now (second_of (is_check (command i)) q) c.second.now) k.tells in
-        record {
-          same_first = k.same_first ∙ h.same_first;
-          same_second = k.same_second ∙ h.same_second;
-          same_output = k.same_output ∙ h.same_output;
-          texts = h.texts ++ k.texts;
-          made = made_both k.texts k.made;
-          begun = k.begun ∙ (ap (λ x. begun_after x t) h.begun ∙ begun_both a.carried.begun s t);
-          window = k.window ∙ after_more a.carried.window b.carried.window h.texts k.texts h.window;
-          owners = owners ∙ (ap (λ (l : NameState). owners_after_all own l t) h.owners ∙ sym (after_all_both own os s t));
-          passes = transport (λ i. Passes held failures (first_more k.texts i) (gathered_bytes a.gathered) (gathered_bytes c.gathered) a.first.now c.first.now)
-              (passes_both held failures _ _ (gathered_bytes a.gathered) (gathered_bytes b.gathered) (gathered_bytes c.gathered) a.first.now b.first.now c.first.now h.passes passes);
-          tells = transport (λ i. Wrote second_held second_failures a.second.now (second_both (is_check own) p q i) c.second.now)
-              (wrote_both second_held second_failures _ _ a.second.now b.second.now c.second.now h.tells tells);
-        }
-
-    leaves_after : (stop : RunStop) → LeavesWritten held failures second_held second_failures b c t q stop → LeavesWritten held failures second_held second_failures a c (s ++ t) (p ++ q) stop
-    leaves_after stop k =
-        let check : is_check (command_of b.output) ≡ is_check own = λ i. is_check (command_of (h.same_output i)) in
-        let form : form_of (command_of b.output) ≡ form_of own = λ i. form_of (command_of (h.same_output i)) in
-        let leaves = transport (λ i. LeavesFirst held failures (check i) stop (first_of (check i) (output_of (form i) b.carried.begun b.carried.window t k.texts) q) (gathered_bytes b.gathered) b.first.now c.first.now) k.leaves in
-        let tells = transport (λ i. GotSecond second_held second_failures (check i) stop (second_of (check i) q) b.second.now c.second.now) k.tells in
-        record {
-          same_first = k.same_first ∙ h.same_first;
-          same_second = k.same_second ∙ h.same_second;
-          texts = h.texts ++ k.texts;
-          made = made_both k.texts k.made;
-          leaves = transport (λ i. LeavesFirst held failures (is_check own) stop (first_more k.texts i) (gathered_bytes a.gathered) a.first.now c.first.now)
-              (first_after held failures (is_check own) stop _ _ (gathered_bytes a.gathered) (gathered_bytes b.gathered) a.first.now b.first.now c.first.now h.passes leaves);
-          tells = transport (λ i. GotSecond second_held second_failures (is_check own) stop (second_both (is_check own) p q i) a.second.now c.second.now)
-              (second_after second_held second_failures (is_check own) stop _ _ a.second.now b.second.now c.second.now h.tells tells);
-        }
-
-  -- what the first writer gets of nothing
-  pub nothing_first : (a : OutputWriter A W E) → [] ≡ first_of (is_check (command_of a.output)) (output_of (form_of (command_of a.output)) a.carried.begun a.carried.window [] []) []
-  nothing_first a = sym (ap (λ l. first_of (is_check (command_of a.output)) l []) (written_none a.carried.window) ∙ first_nothing (is_check (command_of a.output)))
-
-  -- what is gathered is written, or not: nothing is made, and nothing is told
-  pub lets_out : (a b : OutputWriter A W E) → b.first.ghost_name ≡ a.first.ghost_name → b.second.ghost_name ≡ a.second.ghost_name → b.output ≡ a.output → b.carried ≡ a.carried → b.second.now ≡ a.second.now
-      → Passes held failures [] (gathered_bytes a.gathered) (gathered_bytes b.gathered) a.first.now b.first.now → WritesAll held failures second_held second_failures a b [] []
-  lets_out a b first second output carried same passes = record {
+  -- what a writer holds back may go out, and it may tell a text
+  pub stays : (a b : OutputWriter C W E) (told : List ℕ) → ((s : S) → makes s [] [] s) → b.first.ghost_name ≡ a.first.ghost_name → b.second.ghost_name ≡ a.second.ghost_name → b.renderer ≡ a.renderer
+      → Passes held failures (first_of (silent a.renderer) [] told) (gathered_bytes a.gathered) (gathered_bytes b.gathered) a.first.now b.first.now
+      → Wrote second_held second_failures a.second.now (second_of (silent a.renderer) told) b.second.now → Takes a b [] told
+  stays a b told nothing first second same passes tells = record {
     same_first = first;
     same_second = second;
-    same_output = output;
-    texts = [];
-    made = refl;
-    window = ap (λ (c : Carried). c.window) carried ∙ sym (after_none a.carried.window);
-    begun = ap (λ (c : Carried). c.begun) carried;
-    owners = ap (λ (c : Carried). owners_known (command_of a.output) c.owners) carried;
-    passes = subst (λ (l : List ℕ). Passes held failures l (gathered_bytes a.gathered) (gathered_bytes b.gathered) a.first.now b.first.now) (nothing_first a) passes;
-    tells = told_nothing second_held second_failures (is_check (command_of a.output)) a.second.now b.second.now same;
+    same_silent = ap silent same;
+    still = λ none. same;
+    renders = λ s there. (s, subst (λ (c : C). stands c s) (sym same) there, [], nothing s, passes);
+    tells = tells;
   }
 
-  pub output_adds_up : AddsUp (WritesAll {A = A} held failures second_held second_failures) (LeavesWritten held failures second_held second_failures) (λ a. gathered_bytes a.gathered ≡ [])
-      (λ a. is_filled (command_of a.output) a.carried.window)
-  output_adds_up = record {
-    still = λ a b p h.
-        let window = h.window ∙ (ap (λ (l : List (List ℕ)). after a.carried.window (length l)) h.made ∙ after_none a.carried.window) in
-        λ i. is_filled (command_of (h.same_output i)) (window i);
-    nothing = λ a. lets_out a a refl refl refl refl refl (passes_none held failures (gathered_bytes a.gathered) a.first.now);
-    joins = λ a b c s t p q h. joins a b c s t p q h;
-    leaves_after = λ a b c s t p q stop h. leaves_after a b c s t p q h stop;
-    rests = λ a b s p h none.
-        let own = command_of a.output in
-        let all = subst (λ (l : List ℕ). Passes held failures (first_of (is_check own) (output_of (form_of own) a.carried.begun a.carried.window s h.texts) p) (gathered_bytes a.gathered) l a.first.now b.first.now) none h.passes in (
-          record { same_first = h.same_first; same_second = h.same_second; texts = h.texts; made = h.made; leaves = all; tells = h.tells },
-          record { same_first = h.same_first; same_second = h.same_second; texts = h.texts; made = h.made; leaves = all; tells = h.tells },
-          record { same_first = h.same_first; same_second = h.same_second; texts = h.texts; made = h.made; leaves = all; tells = h.tells },
-        );
-  }
+  module _ (full : C → Bool) (nothing : (s : S) → makes s [] [] s) (joined : (s t u : S) (a b : List Placed) (p q : List ℕ) → makes s a p t → makes t b q u → makes s (a ++ b) (p ++ q) u) where
+    both : (a b c : OutputWriter C W E) (s t : List Placed) (p q : List ℕ) → Takes a b s p → Takes b c t q → Takes a c (s ++ t) (p ++ q)
+    both a b c s t p q h k = record {
+      same_first = k.same_first ∙ h.same_first;
+      same_second = k.same_second ∙ h.same_second;
+      same_silent = k.same_silent ∙ h.same_silent;
+      still = λ none. let each = no_messages s t none in k.still each.1 ∙ h.still each.0;
+      renders = λ x there.
+          let one = h.renders x there in
+          let more = k.renders one.0 one.1 in
+          let passes = subst (λ (x : Bool). Passes held failures (first_of x more.2 q) (gathered_bytes b.gathered) (gathered_bytes c.gathered) b.first.now c.first.now) h.same_silent more.4 in (
+            more.0,
+            more.1,
+            one.2 ++ more.2,
+            joined x one.0 more.0 s t one.2 more.2 one.3 more.3,
+            subst (λ (l : List ℕ). Passes held failures l (gathered_bytes a.gathered) (gathered_bytes c.gathered) a.first.now c.first.now) (first_both (silent a.renderer) one.2 p more.2 q)
+                (passes_both held failures _ _ (gathered_bytes a.gathered) (gathered_bytes b.gathered) (gathered_bytes c.gathered) a.first.now b.first.now c.first.now one.4 passes),
+          );
+      tells = subst (λ (l : List ℕ). Wrote second_held second_failures a.second.now l c.second.now) (second_both (silent a.renderer) p q)
+          (wrote_both second_held second_failures _ _ a.second.now b.second.now c.second.now h.tells (subst (λ (x : Bool). Wrote second_held second_failures b.second.now (second_of x q) c.second.now) h.same_silent k.tells));
+    }
+
+    left_after : (a b c : OutputWriter C W E) (s t : List Placed) (p q : List ℕ) (stop : RunStop) → Takes a b s p → Leaves b c t q stop → Leaves a c (s ++ t) (p ++ q) stop
+    left_after a b c s t p q stop h k = record {
+      same_first = k.same_first ∙ h.same_first;
+      same_second = k.same_second ∙ h.same_second;
+      renders = λ x there.
+          let one = h.renders x there in
+          let more = k.renders one.0 one.1 in
+          let leaves = subst (λ (x : Bool). LeavesFirst held failures x stop (first_of x more.1 q) (gathered_bytes b.gathered) b.first.now c.first.now) h.same_silent more.3 in (
+            more.0,
+            one.2 ++ more.1,
+            joined x one.0 more.0 s t one.2 more.1 one.3 more.2,
+            subst (λ (l : List ℕ). LeavesFirst held failures (silent a.renderer) stop l (gathered_bytes a.gathered) a.first.now c.first.now) (first_both (silent a.renderer) one.2 p more.1 q)
+                (first_after held failures (silent a.renderer) stop _ _ (gathered_bytes a.gathered) (gathered_bytes b.gathered) a.first.now b.first.now c.first.now one.4 leaves),
+          );
+      tells = subst (λ (l : List ℕ). GotSecond second_held second_failures (silent a.renderer) stop l a.second.now c.second.now) (second_both (silent a.renderer) p q)
+          (second_after second_held second_failures (silent a.renderer) stop _ _ a.second.now b.second.now c.second.now h.tells
+          (subst (λ (x : Bool). GotSecond second_held second_failures x stop (second_of x q) b.second.now c.second.now) h.same_silent k.tells));
+    }
+
+    -- nothing is held back
+    rests_by : (a b : OutputWriter C W E) (s : List Placed) (p : List ℕ) → Takes a b s p → gathered_bytes b.gathered ≡ [] → (stop : RunStop)
+        → ((bytes : List ℕ) → Passes held failures bytes (gathered_bytes a.gathered) [] a.first.now b.first.now → LeavesFirst held failures (silent a.renderer) stop bytes (gathered_bytes a.gathered) a.first.now b.first.now)
+        → GotSecond second_held second_failures (silent a.renderer) stop (second_of (silent a.renderer) p) a.second.now b.second.now → Leaves a b s p stop
+    rests_by a b s p h none stop first second = record {
+      same_first = h.same_first;
+      same_second = h.same_second;
+      renders = λ x there.
+          let r = h.renders x there in
+          (r.0, r.2, r.3, first (first_of (silent a.renderer) r.2 p) (subst (λ (g : List ℕ). Passes held failures (first_of (silent a.renderer) r.2 p) (gathered_bytes a.gathered) g a.first.now b.first.now) none r.4));
+      tells = second;
+    }
+
+    pub output_adds_up : AddsUp Takes Leaves (λ a. gathered_bytes a.gathered ≡ []) (λ a. full a.renderer)
+    output_adds_up = record {
+      still = λ a b p h. ap full (h.still refl);
+      nothing = λ a.
+          let none = sym (first_nothing (silent a.renderer)) in
+          stays a a [] nothing refl refl refl (subst (λ (l : List ℕ). Passes held failures l (gathered_bytes a.gathered) (gathered_bytes a.gathered) a.first.now a.first.now) none (passes_none held failures (gathered_bytes a.gathered) a.first.now))
+          (told_nothing second_held second_failures (silent a.renderer) a.second.now a.second.now refl);
+      joins = both;
+      leaves_after = left_after;
+      rests = λ a b s p h none. (
+        rests_by a b s p h none (ByCause Memory) (λ bytes q. q) h.tells,
+        rests_by a b s p h none (ByCause ReadFailed) (λ bytes q. q) h.tells,
+        rests_by a b s p h none (ByCause TooManyReads) (λ bytes q. q) h.tells,
+      );
+    }

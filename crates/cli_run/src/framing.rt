@@ -1,15 +1,12 @@
 //! Messages that are written as packets of a pcap file, or alone.
 ghost use Rattle.std.specs.Prelude.{◌≡◌, ◌<◌, ◌^◌, length};
-ghost use Rattle.cli_report.specs.Devices.{writing};
-ghost use Rattle.cli_report.specs.Gathering.{Goes, GathersOrNot, gathered_bytes};
 ghost use Rattle.cli_run.specs.Output.{frame_if, header_if, is_framed};
-ghost use Rattle.cli_run.specs.Handing.{WritesFramed, after_front, front_of};
+ghost use Rattle.cli_run.specs.Handing.{after_front, front_of};
 
+use crate::byte_draft::ByteDraft;
 use crate::place::MessagePlace;
 use cli_options::FileForm;
-use cli_report::{Cause, OutputBuffer, Page};
 use dbus_pcap::{file_header, packet_header};
-use dbus_stream::Sink;
 
 /// What comes before a message that is written.
 #[derive(Clone, Copy)]
@@ -47,72 +44,31 @@ fn is_framed(form: FileForm, place: MessagePlace) -> bool
     }
 }
 
-/// Writes or gathers the header of a file, if it is due.
-pub(crate) fn write_header<W: Sink>(
-    front: Front,
-    gathered: &mut OutputBuffer,
-    first: &mut W,
-) -> Result<(), Cause>
-    ensures { GathersOrNot W.held W.failures (header_if front.begins_file)
-        (gathered_bytes gathered.old) (gathered_bytes gathered.new) first.old first.new result }
-{
-    let alone = Front {
-        begins_file: front.begins_file,
-        is_framed: false,
-        time: None,
-    };
-    write_message(alone, &[], gathered, first)
-}
-
-/// Writes or gathers the message after what comes before it.
-pub(crate) fn write_message<W: Sink>(
-    front: Front,
-    bytes: &[u8],
-    gathered: &mut OutputBuffer,
-    first: &mut W,
-) -> Result<(), Cause>
+/// Appends the message after what comes before it.
+pub(crate) fn write_message<D: ByteDraft>(draft: &mut D, front: Front, bytes: &[u8])
     requires { length bytes.now < 2 ^ 32 }
-    ensures { WritesFramed (writing W.held W.failures first.old first.new) front bytes.now
-        (gathered_bytes gathered.old) (gathered_bytes gathered.new) result }
+    ensures { D.gains draft.old (after_front front bytes.now) draft.new }
 {
-    let mut page = Page {
-        gathered,
-        first,
-        failed: false,
-    };
-    push_message(&mut page, front, bytes);
-    if page.failed {
-        Err(Cause::WriteFailed)
-    } else {
-        Ok(())
-    }
+    write_file_header(draft, front);
+    write_packet_header(draft, front, bytes);
+    draft.append(bytes);
 }
 
-// Appends the message after what comes before it.
-fn push_message<W: Sink>(page: &mut Page<'_, W>, front: Front, bytes: &[u8])
-    requires { length bytes.now < 2 ^ 32 }
-    ensures { Goes W.held W.failures page.old (after_front front bytes.now) page.new }
-{
-    push_file_header(page, front);
-    push_packet_header(page, front, bytes);
-    page.push_bytes(bytes);
-}
-
-// Appends the header of a file, if it is due.
-fn push_file_header<W: Sink>(page: &mut Page<'_, W>, front: Front)
-    ensures { Goes W.held W.failures page.old (header_if front.begins_file) page.new }
+/// Appends the header of a file, if it is due.
+pub(crate) fn write_file_header<D: ByteDraft>(draft: &mut D, front: Front)
+    ensures { D.gains draft.old (header_if front.begins_file) draft.new }
 {
     if front.begins_file {
-        page.push_bytes(&file_header());
+        draft.append(&file_header());
     }
 }
 
 // Appends the header of the packet that the bytes are, if it is due.
-fn push_packet_header<W: Sink>(page: &mut Page<'_, W>, front: Front, bytes: &[u8])
+fn write_packet_header<D: ByteDraft>(draft: &mut D, front: Front, bytes: &[u8])
     requires { length bytes.now < 2 ^ 32 }
-    ensures { Goes W.held W.failures page.old (frame_if front.is_framed front.time bytes.now) page.new }
+    ensures { D.gains draft.old (frame_if front.is_framed front.time bytes.now) draft.new }
 {
     if front.is_framed {
-        page.push_bytes(&packet_header(front.time, bytes));
+        draft.append(&packet_header(front.time, bytes));
     }
 }

@@ -8,6 +8,7 @@
 #![tactic(auto)]
 
 mod by_name;
+mod byte_draft;
 mod call_listing;
 mod call_summing;
 mod closing;
@@ -24,6 +25,7 @@ mod line_selector;
 mod output;
 mod output_writer;
 mod place;
+mod renderer;
 mod running;
 mod selector;
 mod showing;

@@ -1,25 +1,25 @@
 //! What is written of each message.
-ghost use Rattle.std.specs.Prelude.{◌≡◌, ℕ, IfOk, List, length};
+ghost use Rattle.std.specs.Prelude.{◌≡◌, ◌++◌, [], ℕ, IfOk, List, OnErr, OnOk, length};
 ghost use Rattle.dbus_value_model.specs.declared.order.Order.{Order};
 ghost use Rattle.dbus_message_model.specs.Messages.{MessageTree};
 ghost use Rattle.dbus_header.specs.MessageOutcomes.{IsWhole};
 ghost use Rattle.dbus_validate.specs.Validating.{IsValidatedWhole};
-ghost use Rattle.cli_report.specs.Gathering.{gathered_bytes};
-ghost use Rattle.cli_report.specs.Devices.{writing};
-ghost use Rattle.cli_run.specs.Handing.{HandsOne, IsPicked, WritesOne};
-ghost use Rattle.cli_run.specs.Output.{command_of, form_of, is_check};
+ghost use Rattle.cli_run.specs.Handing.{IsPicked};
+ghost use Rattle.cli_run.specs.Output.{IsTextOf, begins_file, command_of, form_of, header_if, is_check, is_filled};
+ghost use Rattle.cli_run.specs.Rendering.{Makes, OutputState, state_of};
+ghost use Rattle.cli_run.specs.RenderingLaws as laws;
 
+use crate::byte_draft::ByteDraft;
 use crate::filtering::select;
-use crate::framing::{Front, write_header, write_message};
-use crate::place::{Carried, Lent};
+use crate::framing::{Front, write_file_header, write_message};
+use crate::place::Lent;
+use crate::renderer::Renderer;
 use crate::selector::Selector;
 use crate::showing::{show, write_json_line};
 use crate::swapping::swap;
-use crate::window::lets_through;
-use cli_options::{Command, FileForm};
-use cli_report::{Cause, OutputBuffer};
+use crate::window::{is_spent, lets_through};
+use cli_options::{Command, FileForm, Window};
 use dbus_names::Names;
-use dbus_stream::Sink;
 use dbus_value_model::Order;
 use std::alloc::{AllocError, Allocator};
 
@@ -103,70 +103,98 @@ fn picks(output: &Output, lent: &Lent, owners: &mut Option<Names>) -> Result<boo
     }
 }
 
-// Writes or gathers the text that the command makes of the message, after the header of a file if
-// that is due: if `begun` says that no message was looked at before. A message is byteswapped in
-// `spare`, so that only a longer one than those before takes memory.
-fn write_one<A: Allocator + Copy, W: Sink>(
+// Appends the text that the command makes of the message, after the header of a file if that is
+// due: if `begun` says that no message was looked at before. A message is byteswapped in `spare`, so
+// that only a longer one than those before takes memory.
+fn write_one<A: Allocator + Copy, D: ByteDraft>(
     output: &Output,
     lent: &Lent,
     begun: bool,
     spare: &mut Vec<u8, A>,
-    gathered: &mut OutputBuffer,
-    first: &mut W,
-) -> Result<(), Cause>
+    draft: &mut D,
+) -> Result<(), AllocError>
     requires { IsValidatedWhole lent.now.limits lent.now.bytes.now lent.now.validated }
-    ensures { (order : Order) (m : MessageTree) →
+    ensures writes { (order : Order) (m : MessageTree) →
         IsWhole lent.now.limits lent.now.bytes.now order m (length lent.now.bytes.now) →
-        WritesOne (writing W.held W.failures first.old first.new) (command_of output.now) begun
-        order m lent.now.place
-        (gathered_bytes gathered.old) (gathered_bytes gathered.new) result }
+        (text : List ℕ) × IsTextOf (command_of output.now) order m lent.now.place text ×
+        OnOk result (D.gains draft.old
+        (header_if (begins_file (form_of (command_of output.now)) lent.now.place begun) ++ text)
+        draft.new) }
+    ensures short { OnErr result (D.gains draft.old [] draft.new) }
 {
-    let bytes = lent.bytes;
-    let place = lent.place;
     match output {
-        Output::Nothing => Ok(()),
-        Output::Text { times, escapes } => show(lent, *times, *escapes, gathered, first),
-        Output::JsonLine { times, safe } => write_json_line(lent, *times, *safe, gathered, first),
+        Output::Nothing => {}
+        Output::Text { times, escapes } => show(draft, lent, *times, *escapes),
+        Output::JsonLine { times, safe } => write_json_line(draft, lent, *times, *safe),
         Output::InOrder(wanted, form) => {
-            let front = Front::of(*form, place, begun);
-            swap(*wanted, lent, front, spare, gathered, first)
+            let front = Front::of(*form, lent.place, begun);
+            return swap(*wanted, lent, front, spare, draft);
         }
         Output::Matching(_, form) => {
-            let front = Front::of(*form, place, begun);
-            write_message(front, bytes, gathered, first)
+            let front = Front::of(*form, lent.place, begun);
+            write_message(draft, front, lent.bytes);
         }
     }
+    Ok(())
 }
 
-/// Writes or gathers what the window lets through of what the command makes of the message, after
-/// the header of a file if that is due, and carries on what the next one needs.
-pub(crate) fn hand_one<A: Allocator + Copy, W: Sink>(
-    output: &Output,
-    lent: &Lent,
-    carried: &mut Carried,
-    spare: &mut Vec<u8, A>,
-    gathered: &mut OutputBuffer,
-    first: &mut W,
-) -> Result<(), Cause>
-    requires { IsValidatedWhole lent.now.limits lent.now.bytes.now lent.now.validated }
-    ensures { (order : Order) (m : MessageTree) →
-        IsWhole lent.now.limits lent.now.bytes.now order m (length lent.now.bytes.now) →
-        HandsOne (writing W.held W.failures first.old first.new) (command_of output.now) carried.old
-        carried.new order m
-        lent.now.place (gathered_bytes gathered.old) (gathered_bytes gathered.new) result }
-{
-    let Ok(picked) = picks(output, lent, &mut carried.owners) else {
-        return Err(Cause::Memory);
-    };
-    let begun = carried.begun;
-    carried.begun = true;
-    let front = Front::of(form_of(output), lent.place, begun);
-    if !picked {
-        return write_header(front, gathered, first);
+/// What makes an output of each message.
+#[derive(Drop)]
+pub(crate) struct OutputRenderer<'a, A: Allocator> {
+    /// What the command writes of each message.
+    pub(crate) output: Output<'a>,
+    /// The window for the messages that follow.
+    pub(crate) window: Window,
+    /// Whether a message was looked at.
+    pub(crate) begun: bool,
+    /// What is known of the owners of names, once a message was looked at. Before, it is what the
+    /// command says.
+    pub(crate) owners: Option<Names>,
+    /// Room for a message that is byteswapped.
+    pub(crate) spare: Vec<u8, A>,
+}
+
+impl<A: Allocator + Copy> Renderer for OutputRenderer<'_, A> {
+    ghost State = { OutputState };
+
+    ghost stands = { λ a s. s ≡ state_of a };
+
+    ghost makes = { Makes };
+
+    ghost full = { λ a. is_filled (command_of a.output) a.window };
+
+    ghost silent = { λ a. is_check (command_of a.output) };
+
+    fn is_full(&self) -> bool {
+        is_spent(&self.window) && !is_check(&self.output)
     }
-    if lets_through(&mut carried.window) {
-        write_one(output, lent, begun, spare, gathered, first)
-    } else {
-        write_header(front, gathered, first)
+
+    fn is_silent(&self) -> bool {
+        is_check(&self.output)
     }
+
+    fn take<D: ByteDraft>(&mut self, lent: &Lent<'_>, draft: &mut D) -> Result<(), AllocError> {
+        let Ok(picked) = picks(&self.output, lent, &mut self.owners) else {
+            return Err(AllocError);
+        };
+        let begun = self.begun;
+        self.begun = true;
+        let front = Front::of(form_of(&self.output), lent.place, begun);
+        if !picked {
+            write_file_header(draft, front);
+            return Ok(());
+        }
+        if lets_through(&mut self.window) {
+            write_one(&self.output, lent, begun, &mut self.spare, draft)
+        } else {
+            write_file_header(draft, front);
+            Ok(())
+        }
+    }
+
+    ghost nothing = { laws.nothing };
+
+    ghost joins = { laws.joins };
+
+    ghost quiet = { laws.quiet };
 }

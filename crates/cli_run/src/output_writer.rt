@@ -1,27 +1,26 @@
-//! What writes an output of each message, and tells of those that are refused.
-ghost use Rattle.std.specs.Prelude.{◌≡◌, []};
+//! What writes what is made of each message, and tells of those that are refused.
+ghost use Rattle.std.specs.Prelude.{◌≡◌, ◌∷◌, [], ℕ, List, length};
+ghost use Rattle.dbus_value_model.specs.declared.order.Order.{Order};
+ghost use Rattle.dbus_message_model.specs.Messages.{MessageTree};
+ghost use Rattle.dbus_header.specs.MessageOutcomes.{IsWhole};
+ghost use Rattle.dbus_validate.specs.Validating.{IsValidatedWhole};
+ghost use Rattle.cli_report.specs.Devices.{writing};
 ghost use Rattle.cli_report.specs.Gathering.{gathered_bytes};
-ghost use Rattle.cli_run.specs.OutputWriting.{FailsBy, LeavesWritten, WritesAll};
-ghost use Rattle.cli_run.specs.Output.{command_of, is_filled};
+ghost use Rattle.cli_run.specs.OutputWriting.{FailsBy, GathersOne, LeavesWritten, WritesAll, placed_at};
 ghost use Rattle.cli_run.specs.VisitorLaws.{output_adds_up};
 
-use crate::output::{Output, hand_one, is_check};
-use crate::place::{Carried, Lent};
+use crate::place::Lent;
+use crate::renderer::Renderer;
 use crate::visitor::{MessageVisitor, write_text};
-use crate::window::is_spent;
-use cli_report::{Cause, OutputBuffer, Unwritten, write_out};
+use cli_report::{Cause, OutputBuffer, Page, Unwritten, write_out};
 use dbus_stream::Sink;
-use std::alloc::Allocator;
+use std::alloc::AllocError;
 
-/// Writes what a command makes of each message, and tells of those that are refused.
+/// Writes what is made of each message, and tells of those that are refused.
 #[derive(Drop)]
-pub(crate) struct OutputWriter<'c, 'a, 'b, A: Allocator, W, E> {
-    /// What the command writes of each message.
-    pub(crate) output: Output<'c>,
-    /// What is carried on to the next message.
-    pub(crate) carried: Carried,
-    /// Room for a message that is byteswapped.
-    pub(crate) spare: Vec<u8, A>,
+pub(crate) struct OutputWriter<'a, 'b, C, W, E> {
+    /// What makes it.
+    pub(crate) renderer: C,
     /// What is gathered for the first writer.
     pub(crate) gathered: OutputBuffer,
     /// The writers.
@@ -29,7 +28,7 @@ pub(crate) struct OutputWriter<'c, 'a, 'b, A: Allocator, W, E> {
     pub(crate) second: &'b mut E,
 }
 
-impl<'a, 'b, A: Allocator, W, E> OutputWriter<'_, 'a, 'b, A, W, E> {
+impl<'a, 'b, C: Drop, W, E> OutputWriter<'a, 'b, C, W, E> {
     /// The writers. The first has a struct around it, since the proofs follow one reference alone.
     pub(crate) fn into_writers(self) -> (First<'a, W>, &'b mut E)
         ensures same_first { result.0.0.ghost_name ≡ self.entry.first.ghost_name }
@@ -55,17 +54,17 @@ impl<'a, W> First<'a, W> {
     }
 }
 
-impl<A: Allocator + Copy, W: Sink, E: Sink> MessageVisitor for OutputWriter<'_, '_, '_, A, W, E> {
-    ghost takes = { WritesAll W.held W.failures E.held E.failures };
+impl<C: Renderer, W: Sink, E: Sink> MessageVisitor for OutputWriter<'_, '_, C, W, E> {
+    ghost takes = { WritesAll C.stands C.makes C.silent W.held W.failures E.held E.failures };
 
-    ghost leaves = { LeavesWritten W.held W.failures E.held E.failures };
+    ghost leaves = { LeavesWritten C.stands C.makes C.silent W.held W.failures E.held E.failures };
 
     ghost settled = { λ a. gathered_bytes a.gathered ≡ [] };
 
-    ghost full = { λ a. is_filled (command_of a.output) a.carried.window };
+    ghost full = { λ a. C.full a.renderer };
 
     fn is_full(&self) -> bool {
-        is_spent(&self.carried.window) && !is_check(&self.output)
+        self.renderer.is_full()
     }
 
     fn settle(&mut self) -> Result<(), Unwritten> {
@@ -73,29 +72,53 @@ impl<A: Allocator + Copy, W: Sink, E: Sink> MessageVisitor for OutputWriter<'_, 
     }
 
     fn take(&mut self, lent: &Lent<'_>) -> Result<(), Cause> {
-        let handed = hand_one(
-            &self.output,
-            lent,
-            &mut self.carried,
-            &mut self.spare,
-            &mut self.gathered,
-            self.first,
-        );
-        match handed {
-            Ok(()) => Ok(()),
-            Err(cause) => Err(fail_by(cause, &mut self.gathered, self.first)),
+        match write_one(&mut self.renderer, lent, &mut self.gathered, self.first) {
+            Ok(Ok(())) => Ok(()),
+            Ok(Err(AllocError)) => match write_out(&mut self.gathered, self.first) {
+                Ok(()) => Err(Cause::Memory),
+                Err(Unwritten) => Err(Cause::WriteFailed),
+            },
+            Err(Unwritten) => Err(Cause::WriteFailed),
         }
     }
 
     fn tell(&mut self, text: &str) -> Result<(), Unwritten> {
-        if is_check(&self.output) {
+        if self.renderer.is_silent() {
             write_text(self.first, text)
         } else {
             write_text(self.second, text)
         }
     }
 
-    ghost adds_up = { output_adds_up W.held W.failures E.held E.failures };
+    ghost adds_up = { output_adds_up C.stands C.makes C.silent W.held W.failures E.held E.failures C.full C.nothing C.joins };
+}
+
+// Writes or gathers what is made of the message, and says whether there was memory for it.
+fn write_one<C: Renderer, W: Sink>(
+    renderer: &mut C,
+    lent: &Lent<'_>,
+    gathered: &mut OutputBuffer,
+    first: &mut W,
+) -> Result<Result<(), AllocError>, Unwritten>
+    requires { IsValidatedWhole lent.now.limits lent.now.bytes.now lent.now.validated }
+    ensures writes { (order : Order) (m : MessageTree) →
+        IsWhole lent.now.limits lent.now.bytes.now order m (length lent.now.bytes.now) →
+        (s : C.State) → C.stands renderer.old s → (t : C.State) × (text : List ℕ) × C.makes s
+        (placed_at lent.now.place order m (length lent.now.bytes.now) ∷ []) text t ×
+        GathersOne C.stands (writing W.held W.failures first.old first.new) t renderer.new
+        text (gathered_bytes gathered.old) (gathered_bytes gathered.new) result }
+    ensures silent { C.silent renderer.new ≡ C.silent renderer.old }
+{
+    let mut page = Page {
+        gathered,
+        first,
+        failed: false,
+    };
+    let taken = renderer.take(lent, &mut page);
+    if page.failed {
+        return Err(Unwritten);
+    }
+    Ok(taken)
 }
 
 /// Why a run fails that fails by this cause. If memory ran out, what is gathered is written first,

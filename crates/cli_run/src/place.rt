@@ -2,8 +2,6 @@
 ghost use Rattle.std.specs.Prelude.{◌≡◌};
 ghost use Rattle.cli_run.specs.Output.{told_place};
 
-use cli_options::Window;
-use dbus_names::Names;
 use dbus_validate::Validated;
 use dbus_value_model::Limits;
 
@@ -31,18 +29,6 @@ impl MessagePlace {
             MessagePlace { time: None, ..self }
         }
     }
-}
-
-/// What is carried from message to message.
-#[derive(Drop)]
-pub(crate) struct Carried {
-    /// The window for the messages that follow.
-    pub(crate) window: Window,
-    /// Whether a message was looked at.
-    pub(crate) begun: bool,
-    /// What is known of the owners of names, once a message was looked at. Before, it is what the
-    /// command says.
-    pub(crate) owners: Option<Names>,
 }
 
 /// A message of an input.

@@ -8,9 +8,8 @@ ghost use Rattle.cli_run.specs.Running.{Runs, RunsWith};
 use crate::closing::{number_of, status_of, write_count};
 use crate::counting::count_through;
 use crate::going::{pass_through, tell_stop};
-use crate::output::{is_check, output_of};
+use crate::output::{OutputRenderer, is_check, output_of};
 use crate::output_writer::OutputWriter;
-use crate::place::Carried;
 use cli_options::{Command, Resync, Settings, Window};
 use cli_report::{Cause, ExitStatus, OutputBuffer, give_up};
 use dbus_stream::{MOST_READS, Sink, Source};
@@ -178,13 +177,13 @@ pub fn run_with<A: Allocator + Copy, R: Source, W: Sink, E: Sink>(
         return check(alloc, settings, reads, reader, first, second);
     }
     let mut writer = OutputWriter {
-        output,
-        carried: Carried {
+        renderer: OutputRenderer {
+            output,
             window: settings.window,
             begun: false,
             owners: None,
+            spare: Vec::new(alloc),
         },
-        spare: Vec::new(alloc),
         gathered: OutputBuffer::new(),
         first,
         second: &mut *second,

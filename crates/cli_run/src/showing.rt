@@ -1,21 +1,17 @@
 //! A message as text, as a line of JSON, and as a line for a reader.
-ghost use Rattle.std.specs.Prelude.{◌≡◌, ℕ, List, false, length};
+ghost use Rattle.std.specs.Prelude.{◌≡◌, ℕ, List, length};
 ghost use Rattle.dbus_value_model.specs.declared.order.Order.{Order};
 ghost use Rattle.dbus_message_model.specs.Messages.{MessageTree};
 ghost use Rattle.dbus_header.specs.MessageOutcomes.{IsWhole};
 ghost use Rattle.dbus_validate.specs.Validating.{IsValidatedWhole};
 ghost use Rattle.dbus_json.specs.JsonIntegers.{integers_of};
-ghost use Rattle.cli_report.specs.Devices.{writing};
-ghost use Rattle.cli_report.specs.Gathering.{GathersOrNot, gathered_bytes};
-ghost use Rattle.cli_run.specs.Handing.{WritesJson};
+ghost use Rattle.dbus_json.specs.JsonMessages.{IsJsonLine};
 ghost use Rattle.cli_run.specs.Output.{line_place, seen_if, shown_text, time_text, told_place};
 
 use crate::place::{Lent, MessagePlace};
-use cli_report::{Cause, OutputBuffer, Page};
 use dbus_json::{Integers, LinePlace, write_json, write_seconds};
 use dbus_show::{Draft, Visible};
 use dbus_show_view::write_message;
-use dbus_stream::Sink;
 
 // Appends the time that stands before the text of a message, if it has one.
 fn write_time<D: Draft>(draft: &mut D, time: Option<u64>)
@@ -44,46 +40,20 @@ fn write_shown<D: Draft>(draft: &mut D, lent: &Lent<'_>, place: MessagePlace)
     );
 }
 
-// The same, with its hidden characters escaped if that is wanted.
-fn write_seen<D: Draft>(draft: &mut D, lent: &Lent<'_>, place: MessagePlace, escapes: bool)
+/// Appends the text of the message, after its time if that is wanted and it has one, with its hidden
+/// characters escaped if that is wanted.
+pub(crate) fn show<D: Draft>(draft: &mut D, lent: &Lent<'_>, times: bool, escapes: bool)
     requires { IsValidatedWhole lent.now.limits lent.now.bytes.now lent.now.validated }
     ensures { (order : Order) (m : MessageTree) →
         IsWhole lent.now.limits lent.now.bytes.now order m (length lent.now.bytes.now) →
-        D.gains draft.old (seen_if escapes (shown_text order m place)) draft.new }
+        D.gains draft.old
+        (seen_if escapes (shown_text order m (told_place times lent.now.place))) draft.new }
 {
+    let place = lent.place.told(times);
     if escapes {
         write_shown(&mut Visible { draft }, lent, place);
     } else {
         write_shown(draft, lent, place);
-    }
-}
-
-/// Writes or gathers the text of the message, after its time if that is wanted and it has one, with
-/// its hidden characters escaped if that is wanted.
-pub(crate) fn show<W: Sink>(
-    lent: &Lent<'_>,
-    times: bool,
-    escapes: bool,
-    gathered: &mut OutputBuffer,
-    first: &mut W,
-) -> Result<(), Cause>
-    requires { IsValidatedWhole lent.now.limits lent.now.bytes.now lent.now.validated }
-    ensures { (order : Order) (m : MessageTree) →
-        IsWhole lent.now.limits lent.now.bytes.now order m (length lent.now.bytes.now) →
-        GathersOrNot W.held W.failures
-        (seen_if escapes (shown_text order m (told_place times lent.now.place)))
-        (gathered_bytes gathered.old) (gathered_bytes gathered.new) first.old first.new result }
-{
-    let mut page = Page {
-        gathered,
-        first,
-        failed: false,
-    };
-    write_seen(&mut page, lent, lent.place.told(times), escapes);
-    if page.failed {
-        Err(Cause::WriteFailed)
-    } else {
-        Ok(())
     }
 }
 
@@ -98,38 +68,22 @@ pub(crate) fn line_place(place: MessagePlace) -> LinePlace
     }
 }
 
-/// Writes or gathers the line of JSON of the message, with its time if that is wanted and it has
-/// one, and with safe integers or not.
-pub(crate) fn write_json_line<W: Sink>(
-    lent: &Lent<'_>,
-    times: bool,
-    safe: bool,
-    gathered: &mut OutputBuffer,
-    first: &mut W,
-) -> Result<(), Cause>
+/// Appends the line of JSON of the message, with its time if that is wanted and it has one, and with
+/// safe integers or not.
+pub(crate) fn write_json_line<D: Draft>(draft: &mut D, lent: &Lent<'_>, times: bool, safe: bool)
     requires { IsValidatedWhole lent.now.limits lent.now.bytes.now lent.now.validated }
     ensures { (order : Order) (m : MessageTree) →
         IsWhole lent.now.limits lent.now.bytes.now order m (length lent.now.bytes.now) →
-        WritesJson (writing W.held W.failures first.old first.new) (integers_of safe) order m
-        (told_place times lent.now.place)
-        (gathered_bytes gathered.old) (gathered_bytes gathered.new) result }
+        (text : List ℕ) ×
+        IsJsonLine (integers_of safe) order m (line_place (told_place times lent.now.place)) text ×
+        D.gains draft.old text draft.new }
 {
-    let mut page = Page {
-        gathered,
-        first,
-        failed: false,
-    };
     write_json(
-        &mut page,
+        draft,
         lent.bytes,
         lent.limits,
         &lent.validated,
         line_place(lent.place.told(times)),
         Integers::of(safe),
     );
-    if page.failed {
-        Err(Cause::WriteFailed)
-    } else {
-        Ok(())
-    }
 }

@@ -2,9 +2,7 @@ use Rattle.std.proofs.Common.{◌≡◌, ◌<◌, ◌^◌, ℕ, List, length, dr
 use Rattle.std.proofs.lemmas.List.{take_at}
 use Rattle.dbus_header.specs.MessageOutcomes.{IsWhole}
 use Rattle.dbus_swap.specs.Byteswapping.{other}
-use Rattle.cli_report.specs.Devices.{writing}
-use Rattle.cli_report.specs.Gathering.{gathered_bytes}
-use Rattle.cli_run.specs.Handing.{WritesFramed}
+use Rattle.cli_run.specs.Handing.{after_front}
 use Rattle.cli_run.proofs.OutputSteps.{short}
 use Rattle.cli_run.proofs.swapping.write_byteswapped.Goals as goal
 
@@ -20,8 +18,8 @@ write_message-requires g c =
     let is : c.as_slice.result.now ≡ copy = c.as_slice.ensures.value ∙ take_at copy (drop (length copy) c.extend_from_slice.new.self.items) c.extend_from_slice.new.self.len size in
     subst (λ (l : List ℕ). length l < 2 ^ 32) (sym (is ∙ c.byteswap.ensures.byteswapped v.message v.whole)) less
 
-pub returns : goal.returns
-returns g c = λ m whole.
+pub returns-clause-swaps : goal.returns-clause-swaps
+returns-clause-swaps g c = λ m whole.
     let limits = c.args.lent.now.limits in
     let b = c.args.lent.now.bytes.now in
     let j = c.args.lent.now.validated in
@@ -29,5 +27,4 @@ returns g c = λ m whole.
     let copy = c.byteswap.new.copy in
     let size : length copy ≡ c.extend_from_slice.new.self.len = omega (arith, c.byteswap.auto.copy, c.as_mut_slice.ensures.len) in
     let is : c.as_slice.result.now ≡ copy = c.as_slice.ensures.value ∙ take_at copy (drop (length copy) c.extend_from_slice.new.self.items) c.extend_from_slice.new.self.len size in
-    subst (λ (l : List ℕ). WritesFramed (writing g.W.Sink.held g.W.Sink.failures c.args.first.now c.write_message.new.first) c.args.front l (gathered_bytes c.args.gathered.now) (gathered_bytes c.write_message.new.gathered) c.write_message.result)
-    (is ∙ c.byteswap.ensures.byteswapped m here) c.write_message.ensures
+    subst (λ (l : List ℕ). g.D.Draft.gains c.args.draft.now (after_front c.args.front l) c.write_message.new.draft) (is ∙ c.byteswap.ensures.byteswapped m here) c.write_message.ensures

@@ -1,0 +1,31 @@
+-- What a command that is run by settings makes of messages, from one state to another.
+use Rattle.std.specs.Prelude.{◌≡◌, ℕ, Bool, List, length}
+use Rattle.dbus_names.specs.NameStates.{NameState}
+use Rattle.cli_options.specs.declared.command.Command.{Command}
+use Rattle.cli_options.specs.declared.window.Window.{Window}
+use Rattle.cli_run.specs.Inputs.{Placed}
+use Rattle.cli_run.specs.Output.{IsOutputOfAll, after, begun_after, command_of, form_of, output_of, owners_after_all, owners_known}
+use Rattle.cli_run.specs.declared.output.OutputRenderer.{OutputRenderer}
+
+-- the command, the window for what follows, whether a message was looked at, and what is known of
+-- the owners of names
+pub record OutputState : Type 0 where
+  pub command : Command
+  pub window : Window
+  pub begun : Bool
+  pub owners : NameState
+
+abbrev pub state_of : {A : Type 0} → OutputRenderer A → OutputState
+state_of a = record { command = command_of a.output; window = a.window; begun = a.begun; owners = owners_known (command_of a.output) a.owners }
+
+-- the state after messages of which so many texts are made
+abbrev pub state_after : OutputState → List Placed → (texts : ℕ) → OutputState
+state_after s items texts = record { command = s.command; window = after s.window texts; begun = begun_after s.begun items; owners = owners_after_all s.command s.owners items }
+
+-- the text is what the window lets through of the texts that the command makes of the messages,
+-- after the header
+pub record Makes (s : OutputState) (items : List Placed) (text : List ℕ) (t : OutputState) : Type 0 where
+  pub texts : List (List ℕ)
+  pub made : IsOutputOfAll s.command s.owners items texts
+  pub text_is : text ≡ output_of (form_of s.command) s.begun s.window items texts
+  pub then : t ≡ state_after s items (length texts)
