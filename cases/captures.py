@@ -81,8 +81,6 @@ class Reader:
 
     def read_pcap(self):
         head = self.take(24)
-        if head[:4] not in PCAP:
-            raise Refused(0, "Magic")
         self.order, unit = PCAP[head[:4]]
         if (self.number(head, 4, 2), self.number(head, 6, 2)) != (2, 4):
             raise Refused(4, "Version")
@@ -125,8 +123,6 @@ class Reader:
             raise Refused(self.at - 4, "BlockLengths")
 
     def read_section(self, at, head):
-        if head[:4] != b"\n\r\r\n":
-            raise Refused(at, "Magic")
         if head[8:12] not in MARKS:
             raise Refused(at + 8, "OrderMark")
         self.order, self.interfaces = MARKS[head[8:12]], []
@@ -186,9 +182,9 @@ def read(data, passes_cut=False):
     """What a file gives."""
     reader, fault = Reader(data, passes_cut), ()
     try:
-        if data[:1] == b"\n":
+        if data[:4] == b"\n\r\r\n":
             reader.read_pcapng()
-        elif data[:1] in {it[:1] for it in PCAP}:
+        elif data[:4] in PCAP:
             reader.read_pcap()
         else:
             reader.data = data

@@ -10,15 +10,14 @@ use Rattle.dbus_capture.specs.declared.fault.CaptureReason.TheVariants.{Magic, V
 use Rattle.dbus_capture.specs.declared.interface.Interface.{Interface}
 use Rattle.dbus_capture.specs.declared.scan.Scan.{Scan}
 use Rattle.dbus_capture.specs.Numbers.{u32_at}
-use Rattle.dbus_capture.specs.Stages.{first_stage, begun}
+use Rattle.dbus_capture.specs.Beginnings.{first_stage, first_scan}
 use Rattle.dbus_capture.specs.Scans.{place, fresh}
 use Rattle.dbus_capture.specs.Steps.{Gathers, run, may_end, ended, given}
 use Rattle.dbus_capture.specs.PcapFaults.{AreBytes}
 use Rattle.dbus_capture.specs.BlockFiles.{sections_bytes}
 use Rattle.dbus_capture.specs.BlockFaults.{Form, OfInterface, OfPacket, OfOther, PacketForm, said, IsOf, IsFormFault, IsBlockFault, interfaces_all, last_section, FailsAfterBlocks, IsPcapngOutcome}
 use Rattle.dbus_capture.proofs.ByteLaws.{bytes_back}
-use Rattle.dbus_capture.proofs.StepLaws.{opens}
-use Rattle.dbus_capture.proofs.PcapOnly.{Comes}
+use Rattle.dbus_capture.proofs.PcapOnly.{Comes, ComesFrom}
 use Rattle.dbus_capture.proofs.EndLaws.{FailsAt, fails_as, fails_after, within_held}
 use Rattle.dbus_capture.proofs.TrailerLaws.{At}
 use Rattle.dbus_capture.proofs.FirstBlocks.{length_told}
@@ -147,9 +146,9 @@ module _ (s : Scan) (a : ℕ) (order : ByteOrder) (interfaces : List Interface) 
 
 -- ---- a file
 
-after_blocks : (passes : Bool) (bytes out : List ℕ) (fault : CaptureFault) → AreBytes bytes → FailsAfterBlocks passes bytes out fault → Comes passes bytes out (Some fault)
+after_blocks : (passes : Bool) (bytes out : List ℕ) (fault : CaptureFault) → AreBytes bytes → FailsAfterBlocks passes bytes out fault → ComesFrom (fresh passes stages.Section) bytes out (Some fault)
 after_blocks passes bytes out fault are f =
-    let s = fresh passes stages.Start in
+    let s = fresh passes stages.Section in
     let front = sections_bytes (f.first ∷ f.sections) in
     let n = length front in
     let w = file_read passes f.first f.sections f.fits f.fit in
@@ -164,26 +163,22 @@ after_blocks passes bytes out fault are f =
       ap (λ (l : List ℕ). (ended (run s l)).fault) f.joined ∙ all.0 ∙ ap (λ (v : ℕ). Some (record { at = v; reason = fault.reason })) (sym f.at),
     )
 
-comes : (passes : Bool) (x : ℕ) (xs out : List ℕ) (fault : Option CaptureFault) → AreBytes (x ∷ xs) → first_stage x ≡ stages.Section → IsPcapngOutcome passes (x ∷ xs) out fault → Comes passes (x ∷ xs) out fault
-comes passes x xs out None are first f =
+comes : (passes : Bool) (bytes out : List ℕ) (fault : Option CaptureFault) → AreBytes bytes → first_stage bytes ≡ stages.Section → IsPcapngOutcome passes bytes out fault → Comes passes bytes out fault
+comes passes bytes out None are first f =
     let whole = (pcapng_read passes f.first f.sections f.fits f.fit).read in (
-      ap (given (fresh passes stages.Start)) f.joined ∙ whole.gives ∙ sym f.gives,
-      ap (λ (l : List ℕ). (ended (run (fresh passes stages.Start) l)).fault) f.joined ∙ whole.unfaulted,
+      ap (λ (l : List ℕ). given (first_scan passes l) l) f.joined ∙ whole.gives ∙ sym f.gives,
+      ap (λ (l : List ℕ). (ended (run (first_scan passes l) l)).fault) f.joined ∙ whole.unfaulted,
     )
-comes passes x xs out (Some fault) are first (inr f) = after_blocks passes (x ∷ xs) out fault are f
-comes passes x xs out (Some fault) are first (inl f) =
-    let bytes = x ∷ xs in
-    let s : Scan = record (fresh passes stages.Start) { head = begun stages.Section } in
-    let opening = opens (fresh passes stages.Start) s x xs (ap (λ (t : Stage). record (fresh passes stages.Start) { head = begun t }) first) refl in
-    let told = first_told s bytes refl refl refl refl refl are f.within fault.reason f.faulty in
-    let zero_more : 0 + f.within ≡ f.within = omega arith in (
-      opening.1 ∙ told.1 ∙ sym f.gives,
-      ap (λ (v : Scan). (ended v).fault) opening.0 ∙ told.0 ∙ ap (λ (n : ℕ). Some (record { at = n; reason = fault.reason })) (ap place zero_more ∙ sym f.at),
-    )
+comes passes bytes out (Some fault) are first (inr f) = subst (λ (v : Stage). ComesFrom (fresh passes v) bytes out (Some fault)) (sym first) (after_blocks passes bytes out fault are f)
+comes passes bytes out (Some fault) are first (inl f) =
+    let told = first_told (fresh passes stages.Section) bytes refl refl refl refl refl are f.within fault.reason f.faulty in
+    let zero_more : 0 + f.within ≡ f.within = omega arith in
+    subst (λ (v : Stage). ComesFrom (fresh passes v) bytes out (Some fault)) (sym first)
+    (told.1 ∙ sym f.gives, told.0 ∙ ap (λ (n : ℕ). Some (record { at = n; reason = fault.reason })) (ap place zero_more ∙ sym f.at))
 
-pub one_pcapng : (passes : Bool) (x : ℕ) (xs out more : List ℕ) (fault other : Option CaptureFault) → AreBytes (x ∷ xs) → first_stage x ≡ stages.Section
-    → IsPcapngOutcome passes (x ∷ xs) out fault → IsPcapngOutcome passes (x ∷ xs) more other → (out ≡ more) × (fault ≡ other)
-one_pcapng passes x xs out more fault other are first f g =
-    let a = comes passes x xs out fault are first f in
-    let b = comes passes x xs more other are first g in
+pub one_pcapng : (passes : Bool) (bytes out more : List ℕ) (fault other : Option CaptureFault) → AreBytes bytes → first_stage bytes ≡ stages.Section
+    → IsPcapngOutcome passes bytes out fault → IsPcapngOutcome passes bytes more other → (out ≡ more) × (fault ≡ other)
+one_pcapng passes bytes out more fault other are first f g =
+    let a = comes passes bytes out fault are first f in
+    let b = comes passes bytes more other are first g in
     (sym a.0 ∙ b.0, sym a.1 ∙ b.1)

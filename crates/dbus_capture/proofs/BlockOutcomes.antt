@@ -10,7 +10,7 @@ use Rattle.dbus_capture.specs.declared.fault.CaptureReason.TheVariants.{Truncate
 use Rattle.dbus_capture.specs.declared.interface.Interface.{Interface}
 use Rattle.dbus_capture.specs.declared.scan.Scan.{Scan}
 use Rattle.dbus_capture.specs.Numbers.{u32_at}
-use Rattle.dbus_capture.specs.Stages.{first_stage, begun}
+use Rattle.dbus_capture.specs.Beginnings.{first_stage, first_scan}
 use Rattle.dbus_capture.specs.Scans.{place, fresh}
 use Rattle.dbus_capture.specs.Steps.{run, ended, given}
 use Rattle.dbus_capture.specs.PcapFaults.{AreBytes}
@@ -21,7 +21,7 @@ use Rattle.dbus_capture.specs.BlockFaults.{IsBlockFault, interfaces_all, last_se
 use Rattle.dbus_capture.proofs.Choices.{cases_same}
 use Rattle.dbus_capture.proofs.KeptLaws.{payload_both}
 use Rattle.dbus_capture.proofs.SectionLaws.{block_ends, order_in, interfaces_in, order_last, interfaces_last}
-use Rattle.dbus_capture.proofs.StepLaws.{run-append, given-append, opens}
+use Rattle.dbus_capture.proofs.StepLaws.{run-append, given-append}
 use Rattle.dbus_capture.proofs.WordLaws.{are_drop}
 use Rattle.dbus_capture.proofs.EndLaws.{FailsAt, fails_as, fails_from, within_held, run_nothing, given_nothing}
 use Rattle.dbus_capture.proofs.TrailerLaws.{At, Stepped}
@@ -322,11 +322,8 @@ start_outcome s bytes are (inr b) =
     (outcome_of (suc (length (drop b.step.total bytes))) b.step.final (0 + b.step.total) b.first.order [] (drop b.step.total bytes) (omega arith) b.step.after (are_drop b.step.total bytes are)))
 
 -- bytes that begin as a file does
-pub pcapng_outcome : (passes : Bool) (x : ℕ) (xs : List ℕ) → AreBytes (x ∷ xs) → first_stage x ≡ stages.Section → IsPcapngOutcome passes (x ∷ xs) (given (fresh passes stages.Start) (x ∷ xs)) (ended (run (fresh passes stages.Start) (x ∷ xs))).fault
-pcapng_outcome passes x xs are first =
-    let bytes = x ∷ xs in
-    let s : Scan = record (fresh passes stages.Start) { head = begun stages.Section } in
-    let opening = opens (fresh passes stages.Start) s x xs (ap (λ (t : Stage). record (fresh passes stages.Start) { head = begun t }) first) refl in
-    subst (λ (l : List ℕ). IsPcapngOutcome passes bytes l (ended (run (fresh passes stages.Start) bytes)).fault) (sym opening.1)
-    (subst (λ (v : Scan). IsPcapngOutcome passes bytes (given s bytes) (ended v).fault) (sym opening.0)
-    (start_outcome s bytes are (first_outcome s bytes refl refl refl refl refl are)))
+pub pcapng_outcome : (passes : Bool) (bytes : List ℕ) → AreBytes bytes → first_stage bytes ≡ stages.Section → IsPcapngOutcome passes bytes (given (first_scan passes bytes) bytes) (ended (run (first_scan passes bytes) bytes)).fault
+pcapng_outcome passes bytes are first =
+    let s = fresh passes stages.Section in
+    subst (λ (v : Stage). IsPcapngOutcome passes bytes (given (fresh passes v) bytes) (ended (run (fresh passes v) bytes)).fault) (sym first)
+    (start_outcome s bytes are (first_outcome s bytes refl refl refl refl refl are))

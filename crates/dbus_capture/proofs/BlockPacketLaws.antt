@@ -1,9 +1,11 @@
 -- What is read of the sections of a pcapng file: its packets.
 use Rattle.std.proofs.Common.{◌≡◌, ℕ, ◌+◌, ◌<◌, Bool, List, [], ◌∷◌, ◌++◌, length, Some, refl, sym, ap, ◌∙◌, arith, append_assoc, append-nil}
 use Rattle.std.specs.Prelude.{slice_get}
+use Rattle.dbus_capture.specs.declared.stage.Stage.{Stage}
 use Rattle.dbus_capture.specs.declared.stage.Stage.TheVariants as stages
 use Rattle.dbus_capture.specs.declared.interface.Interface.{Interface}
 use Rattle.dbus_capture.specs.declared.scan.Scan.{Scan}
+use Rattle.dbus_capture.specs.Beginnings.{first_stage, first_scan}
 use Rattle.dbus_capture.specs.Scans.{place, fresh}
 use Rattle.dbus_capture.specs.Steps.{run, given, packet_given, ended}
 use Rattle.dbus_capture.specs.Reading.{IsReadOf}
@@ -16,20 +18,22 @@ use Rattle.dbus_device.specs.declared.packet.Packet.{Packet}
 use Rattle.dbus_capture.proofs.PacketSteps.{packet_after}
 use Rattle.dbus_capture.proofs.StepLaws.{run-append, given-append}
 use Rattle.dbus_capture.proofs.BlockLaws.{Begins, still_told, hands_on, block_reported}
-use Rattle.dbus_capture.proofs.SectionLaws.{file_read, block_ends}
+use Rattle.dbus_capture.proofs.SectionLaws.{file_read, block_ends, first_of_sections}
 
 -- ---- a whole file
 
 pub pcapng_read : (passes : Bool) (x : FileSection) (sections : List FileSection) → FitsSection passes x → AllFitSections passes sections → IsReadOf passes (sections_bytes (x ∷ sections)) (sections_packets (x ∷ sections))
 pcapng_read passes x sections f g =
     let w = file_read passes x sections f g in
+    let bytes = sections_bytes (x ∷ sections) in
+    let first : first_stage bytes ≡ stages.Section = ap first_stage (sym (append-nil bytes)) ∙ first_of_sections x sections [] in
     let zero_more : 0 + cut_count (sections_packets (x ∷ sections)) ≡ cut_count (sections_packets (x ∷ sections)) = omega arith in
     record {
       read = record {
-        gives = w.gave;
-        unfaulted = ap (λ (v : Scan). (ended v).fault) w.ran ∙ ap (λ (v : Scan). v.fault) (block_ends w.final w.stands.ready) ∙ w.stands.ready.unfaulted;
+        gives = ap (λ (v : Stage). given (fresh passes v) bytes) first ∙ w.gave;
+        unfaulted = ap (λ (v : Stage). (ended (run (fresh passes v) bytes)).fault) first ∙ ap (λ (v : Scan). (ended v).fault) w.ran ∙ ap (λ (v : Scan). v.fault) (block_ends w.final w.stands.ready) ∙ w.stands.ready.unfaulted;
       };
-      counted = ap (λ (v : Scan). v.cut) w.ran ∙ w.kept.cut refl ∙ ap place zero_more;
+      counted = ap (λ (v : Stage). (run (fresh passes v) bytes).cut) first ∙ ap (λ (v : Scan). v.cut) w.ran ∙ w.kept.cut refl ∙ ap place zero_more;
     }
 
 -- ---- what is reported of a packet
@@ -43,7 +47,7 @@ place_zero n = omega arith
 module _ (passes : Bool) (x : FileSection) (sections : List FileSection) (i : Interface) (block : FileBlock) (f : FitsSection passes x) (g : AllFitSections passes sections) (fits : FitsBlock passes (interfaces_all [] (last_section x sections).blocks) block)
     (body : FitsBody (block_body (last_section x sections).order block)) (timed : IsTimed block) (found : slice_get (interfaces_all [] (last_section x sections).blocks) (interface_of block) ≡ Some i) (link_type : i.link_type ≡ 231) (captured : packet_original block ≡ length (packet_bytes block)) where
   abbrev s : Scan
-  s = fresh passes stages.Start
+  s = fresh passes stages.Section
 
   abbrev before : List ℕ
   before = sections_bytes (x ∷ sections)
@@ -75,10 +79,17 @@ module _ (passes : Bool) (x : FileSection) (sections : List FileSection) (i : In
             ∙ ap (λ (n : ℕ). Some (record { number = place (whole_count packets + 1); at = n; time = packet_time i block; length = length (packet_bytes block) })) at;
       }
 
-  pub pcapng_reported : (front back : List ℕ) → packet_bytes block ≡ front ++ back → Reports (run s (before ++ (head ++ front))) packet
-  pcapng_reported front back e = ap (λ (l : List ℕ). (run s l).packet) (sym (append_assoc before head front)) ∙ still_told s (before ++ head) (packet_bytes block) (whole_payload (sections_packets (x ∷ sections))) front back packet begun e
+  pub pcapng_reported : (front back : List ℕ) → packet_bytes block ≡ front ++ back → Reports (run (first_scan passes (before ++ (head ++ front))) (before ++ (head ++ front))) packet
+  pcapng_reported front back e =
+      ap (λ (v : Stage). (run (fresh passes v) (before ++ (head ++ front))).packet) (first_of_sections x sections (head ++ front))
+      ∙ ap (λ (l : List ℕ). (run s l).packet) (sym (append_assoc before head front)) ∙ still_told s (before ++ head) (packet_bytes block) (whole_payload (sections_packets (x ∷ sections))) front back packet begun e
 
-  pub pcapng_packet_of : (more : List ℕ) (n : ℕ) → n < length (packet_bytes block) → packet_given s ((before ++ head) ++ (packet_bytes block ++ more)) (length (whole_payload (sections_packets (x ∷ sections))) + n) ≡ Some packet
+  abbrev followed : List ℕ → List ℕ
+  followed more = (before ++ head) ++ (packet_bytes block ++ more)
+
+  pub pcapng_packet_of : (more : List ℕ) (n : ℕ) → n < length (packet_bytes block) → packet_given (first_scan passes (followed more)) (followed more) (length (whole_payload (sections_packets (x ∷ sections))) + n) ≡ Some packet
   pcapng_packet_of more n low =
-      packet_after s (before ++ head) (packet_bytes block) more (length (whole_payload (sections_packets (x ∷ sections)))) n (ap length begun.gave) (hands_on s (before ++ head) (packet_bytes block) (whole_payload (sections_packets (x ∷ sections))) packet begun) low
+      let first : first_stage (followed more) ≡ stages.Section = ap first_stage (append_assoc before head (packet_bytes block ++ more)) ∙ first_of_sections x sections (head ++ (packet_bytes block ++ more)) in
+      ap (λ (v : Stage). packet_given (fresh passes v) (followed more) (length (whole_payload (sections_packets (x ∷ sections))) + n)) first
+      ∙ packet_after s (before ++ head) (packet_bytes block) more (length (whole_payload (sections_packets (x ∷ sections)))) n (ap length begun.gave) (hands_on s (before ++ head) (packet_bytes block) (whole_payload (sections_packets (x ∷ sections))) packet begun) low
       ∙ ap (λ (v : Scan). v.packet) begun.ran ∙ begun.told

@@ -14,7 +14,7 @@ use Rattle.dbus_device.specs.declared.packet.Packet.{Packet}
 use Rattle.dbus_capture.specs.declared.scan.Scan.{Scan}
 use Rattle.dbus_capture.specs.declared.capture.Capture.{Capture}
 use Rattle.dbus_capture.specs.Steps.{Turn, turn_of, may_end, run, told, given, ended, IsPart}
-use Rattle.dbus_capture.specs.Captures.{given_of, source_of, scan_of, kept_of, file_of, left_of, gave_up_of, calls_of, last_packet_of, failures_of, Fills, HandsOn, Reads, GivesPart, Ends, IsUnfailed, GivesUp, ReadsPart, AreNeeded, Asks}
+use Rattle.dbus_capture.specs.Captures.{given_of, source_of, scan_of, kept_of, file_of, gave_up_of, calls_of, last_packet_of, failures_of, Fills, HandsOn, Reads, GivesPart, Ends, IsUnfailed, GivesUp, ReadsPart, AreNeeded, Asks}
 use Rattle.dbus_capture.specs.Stages.{is_raw}
 use Rattle.dbus_capture.proofs.Choices.{when_true}
 use Rattle.dbus_capture.proofs.StepLaws.{run-append, given-append, run_stopped, run_raw, none_of, turn_passes}
@@ -120,7 +120,7 @@ given_front s t (Some x) None used out c gave ran = absurd c
 given_front s t (Some x) (Some y) used out c gave ran =
     ap (given s) c ∙ given-append s used y ∙ ap (λ l. l ++ given (run s used) y) gave ∙ ap (λ (v : Scan). out ++ given v y) (sym ran)
 
-given_stopped : (t : Scan) (b : Option (List ℕ)) → is_some t.fault ≡ true → IsAtEnd (given_of t b)
+pub given_stopped : (t : Scan) (b : Option (List ℕ)) → is_some t.fault ≡ true → IsAtEnd (given_of t b)
 given_stopped t None p = tt
 given_stopped t (Some y) p = (run_stopped t y p).1
 
@@ -140,12 +140,16 @@ keeps_from None b c = tt
 keeps_from (Some x) None c = absurd c
 keeps_from (Some x) (Some y) c = sym c
 
-pub reads_keep : {R : Type 0} (left : R → Option (List ℕ)) (old new : Capture R) → Reads left old new [] → Keeps (left_of left old) (left_of left new)
+-- what is left to give, if it is known what the input is
+abbrev pub rest_of : {R : Type 0} → (R → Option (List ℕ)) → Capture R → Option (List ℕ)
+rest_of left s = given_of (scan_of s) (file_of left s)
+
+pub reads_keep : {R : Type 0} (left : R → Option (List ℕ)) (old new : Capture R) → Reads left old new [] → Keeps (rest_of left old) (rest_of left new)
 reads_keep left old new r =
-    keeps_from (left_of left old) (left_of left new) (given_front (scan_of old) (scan_of new) (file_of left old) (file_of left new) r.used [] r.consumed r.gave r.ran)
+    keeps_from (rest_of left old) (rest_of left new) (given_front (scan_of old) (scan_of new) (file_of left old) (file_of left new) r.used [] r.consumed r.gave r.ran)
 
 module _ {R : Type 0} (left : R → Option (List ℕ)) (failures : R → ℕ) where
-  pub part_gives : (old new : Capture R) (r : Result ℕ DeviceFault) (buffer : List ℕ) → ReadsPart left failures old new r buffer → ReadConsumes (left_of left old) (left_of left new) r buffer
+  pub part_gives : (old new : Capture R) (r : Result ℕ DeviceFault) (buffer : List ℕ) → ReadsPart left failures old new r buffer → ReadConsumes (rest_of left old) (rest_of left new) r buffer
   part_gives old new (Err e) buffer (inl f) = reads_keep left old new f.reads
   part_gives old new (Err e) buffer (inr f) = reads_keep left old new f.reads
   part_gives old new (Ok n) buffer (_, inl r) = (
@@ -154,7 +158,7 @@ module _ {R : Type 0} (left : R → Option (List ℕ)) (failures : R → ℕ) wh
   )
   part_gives old new (Ok n) buffer (_, inr r) =
       let both = given_end (scan_of old) (scan_of new) (file_of left old) (left (source_of new)) r.1.used (kept_of new) r.1.consumed r.1.gave r.1.nothing r.1.at_end in (
-        subst (λ (k : ℕ). Consumes (left_of left old) (left_of left new) (take k buffer)) (sym r.0) both.0,
+        subst (λ (k : ℕ). Consumes (rest_of left old) (rest_of left new) (take k buffer)) (sym r.0) both.0,
         λ zero room. both.1,
       )
 
@@ -164,43 +168,23 @@ module _ {R : Type 0} (left : R → Option (List ℕ)) (failures : R → ℕ) wh
   part_fails old new (Err e) buffer (inl f) = let a = f.source in let b = f.gave_up in omega (arith, a, b)
   part_fails old new (Err e) buffer (inr f) = let a = f.source in let b = f.gave_up in omega (arith, a, b)
 
-  -- ---- the count of calls
-
-  recounted : (old new : Capture R) (n : ℕ) (p : old.start ≤ old.end) (q : old.end ≤ 65536) (out : List ℕ) → Reads left (record old { calls = n; in_order = p; in_room = q }) new out → Reads left old new out
-  recounted old new n p q out r = record { used = r.used; consumed = r.consumed; gave = r.gave; ran = r.ran }
-
-  -- how often it was called does not matter
-  pub part_counted : (old new : Capture R) (n : ℕ) (p : old.start ≤ old.end) (q : old.end ≤ 65536) (r : Result ℕ DeviceFault) (buffer : List ℕ)
-      → ReadsPart left failures (record old { calls = n; in_order = p; in_room = q }) new r buffer → ReadsPart left failures old new r buffer
-  unfolding recounted
-  part_counted old new n p q (Err e) buffer (inl f) = inl (record { reads = recounted old new n p q [] f.reads; source = f.source; gave_up = f.gave_up; nothing = f.nothing })
-  part_counted old new n p q (Err e) buffer (inr f) = inr (record { reads = recounted old new n p q [] f.reads; many = f.many; source = f.source; gave_up = f.gave_up })
-  part_counted old new n p q (Ok k) buffer (u, inl w) = (
-    record { source = u.source; gave_up = u.gave_up },
-    inl (record { reads = recounted old new n p q (take k buffer) w.0.reads; one = w.0.one }, w.1),
-  )
-  part_counted old new n p q (Ok k) buffer (u, inr w) = (
-    record { source = u.source; gave_up = u.gave_up },
-    inr (w.0, record { used = w.1.used; consumed = w.1.consumed; gave = w.1.gave; ran = w.1.ran; nothing = w.1.nothing; at_end = w.1.at_end }),
-  )
-
   -- ---- the packet of what was handed on
 
-  repacked : (old new : Capture R) (packet : Option Packet) (p : new.start ≤ new.end) (q : new.end ≤ 65536) (out : List ℕ) → Reads left old new out → Reads left old (record new { packet = packet; in_order = p; in_room = q }) out
-  repacked old new packet p q out r = record { used = r.used; consumed = r.consumed; gave = r.gave; ran = r.ran }
+  repacked : (old new : Capture R) (packet : Option Packet) (p : new.start ≤ new.end) (q : new.end ≤ 65536) (u : new.chosen ≡ false → new.start ≡ 0) (out : List ℕ) → Reads left old new out → Reads left old (record new { packet = packet; in_order = p; in_room = q; untaken = u }) out
+  repacked old new packet p q u out r = record { used = r.used; consumed = r.consumed; gave = r.gave; ran = r.ran }
 
   -- which packet that was does not matter
-  pub part_repacked : (old new : Capture R) (packet : Option Packet) (p : new.start ≤ new.end) (q : new.end ≤ 65536) (r : Result ℕ DeviceFault) (buffer : List ℕ)
-      → ReadsPart left failures old new r buffer → ReadsPart left failures old (record new { packet = packet; in_order = p; in_room = q }) r buffer
+  pub part_repacked : (old new : Capture R) (packet : Option Packet) (p : new.start ≤ new.end) (q : new.end ≤ 65536) (u : new.chosen ≡ false → new.start ≡ 0) (r : Result ℕ DeviceFault) (buffer : List ℕ)
+      → ReadsPart left failures old new r buffer → ReadsPart left failures old (record new { packet = packet; in_order = p; in_room = q; untaken = u }) r buffer
   unfolding repacked
-  part_repacked old new packet p q (Err e) buffer (inl f) = inl (record { reads = repacked old new packet p q [] f.reads; source = f.source; gave_up = f.gave_up; nothing = f.nothing })
-  part_repacked old new packet p q (Err e) buffer (inr f) = inr (record { reads = repacked old new packet p q [] f.reads; many = f.many; source = f.source; gave_up = f.gave_up })
-  part_repacked old new packet p q (Ok k) buffer (u, inl w) = (
-    record { source = u.source; gave_up = u.gave_up },
-    inl (record { reads = repacked old new packet p q (take k buffer) w.0.reads; one = w.0.one }, w.1),
+  part_repacked old new packet p q u (Err e) buffer (inl f) = inl (record { reads = repacked old new packet p q u [] f.reads; source = f.source; gave_up = f.gave_up; nothing = f.nothing })
+  part_repacked old new packet p q u (Err e) buffer (inr f) = inr (record { reads = repacked old new packet p q u [] f.reads; many = f.many; source = f.source; gave_up = f.gave_up })
+  part_repacked old new packet p q u (Ok k) buffer (f, inl w) = (
+    record { source = f.source; gave_up = f.gave_up },
+    inl (record { reads = repacked old new packet p q u (take k buffer) w.0.reads; one = w.0.one }, w.1),
   )
-  part_repacked old new packet p q (Ok k) buffer (u, inr w) = (
-    record { source = u.source; gave_up = u.gave_up },
+  part_repacked old new packet p q u (Ok k) buffer (f, inr w) = (
+    record { source = f.source; gave_up = f.gave_up },
     inr (w.0, record { used = w.1.used; consumed = w.1.consumed; gave = w.1.gave; ran = w.1.ran; nothing = w.1.nothing; at_end = w.1.at_end }),
   )
 
@@ -349,11 +333,11 @@ module _ {R : Type 0} (left : R → Option (List ℕ)) (asked failures : R → �
     found = inr ends;
   }
 
-  -- how often it was called does not matter, nor which packet what it handed on was of
-  pub asks_counted : (old new : Capture R) (n : ℕ) (p : old.start ≤ old.end) (q : old.end ≤ 65536) (packet : Option Packet) (u : new.start ≤ new.end) (v : new.end ≤ 65536) (r : Result ℕ DeviceFault)
-      → Asks left asked (record old { calls = n; in_order = p; in_room = q }) new r → Asks left asked old (record new { packet = packet; in_order = u; in_room = v }) r
-  asks_counted old new n p q packet u v (Err e) a = record { pieces = a.pieces; called = a.called; needed = a.needed; found = ⊎_elim inl (λ w. inr tt) a.found }
-  asks_counted old new n p q packet u v (Ok k) a = record {
+  -- which packet what it handed on was of does not matter
+  pub asks_repacked : (old new : Capture R) (packet : Option Packet) (p : new.start ≤ new.end) (q : new.end ≤ 65536) (u : new.chosen ≡ false → new.start ≡ 0) (r : Result ℕ DeviceFault)
+      → Asks left asked old new r → Asks left asked old (record new { packet = packet; in_order = p; in_room = q; untaken = u }) r
+  asks_repacked old new packet p q u (Err e) a = record { pieces = a.pieces; called = a.called; needed = a.needed; found = ⊎_elim inl (λ w. inr tt) a.found }
+  asks_repacked old new packet p q u (Ok k) a = record {
     pieces = a.pieces;
     called = a.called;
     needed = a.needed;
@@ -372,7 +356,7 @@ consumed_below None b k l used p q c = tt
 consumed_below (Some x) None k l used p q c = absurd c
 consumed_below (Some x) (Some y) k l used p q c = ap (λ z. z ++ x) p ∙ c ∙ ap (λ z. used ++ (z ++ y)) (sym q)
 
-consumes_kept : (a b : Option (List ℕ)) → Keeps a b → Consumes a b []
+pub consumes_kept : (a b : Option (List ℕ)) → Keeps a b → Consumes a b []
 consumes_kept None b k = tt
 consumes_kept (Some x) None k = absurd k
 consumes_kept (Some x) (Some y) k = sym k

@@ -4,7 +4,7 @@ use Rattle.dbus_capture.specs.declared.scan.Scan.{Scan}
 use Rattle.dbus_capture.specs.Stages.{want, is_raw, is_filed, begun}
 use Rattle.dbus_capture.specs.Blocks.{decoded}
 use Rattle.dbus_capture.specs.Steps.{Gathers, turn_of, gathered, run, told, given}
-use Rattle.dbus_capture.proofs.StepLaws.{opened_filed, filed_not_raw, turn_gathers, run_first, given_first}
+use Rattle.dbus_capture.proofs.StepLaws.{filed_not_raw, turn_gathers, run_first, given_first}
 
 eq_same : (a b : ℕ) → a ≡ b → nat_eq a b ≡ true
 eq_same a b e = grind (arith, e)
@@ -33,7 +33,6 @@ unfolding run given told
 run_gathers s [] p q z k h = (ap (λ (l : List ℕ). record s { head = record { stage = s.head.stage; bytes = l } }) (sym (append-nil s.head.bytes)), refl)
 run_gathers s (x ∷ xs) p q z k h =
     let held = s.head.bytes in
-    let o = opened_filed s.fault s.head.stage s x q in
     let t : turn_of s ≡ Gathers = turn_gathers s.fault (is_raw s.head.stage) s.give s.skip p (filed_not_raw s.head.stage q) z k in
     let longer = one_more held x in
     let less : length (held ++ x ∷ []) < want s.head.stage = omega (arith, h, longer) in
@@ -41,9 +40,9 @@ run_gathers s (x ∷ xs) p q z k h =
     let now : gathered s (held ++ x ∷ []) ≡ next = gathered_more s (held ++ x ∷ []) less in
     let fewer : length (held ++ x ∷ []) + length xs < want s.head.stage = omega (arith, h, longer) in
     let rest = run_gathers next xs p q z k fewer in (
-      run_first s x Gathers xs o t ∙ ap (λ v. run v xs) now ∙ rest.0
+      run_first s x Gathers xs t ∙ ap (λ v. run v xs) now ∙ rest.0
           ∙ ap (λ (l : List ℕ). record s { head = record { stage = s.head.stage; bytes = l } }) (regrouped held x xs),
-      given_first s x Gathers xs o t ∙ ap (λ v. given v xs) now ∙ rest.1,
+      given_first s x Gathers xs t ∙ ap (λ v. given v xs) now ∙ rest.1,
     )
 
 -- the whole head
@@ -53,14 +52,12 @@ unfolding run given told
 run_head s [] p q z k some h = absurd (some refl)
 run_head s (x ∷ []) p q z k some h =
     let held = s.head.bytes in
-    let o = opened_filed s.fault s.head.stage s x q in
     let t : turn_of s ≡ Gathers = turn_gathers s.fault (is_raw s.head.stage) s.give s.skip p (filed_not_raw s.head.stage q) z k in
     let longer = one_more held x in
     let all : length (held ++ x ∷ []) ≡ want s.head.stage = omega (arith, h, longer) in
-    (run_first s x Gathers [] o t ∙ gathered_all s (held ++ x ∷ []) all, given_first s x Gathers [] o t)
+    (run_first s x Gathers [] t ∙ gathered_all s (held ++ x ∷ []) all, given_first s x Gathers [] t)
 run_head s (x ∷ y ∷ xs) p q z k some h =
     let held = s.head.bytes in
-    let o = opened_filed s.fault s.head.stage s x q in
     let t : turn_of s ≡ Gathers = turn_gathers s.fault (is_raw s.head.stage) s.give s.skip p (filed_not_raw s.head.stage q) z k in
     let longer = one_more held x in
     let less : length (held ++ x ∷ []) < want s.head.stage = omega (arith, h, longer) in
@@ -68,7 +65,7 @@ run_head s (x ∷ y ∷ xs) p q z k some h =
     let now : gathered s (held ++ x ∷ []) ≡ next = gathered_more s (held ++ x ∷ []) less in
     let fewer : length (held ++ x ∷ []) + length (y ∷ xs) ≡ want s.head.stage = omega (arith, h, longer) in
     let rest = run_head next (y ∷ xs) p q z k (λ e. cc) fewer in (
-      run_first s x Gathers (y ∷ xs) o t ∙ ap (λ v. run v (y ∷ xs)) now ∙ rest.0
+      run_first s x Gathers (y ∷ xs) t ∙ ap (λ v. run v (y ∷ xs)) now ∙ rest.0
           ∙ ap (λ (l : List ℕ). decoded (record s { head = begun s.head.stage }) l) (regrouped held x (y ∷ xs)),
-      given_first s x Gathers (y ∷ xs) o t ∙ ap (λ v. given v (y ∷ xs)) now ∙ rest.1,
+      given_first s x Gathers (y ∷ xs) t ∙ ap (λ v. given v (y ∷ xs)) now ∙ rest.1,
     )

@@ -1,7 +1,9 @@
 pub mod StepLaws
+pub mod FirstLaws
 pub mod HeadLaws
 pub mod CaptureSteps
 pub mod PacketSteps
+pub mod BeginSteps
 pub mod NumberLaws
 pub mod Choices
 pub mod KeptLaws

@@ -1,7 +1,7 @@
 -- Numbers that are read where they were written.
-use Rattle.std.proofs.Common.{◌≡◌, ℕ, ◌+◌, ◌-◌, ◌<◌, ◌^◌, List, [], ◌++◌, length, take, drop, refl, sym, ap, ◌∙◌, arith, append-nil}
+use Rattle.std.proofs.Common.{◌≡◌, ℕ, ◌+◌, ◌-◌, ◌<◌, ◌≤◌, ◌^◌, List, [], ◌++◌, length, take, drop, refl, sym, ap, ◌∙◌, arith, append-nil}
 use Rattle.std.specs.List.{slice_range}
-use Rattle.std.proofs.lemmas.List.{take_at, drop_at}
+use Rattle.std.proofs.lemmas.List.{take_at, drop_at, length-drop, drop-append-le, take-append-le}
 use Rattle.std.proofs.lemmas.Nat.{from_le_bytes-to_le_bytes_4, from_be_bytes-to_be_bytes_4, from_le_bytes-to_le_bytes_2, from_be_bytes-to_be_bytes_2}
 use Rattle.dbus_capture.specs.declared.byte_order.ByteOrder.{ByteOrder}
 use Rattle.dbus_capture.specs.declared.byte_order.ByteOrder.TheVariants.{Little, Big}
@@ -38,3 +38,18 @@ u16_after o front n rest k f h = ap (u16_of o) (part_after front (u16_bytes o n)
 -- the last part
 pub u32_last : (o : ByteOrder) (front : List ℕ) (n k : ℕ) → length front ≡ k → n < 2 ^ 32 → u32_at o k (front ++ u32_bytes o n) ≡ n
 u32_last o front n k f h = ap (λ l. u32_at o k (front ++ l)) (sym (append-nil (u32_bytes o n))) ∙ u32_after o front n [] k f h
+
+-- ---- in front of more bytes
+
+part_of_front : (front more : List ℕ) (k n : ℕ) → k + n ≤ length front → slice_range (front ++ more) k (k + n) ≡ slice_range front k (k + n)
+part_of_front front more k n h =
+    let size : k + n - k ≡ n = omega arith in
+    let left = length-drop k front in
+    ap (λ m. take m (drop k (front ++ more))) size ∙ ap (take n) (drop-append-le k front more (omega (arith, h)))
+    ∙ take-append-le n (drop k front) more (omega (arith, h, left)) ∙ ap (λ m. take m (drop k front)) (sym size)
+
+pub u32_in_front : (o : ByteOrder) (front more : List ℕ) (k : ℕ) → k + 4 ≤ length front → u32_at o k (front ++ more) ≡ u32_at o k front
+u32_in_front o front more k h = ap (u32_of o) (part_of_front front more k 4 h)
+
+pub u16_in_front : (o : ByteOrder) (front more : List ℕ) (k : ℕ) → k + 2 ≤ length front → u16_at o k (front ++ more) ≡ u16_at o k front
+u16_in_front o front more k h = ap (u16_of o) (part_of_front front more k 2 h)

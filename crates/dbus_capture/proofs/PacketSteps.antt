@@ -5,17 +5,15 @@ use Rattle.std.proofs.lemmas.List.{length-take-le, get_or_append_left, get_or-ap
 use Rattle.dbus_device.specs.declared.device_fault.DeviceFault.{DeviceFault}
 use Rattle.dbus_device.specs.declared.packet.Packet.{Packet}
 use Rattle.dbus_device.specs.Packets.{Packets, PacketsAfter, AreOfPacket, ReadsOfPacket}
-use Rattle.dbus_capture.specs.declared.fault.CaptureFault.{CaptureFault}
-use Rattle.dbus_capture.specs.declared.stage.Stage.{Stage}
-use Rattle.dbus_capture.specs.declared.stage.Stage.TheVariants.{Start, Raw}
+use Rattle.dbus_capture.specs.declared.stage.Stage.TheVariants.{Raw}
 use Rattle.dbus_capture.specs.declared.scan.Scan.{Scan}
 use Rattle.dbus_capture.specs.declared.capture.Capture.{Capture}
-use Rattle.dbus_capture.specs.Stages.{begun, is_raw, first_stage}
-use Rattle.dbus_capture.specs.Scans.{fresh}
-use Rattle.dbus_capture.specs.Steps.{Turn, Stays, Passes, Gives, Skips, Gathers, turn_of, stepped, with_byte, opened_by, opened, step, run, told, given, packets_given, packet_given}
-use Rattle.dbus_capture.specs.Captures.{scan_of, source_of, kept_of, file_of, packets_by, packets_of, ReadsPart}
+use Rattle.dbus_capture.specs.Stages.{is_raw}
+use Rattle.dbus_capture.specs.Beginnings.{first_stage, first_scan}
+use Rattle.dbus_capture.specs.Steps.{Turn, Stays, Passes, Gives, Skips, Gathers, turn_of, stepped, with_byte, step, run, told, given, packets_given, packet_given}
+use Rattle.dbus_capture.specs.Captures.{scan_of, source_of, kept_of, file_of, packets_by, ReadsPart}
 use Rattle.dbus_capture.specs.Packets.{last_packet}
-use Rattle.dbus_capture.proofs.StepLaws.{run-append, told-append, opened_raw, opens, run_raw}
+use Rattle.dbus_capture.proofs.StepLaws.{run-append, told-append, run_raw}
 
 -- ---- as many packets as bytes
 
@@ -29,7 +27,7 @@ with_byte-size Gathers a b xs ys e = e
 told-size : {A B : Type 0} (f : Scan → ℕ → A) (g : Scan → ℕ → B) (s : Scan) (xs : List ℕ) → length (told f s xs) ≡ length (told g s xs)
 unfolding told
 told-size f g s [] = refl
-told-size f g s (x ∷ xs) = with_byte-size (turn_of (opened s x)) (f s x) (g s x) (told f (step s x) xs) (told g (step s x) xs) (told-size f g (step s x) xs)
+told-size f g s (x ∷ xs) = with_byte-size (turn_of s) (f s x) (g s x) (told f (step s x) xs) (told g (step s x) xs) (told-size f g (step s x) xs)
 
 packets-size : (s : Scan) (xs : List ℕ) → length (packets_given s xs) ≡ length (given s xs)
 unfolding packets_given given
@@ -59,14 +57,9 @@ told-most : {A : Type 0} (f : Scan → ℕ → A) (s : Scan) (xs : List ℕ) →
 unfolding told
 told-most f s [] = omega arith
 told-most f s (x ∷ xs) =
-    let here = with_byte-most (turn_of (opened s x)) (f s x) (told f (step s x) xs) in
+    let here = with_byte-most (turn_of s) (f s x) (told f (step s x) xs) in
     let more = told-most f (step s x) xs in
     omega (arith, here, more)
-
-opened_packet : (f : Option CaptureFault) (stage : Stage) (s : Scan) (b : ℕ) → (opened_by f stage s b).packet ≡ s.packet
-opened_packet (Some f) stage s b = refl
-opened_packet None Start s b = refl
-opened_packet None _ s b = refl
 
 -- a byte is handed on, if as many are as there are
 stepped_packet : (v : Scan) (b : ℕ) (t : Turn) (packet : Option Packet) (rest : List (Option Packet)) (n : ℕ) → length rest ≤ n → length (with_byte t packet rest) ≡ suc n
@@ -83,8 +76,8 @@ unfolding run packets_given told step
 one_packet s [] e = (refl, refl)
 one_packet s (x ∷ xs) e =
     let rest = packets_given (step s x) xs in
-    let here = stepped_packet (opened s x) x (turn_of (opened s x)) s.packet rest (length xs) (told-most (λ t b. t.packet) (step s x) xs) e in
-    let same : (step s x).packet ≡ s.packet = here.0 ∙ opened_packet s.fault s.head.stage s x in
+    let here = stepped_packet s x (turn_of s) s.packet rest (length xs) (told-most (λ t b. t.packet) (step s x) xs) e in
+    let same : (step s x).packet ≡ s.packet = here.0 in
     let all = ap length here.1 in
     let more = one_packet (step s x) xs (omega (arith, e, all)) in (
       more.0 ∙ same,
@@ -129,14 +122,18 @@ packets_read s (Some x) (Some y) before last used n c joined size none gave = λ
     ∙ ap (λ l. get_or l i None) (all ∙ one.1) ∙ get_or-replicate (length last) i u.packet None (omega (arith, low, size))
     ∙ sym (ap (λ (v : Scan). v.packet) (ap (run s) joined ∙ run-append s before last) ∙ one.0)
 
-of_none : (a : Option Packets) (packet : Option Packet) → AreOfPacket 0 a packet
+-- of which packet each byte is that is left to give, if it is known what the input is
+abbrev pub packets_rest : {R : Type 0} → (R → Option (List ℕ)) → Capture R → Option Packets
+packets_rest left s = packets_by (scan_of s) (file_of left s)
+
+pub of_none : (a : Option Packets) (packet : Option Packet) → AreOfPacket 0 a packet
 of_none None packet = tt
 of_none (Some packets) packet = λ i low. absurd (omega (arith, low))
 
 -- what was read is of the packet that began last
 pub part_packets : {R : Type 0} (left : R → Option (List ℕ)) (failures : R → ℕ) (old new : Capture R) (r : Result ℕ DeviceFault) (buffer : List ℕ) (before : Option Packet)
     → MatchResult r (λ n. n ≤ length buffer) (λ e. Unit {0}) → ReadsPart left failures old new r buffer
-    → ReadsOfPacket (packets_of left old) (packets_of left new) (last_packet r (scan_of new).packet before) r
+    → ReadsOfPacket (packets_rest left old) (packets_rest left new) (last_packet r (scan_of new).packet before) r
 part_packets left failures old new (Err e) buffer before b (inl f) =
     let r = f.reads in packets_left (scan_of old) (scan_of new) (file_of left old) (file_of left new) r.used 0 r.consumed (ap length r.gave) r.ran
 part_packets left failures old new (Err e) buffer before b (inr f) =
@@ -144,19 +141,19 @@ part_packets left failures old new (Err e) buffer before b (inr f) =
 part_packets left failures old new (Ok zero) buffer before b (u, inl g) =
     let r = g.0.reads in (
       packets_left (scan_of old) (scan_of new) (file_of left old) (file_of left new) r.used 0 r.consumed (ap length r.gave) r.ran,
-      of_none (packets_of left old) before,
+      of_none (packets_rest left old) before,
     )
 part_packets left failures old new (Ok (suc n)) buffer before b (u, inl g) =
     let r = g.0.reads in
     let one = g.0.one (omega arith) in
     let size = ap length r.gave ∙ length-take-le (suc n) buffer b in (
       packets_left (scan_of old) (scan_of new) (file_of left old) (file_of left new) r.used (suc n) r.consumed size r.ran,
-      subst (AreOfPacket (suc n) (packets_of left old)) (sym (ap (λ (v : Scan). v.packet) r.ran))
+      subst (AreOfPacket (suc n) (packets_rest left old)) (sym (ap (λ (v : Scan). v.packet) r.ran))
           (packets_read (scan_of old) (file_of left old) (file_of left new) one.before one.last r.used (suc n) r.consumed one.joined one.size one.nothing size),
     )
 part_packets left failures old new (Ok zero) buffer before b (u, inr g) = (
   packets_end (scan_of old) (scan_of new) (file_of left old) (left (source_of new)) g.1.used (kept_of new) g.1.consumed g.1.gave g.1.nothing g.1.at_end,
-  of_none (packets_of left old) before,
+  of_none (packets_rest left old) before,
 )
 part_packets left failures old new (Ok (suc n)) buffer before b (u, inr g) = absurd (let zero = g.0 in omega (arith, zero))
 
@@ -180,11 +177,8 @@ defaults zero i packet = refl
 defaults (suc n) zero packet = refl
 defaults (suc n) (suc i) packet = defaults n i packet
 
-pub stream_packets : (passes : Bool) (first : ℕ) (rest : List ℕ) (i : ℕ) → first_stage first ≡ Raw → packet_given (fresh passes Start) (first ∷ rest) i ≡ None
-stream_packets passes first rest i raw =
-    let s = fresh passes Start in
-    let t : Scan = record s { head = begun (first_stage first) } in
-    let is = ap is_raw raw in
-    let same = (opens s t first rest refl (opened_raw None (first_stage first) t first is)).1 ∙ (run_raw t (first ∷ rest) refl is).1 in
-    let one = one_packet s (first ∷ rest) (packets-size s (first ∷ rest) ∙ ap length same) in
-    ap (λ l. get_or l i None) one.1 ∙ defaults (length (first ∷ rest)) i None
+pub stream_packets : (passes : Bool) (bytes : List ℕ) (i : ℕ) → first_stage bytes ≡ Raw → packet_given (first_scan passes bytes) bytes i ≡ None
+stream_packets passes bytes i raw =
+    let s = first_scan passes bytes in
+    let one = one_packet s bytes (packets-size s bytes ∙ ap length (run_raw s bytes refl (ap is_raw raw)).1) in
+    ap (λ l. get_or l i None) one.1 ∙ defaults (length bytes) i None

@@ -1,16 +1,15 @@
 -- The header of a pcap file is read as it is spelled, and so is the whole file.
-use Rattle.std.proofs.Common.{◌≡◌, ℕ, ◌+◌, ◌-◌, ◌^◌, Bool, true, false, cond, List, [], ◌++◌, length, take, get_or, Option, Some, refl, sym, ap, subst, ◌∙◌, arith, append_assoc, length-append}
+use Rattle.std.proofs.Common.{◌≡◌, ℕ, ◌+◌, ◌-◌, ◌^◌, Bool, true, false, cond, List, [], ◌++◌, length, Option, Some, refl, sym, ap, subst, ◌∙◌, arith, append_assoc, append-nil, length-append}
 use Rattle.std.specs.Prelude.{◌&&◌, ◌==◌}
-use Rattle.std.proofs.lemmas.List.{take_all}
 use Rattle.dbus_capture.specs.declared.byte_order.ByteOrder.{ByteOrder}
 use Rattle.dbus_capture.specs.declared.byte_order.ByteOrder.TheVariants.{Little, Big}
 use Rattle.dbus_capture.specs.declared.stage.Stage.{Stage}
-use Rattle.dbus_capture.specs.declared.stage.Stage.TheVariants.{Start, FileHeader, Record}
-use Rattle.dbus_capture.specs.declared.fault.CaptureFault.{CaptureFault}
+use Rattle.dbus_capture.specs.declared.stage.Stage.TheVariants.{FileHeader, Record}
 use Rattle.dbus_capture.specs.declared.fault.CaptureReason.TheVariants.{Version, LinkType, Truncated}
 use Rattle.dbus_capture.specs.declared.scan.Scan.{Scan}
 use Rattle.dbus_capture.specs.Numbers.{u32_bytes, u16_bytes, u32_at, u16_at}
-use Rattle.dbus_capture.specs.Stages.{is_raw, is_filed, first_stage, Heading, begun}
+use Rattle.dbus_capture.specs.Stages.{is_raw, Heading, begun}
+use Rattle.dbus_capture.specs.Beginnings.{first_stage}
 use Rattle.dbus_capture.specs.Scans.{place, fresh, refused}
 use Rattle.dbus_capture.specs.Heads.{magic, file_header, file_header_by}
 use Rattle.dbus_capture.specs.Blocks.{decoded, decoded_by}
@@ -19,16 +18,11 @@ use Rattle.dbus_capture.specs.Reading.{IsReadOf}
 use Rattle.dbus_capture.specs.CutPackets.{whole_payload, whole_count, cut_count}
 use Rattle.dbus_capture.specs.PcapFiles.{PcapHeader, PcapPacket, magic_number, header_bytes, packets_bytes, pcap_bytes, captures, FitsHeader, AllFitPackets}
 use Rattle.dbus_capture.proofs.NumberLaws.{u32_size, u16_size, u16_after, u32_last}
-use Rattle.dbus_capture.proofs.StepLaws.{run-append, given-append, opens_start, opened_filed, turn_gathers}
+use Rattle.dbus_capture.proofs.StepLaws.{run-append, given-append, turn_gathers}
+use Rattle.dbus_capture.proofs.FirstLaws.{first_front, begins_pcap}
 use Rattle.dbus_capture.proofs.HeadLaws.{run_head}
 use Rattle.dbus_capture.proofs.KeptLaws.{Kept, kept_then, kept_as, kept_moved}
 use Rattle.dbus_capture.proofs.PcapLaws.{Between, Took, packets_taken}
-
-first_is : (o : ByteOrder) (b : Bool) (rest : List ℕ) → first_stage (get_or (u32_bytes o (magic_number b) ++ rest) 0 0) ≡ FileHeader
-first_is Little true rest = refl
-first_is Little false rest = refl
-first_is Big true rest = refl
-first_is Big false rest = refl
 
 magic_is : (o : ByteOrder) (b : Bool) (rest : List ℕ) → magic (u32_at Little 0 (u32_bytes o (magic_number b) ++ rest)) ≡ Some (o, b)
 magic_is Little true rest = refl
@@ -90,7 +84,7 @@ link_is h f =
 
 -- the state after a file's header
 unfoldable pub opened_file : Bool → PcapHeader → Scan
-opened_file passes h = record (fresh passes Start) { head = begun Record; next = place 24; order = h.order; nanoseconds = h.nanoseconds }
+opened_file passes h = record (fresh passes FileHeader) { head = begun Record; next = place 24; order = h.order; nanoseconds = h.nanoseconds }
 
 pub opened_between : (passes : Bool) (h : PcapHeader) → Between (opened_file passes h)
 unfolding opened_file
@@ -105,10 +99,10 @@ tests_pass s whole link_type other a b c p q r =
     ap (λ (n : ℕ). cond ((n == 2) && (b == 4)) (cond (c == 231) whole link_type) other) p ∙ ap (λ (n : ℕ). cond (n == 4) (cond (c == 231) whole link_type) other) q ∙ ap (λ (n : ℕ). cond (n == 231) whole link_type) r
 
 header_reads : (passes : Bool) (h : PcapHeader) → FitsHeader h
-    → file_header (record (fresh passes Start) { head = begun FileHeader }) (header_bytes h) ≡ opened_file passes h
+    → file_header (fresh passes FileHeader) (header_bytes h) ≡ opened_file passes h
 unfolding opened_file
 header_reads passes h f =
-    let s : Scan = record (fresh passes Start) { head = begun FileHeader } in
+    let s : Scan = fresh passes FileHeader in
     let b = header_bytes h in
     ap (λ (m : Option (ByteOrder × Bool)). file_header_by s b m) (magic_is h.order h.nanoseconds (u16_bytes h.order 2 ++ (u16_bytes h.order 4 ++ (h.unread ++ u32_bytes h.order 231))))
     ∙ tests_pass s (record s { head = begun Record; next = place (s.next + 24); order = h.order; nanoseconds = h.nanoseconds }) (refused s 20 LinkType) (refused s 4 Version)
@@ -121,33 +115,27 @@ decodes_header s h e =
 
 -- the header
 pub header_taken : (passes : Bool) (h : PcapHeader) → FitsHeader h
-    → (run (fresh passes Start) (header_bytes h) ≡ opened_file passes h) × (given (fresh passes Start) (header_bytes h) ≡ [])
+    → (run (fresh passes FileHeader) (header_bytes h) ≡ opened_file passes h) × (given (fresh passes FileHeader) (header_bytes h) ≡ [])
 header_taken passes h f =
-    let s = fresh passes Start in
+    let s = fresh passes FileHeader in
     let b = header_bytes h in
     let size = head_size h f in
-    let t : Scan = record s { head = begun FileHeader } in
-    let first : first_stage (get_or b 0 0) ≡ FileHeader = first_is h.order h.nanoseconds (u16_bytes h.order 2 ++ (u16_bytes h.order 4 ++ (h.unread ++ u32_bytes h.order 231))) in
-    let all = take_all 24 b (omega (arith, size)) in
-    let opens = opens_start s b 24 refl refl (omega (arith, size)) (omega arith) (λ (f : Option CaptureFault). opened_filed f (first_stage (get_or b 0 0)) (record s { head = begun (first_stage (get_or b 0 0)) }) (get_or b 0 0) (ap is_filed first)) in
-    let law = run_head t b refl refl refl refl (λ e. let none : length b ≡ 0 = ap length e in absurd (omega (arith, size, none))) (omega (arith, size)) in (
-      ap (run s) (sym all) ∙ opens.0 ∙ ap (λ (v : Stage). run (record s { head = begun v }) (take 24 b)) first ∙ ap (run t) all ∙ law.0 ∙ decodes_header t b refl ∙ header_reads passes h f,
-      ap (given s) (sym all) ∙ opens.1 ∙ ap (λ (v : Stage). given (record s { head = begun v }) (take 24 b)) first ∙ ap (given t) all ∙ law.1,
-    )
+    let law = run_head s b refl refl refl refl (λ e. let none : length b ≡ 0 = ap length e in absurd (omega (arith, size, none))) (omega (arith, size)) in
+    (law.0 ∙ decodes_header s b refl ∙ header_reads passes h f, law.1)
 
 -- the whole file
 pub record FileTook (passes : Bool) (h : PcapHeader) (packets : List PcapPacket) : Type 0 where
   pub final : Scan
-  pub ran : run (fresh passes Start) (pcap_bytes h packets) ≡ final
-  pub gave : given (fresh passes Start) (pcap_bytes h packets) ≡ whole_payload (captures packets)
+  pub ran : run (fresh passes FileHeader) (pcap_bytes h packets) ≡ final
+  pub gave : given (fresh passes FileHeader) (pcap_bytes h packets) ≡ whole_payload (captures packets)
   pub between : Between final
   pub order_is : final.order ≡ h.order
   pub fractions : final.nanoseconds ≡ h.nanoseconds
-  pub kept : Kept (fresh passes Start) final (length (pcap_bytes h packets)) (whole_count (captures packets)) (cut_count (captures packets))
+  pub kept : Kept (fresh passes FileHeader) final (length (pcap_bytes h packets)) (whole_count (captures packets)) (cut_count (captures packets))
 
-opened_kept : (passes : Bool) (h : PcapHeader) → Kept (fresh passes Start) (opened_file passes h) 24 0 0
+opened_kept : (passes : Bool) (h : PcapHeader) → Kept (fresh passes FileHeader) (opened_file passes h) 24 0 0
 unfolding opened_file
-opened_kept passes h = kept_moved (fresh passes Start) (opened_file passes h) 24 refl refl refl refl
+opened_kept passes h = kept_moved (fresh passes FileHeader) (opened_file passes h) 24 refl refl refl refl
 
 fractions_of_file : (passes : Bool) (h : PcapHeader) → (opened_file passes h).nanoseconds ≡ h.nanoseconds
 unfolding opened_file
@@ -155,7 +143,7 @@ fractions_of_file passes h = refl
 
 pub file_taken : (passes : Bool) (h : PcapHeader) (packets : List PcapPacket) → FitsHeader h → AllFitPackets passes packets → FileTook passes h packets
 file_taken passes h packets f g =
-    let s = fresh passes Start in
+    let s = fresh passes FileHeader in
     let b = header_bytes h in
     let t = opened_file passes h in
     let rest = packets_bytes h.order packets in
@@ -176,6 +164,14 @@ file_taken passes h packets f g =
       kept = kept_as s more.final _ _ _ _ _ _ size whole cut (kept_then s t more.final 24 0 0 (length rest) (whole_count (captures packets)) (cut_count (captures packets)) kept more.kept);
     }
 
+-- a file, and what follows it, begin as a file
+pub first_of_pcap : (h : PcapHeader) (packets : List PcapPacket) (more : List ℕ) → FitsHeader h → first_stage (pcap_bytes h packets ++ more) ≡ FileHeader
+first_of_pcap h packets more f =
+    let size = head_size h f in
+    let l = length-append (header_bytes h) (packets_bytes h.order packets) in
+    first_front (pcap_bytes h packets) more (omega (arith, size, l)) ∙ first_front (header_bytes h) (packets_bytes h.order packets) (omega (arith, size))
+    ∙ begins_pcap h.order h.nanoseconds (u16_bytes h.order 2 ++ (u16_bytes h.order 4 ++ (h.unread ++ u32_bytes h.order 231)))
+
 -- between two packets a file may end
 pub between_ends : (s : Scan) → Between s → ended s ≡ s
 between_ends s b =
@@ -187,11 +183,13 @@ between_ends s b =
 pub pcap_read : (passes : Bool) (h : PcapHeader) (packets : List PcapPacket) → FitsHeader h → AllFitPackets passes packets → IsReadOf passes (pcap_bytes h packets) (captures packets)
 pcap_read passes h packets f g =
     let t = file_taken passes h packets f g in
+    let bytes = pcap_bytes h packets in
+    let first : first_stage bytes ≡ FileHeader = ap first_stage (sym (append-nil bytes)) ∙ first_of_pcap h packets [] f in
     let none : 0 + cut_count (captures packets) ≡ cut_count (captures packets) = omega arith in
     record {
       read = record {
-        gives = t.gave;
-        unfaulted = ap (λ (v : Scan). (ended v).fault) t.ran ∙ ap (λ (v : Scan). v.fault) (between_ends t.final t.between) ∙ t.between.unfaulted;
+        gives = ap (λ (v : Stage). given (fresh passes v) bytes) first ∙ t.gave;
+        unfaulted = ap (λ (v : Stage). (ended (run (fresh passes v) bytes)).fault) first ∙ ap (λ (v : Scan). (ended v).fault) t.ran ∙ ap (λ (v : Scan). v.fault) (between_ends t.final t.between) ∙ t.between.unfaulted;
       };
-      counted = ap (λ (v : Scan). v.cut) t.ran ∙ t.kept.cut refl ∙ ap place none;
+      counted = ap (λ (v : Stage). (run (fresh passes v) bytes).cut) first ∙ ap (λ (v : Scan). v.cut) t.ran ∙ t.kept.cut refl ∙ ap place none;
     }

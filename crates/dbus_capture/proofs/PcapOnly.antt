@@ -1,32 +1,36 @@
 -- What a pcap file comes to is what is read of it, so it comes to one thing only.
-use Rattle.std.proofs.Common.{◌≡◌, inl, inr, ℕ, ◌+◌, Bool, List, ◌∷◌, ◌++◌, length, Option, None, Some, refl, sym, ap, subst, ◌∙◌, arith}
+use Rattle.std.proofs.Common.{◌≡◌, inl, inr, ℕ, ◌+◌, Bool, List, ◌++◌, length, Option, None, Some, refl, sym, ap, subst, ◌∙◌, arith}
 use Rattle.dbus_capture.specs.declared.byte_order.ByteOrder.{ByteOrder}
 use Rattle.dbus_capture.specs.declared.stage.Stage.{Stage}
-use Rattle.dbus_capture.specs.declared.stage.Stage.TheVariants.{Start, FileHeader}
+use Rattle.dbus_capture.specs.declared.stage.Stage.TheVariants.{FileHeader}
 use Rattle.dbus_capture.specs.declared.fault.CaptureFault.{CaptureFault}
 use Rattle.dbus_capture.specs.declared.scan.Scan.{Scan}
-use Rattle.dbus_capture.specs.Stages.{first_stage, begun}
+use Rattle.dbus_capture.specs.Beginnings.{first_stage, first_scan}
 use Rattle.dbus_capture.specs.Scans.{place, fresh}
 use Rattle.dbus_capture.specs.Steps.{run, ended, given}
 use Rattle.dbus_capture.specs.PcapFiles.{pcap_bytes, captures}
 use Rattle.dbus_capture.specs.CutPackets.{whole_payload}
 use Rattle.dbus_capture.specs.PcapFaults.{AreBytes, IsRestFault, part_given, FailsAfterPackets, IsPcapOutcome}
 use Rattle.dbus_capture.proofs.ByteLaws.{bytes_back}
-use Rattle.dbus_capture.proofs.StepLaws.{run-append, given-append, opens}
+use Rattle.dbus_capture.proofs.StepLaws.{run-append, given-append}
+use Rattle.dbus_capture.proofs.FirstLaws.{some_first}
 use Rattle.dbus_capture.proofs.PcapFileLaws.{file_taken, pcap_read}
 use Rattle.dbus_capture.proofs.PcapFaultLaws.{rest_told}
-use Rattle.dbus_capture.proofs.PcapOutcomes.{header_state, head_told}
+use Rattle.dbus_capture.proofs.PcapOutcomes.{head_told}
 
 -- what is read of these bytes
+abbrev pub ComesFrom : Scan → List ℕ → List ℕ → Option CaptureFault → Type 0
+ComesFrom s bytes out fault = (given s bytes ≡ out) × ((ended (run s bytes)).fault ≡ fault)
+
 abbrev pub Comes : (passes_cut : Bool) → List ℕ → List ℕ → Option CaptureFault → Type 0
-Comes passes bytes out fault = (given (fresh passes Start) bytes ≡ out) × ((ended (run (fresh passes Start) bytes)).fault ≡ fault)
+Comes passes bytes out fault = ComesFrom (first_scan passes bytes) bytes out fault
 
 place_sum : (a n k : ℕ) → a ≡ place n → place (a + k) ≡ place (n + k)
 place_sum a n k e = omega (arith, e)
 
-after_packets : (passes : Bool) (bytes out : List ℕ) (fault : CaptureFault) → AreBytes bytes → FailsAfterPackets passes bytes out fault → Comes passes bytes out (Some fault)
+after_packets : (passes : Bool) (bytes out : List ℕ) (fault : CaptureFault) → AreBytes bytes → FailsAfterPackets passes bytes out fault → ComesFrom (fresh passes FileHeader) bytes out (Some fault)
 after_packets passes bytes out fault are f =
-    let s = fresh passes Start in
+    let s = fresh passes FileHeader in
     let front = pcap_bytes f.head f.packets in
     let whole = file_taken passes f.head f.packets f.fits f.fit in
     let t = whole.final in
@@ -41,24 +45,21 @@ after_packets passes bytes out fault are f =
           ∙ ap (λ (n : ℕ). Some (record { at = n; reason = fault.reason })) (place_sum t.next (length front) f.within (whole.kept.next refl ∙ none) ∙ sym f.at),
     )
 
-comes : (passes : Bool) (x : ℕ) (xs out : List ℕ) (fault : Option CaptureFault) → AreBytes (x ∷ xs) → first_stage x ≡ FileHeader → IsPcapOutcome passes (x ∷ xs) out fault → Comes passes (x ∷ xs) out fault
-comes passes x xs out None are first f =
+comes : (passes : Bool) (bytes out : List ℕ) (fault : Option CaptureFault) → AreBytes bytes → first_stage bytes ≡ FileHeader → IsPcapOutcome passes bytes out fault → Comes passes bytes out fault
+comes passes bytes out None are first f =
     let whole = (pcap_read passes f.head f.packets f.fits f.fit).read in (
-      ap (given (fresh passes Start)) f.joined ∙ whole.gives ∙ sym f.gives,
-      ap (λ (l : List ℕ). (ended (run (fresh passes Start) l)).fault) f.joined ∙ whole.unfaulted,
+      ap (λ (l : List ℕ). given (first_scan passes l) l) f.joined ∙ whole.gives ∙ sym f.gives,
+      ap (λ (l : List ℕ). (ended (run (first_scan passes l) l)).fault) f.joined ∙ whole.unfaulted,
     )
-comes passes x xs out (Some fault) are first (inr f) = after_packets passes (x ∷ xs) out fault are f
-comes passes x xs out (Some fault) are first (inl f) =
-    let bytes = x ∷ xs in
-    let opening = opens (fresh passes Start) (header_state passes) x xs (ap (λ (t : Stage). record (fresh passes Start) { head = begun t }) first) refl in
-    let told = head_told passes bytes f.within fault.reason (λ e. cc) are f.faulty in (
-      opening.1 ∙ told.0 ∙ sym f.gives,
-      ap (λ (v : Scan). (ended v).fault) opening.0 ∙ told.1 ∙ ap (λ (n : ℕ). Some (record { at = n; reason = fault.reason })) (sym f.at),
-    )
+comes passes bytes out (Some fault) are first (inr f) = subst (λ (v : Stage). ComesFrom (fresh passes v) bytes out (Some fault)) (sym first) (after_packets passes bytes out fault are f)
+comes passes bytes out (Some fault) are first (inl f) =
+    let told = head_told passes bytes f.within fault.reason (some_first bytes FileHeader first (λ e. cc)) are f.faulty in
+    subst (λ (v : Stage). ComesFrom (fresh passes v) bytes out (Some fault)) (sym first)
+    (told.0 ∙ sym f.gives, told.1 ∙ ap (λ (n : ℕ). Some (record { at = n; reason = fault.reason })) (sym f.at))
 
-pub one_pcap : (passes : Bool) (x : ℕ) (xs out more : List ℕ) (fault other : Option CaptureFault) → AreBytes (x ∷ xs) → first_stage x ≡ FileHeader
-    → IsPcapOutcome passes (x ∷ xs) out fault → IsPcapOutcome passes (x ∷ xs) more other → (out ≡ more) × (fault ≡ other)
-one_pcap passes x xs out more fault other are first f g =
-    let a = comes passes x xs out fault are first f in
-    let b = comes passes x xs more other are first g in
+pub one_pcap : (passes : Bool) (bytes out more : List ℕ) (fault other : Option CaptureFault) → AreBytes bytes → first_stage bytes ≡ FileHeader
+    → IsPcapOutcome passes bytes out fault → IsPcapOutcome passes bytes more other → (out ≡ more) × (fault ≡ other)
+one_pcap passes bytes out more fault other are first f g =
+    let a = comes passes bytes out fault are first f in
+    let b = comes passes bytes more other are first g in
     (sym a.0 ∙ b.0, sym a.1 ∙ b.1)

@@ -1,49 +1,35 @@
 -- Bytes that begin as a pcap file does are one, or have one fault.
-use Rattle.std.proofs.Common.{◌≡◌, ◌≢◌, ◌⊎◌, inl, inr, ℕ, suc, ◌+◌, ◌-◌, ◌<◌, ◌≤◌, Bool, true, false, cond, nat_eq, List, [], ◌∷◌, ◌++◌, length, take, drop, Option, None, Some, refl, sym, ap, subst, ◌∙◌, arith, append_assoc, append-nil, length-append, take-append-drop}
+use Rattle.std.proofs.Common.{◌≡◌, ◌≢◌, ◌⊎◌, inl, inr, ℕ, suc, ◌+◌, ◌<◌, ◌≤◌, Bool, true, false, cond, nat_eq, List, [], ◌∷◌, ◌++◌, length, take, drop, Option, None, Some, refl, sym, ap, subst, ◌∙◌, arith, append_assoc, append-nil, length-append, take-append-drop}
 use Rattle.std.specs.Prelude.{◌&&◌, ◌==◌}
-use Rattle.std.specs.List.{slice_range}
 use Rattle.std.proofs.lemmas.Bool.{cases_lt}
-use Rattle.std.proofs.lemmas.List.{length-take-le, length-drop, drop-append-le, take-append-le}
+use Rattle.std.proofs.lemmas.List.{length-take-le, length-drop}
 use Rattle.std.proofs.lemmas.Nat.{le_bytes_2, be_bytes_2}
 use Rattle.dbus_capture.specs.declared.byte_order.ByteOrder.{ByteOrder}
 use Rattle.dbus_capture.specs.declared.byte_order.ByteOrder.TheVariants.{Little, Big}
 use Rattle.dbus_capture.specs.declared.stage.Stage.{Stage}
-use Rattle.dbus_capture.specs.declared.stage.Stage.TheVariants.{Start, FileHeader, Record}
+use Rattle.dbus_capture.specs.declared.stage.Stage.TheVariants.{FileHeader, Record}
 use Rattle.dbus_capture.specs.declared.fault.CaptureFault.{CaptureFault}
 use Rattle.dbus_capture.specs.declared.fault.CaptureReason.{CaptureReason}
 use Rattle.dbus_capture.specs.declared.fault.CaptureReason.TheVariants.{Magic, Version, LinkType, Lengths, PacketCut, BlockLength, BlockLengths, OrderMark, OptionLength, TooManyInterfaces, NoInterface, Truncated}
 use Rattle.dbus_capture.specs.declared.scan.Scan.{Scan}
 use Rattle.dbus_capture.specs.Numbers.{u32_of, u16_of, u32_bytes, u16_bytes, u32_at, u16_at}
-use Rattle.dbus_capture.specs.Stages.{first_stage, begun}
+use Rattle.dbus_capture.specs.Stages.{begun}
+use Rattle.dbus_capture.specs.Beginnings.{first_stage, first_scan}
 use Rattle.dbus_capture.specs.Scans.{place, fresh, refused}
 use Rattle.dbus_capture.specs.Heads.{magic, file_header, file_header_by, file_header_in}
 use Rattle.dbus_capture.specs.Steps.{run, ended, given}
 use Rattle.dbus_capture.specs.PcapFiles.{PcapHeader, magic_number, header_bytes, packets_bytes}
 use Rattle.dbus_capture.specs.PcapFaults.{AreBytes, IsHeaderFault, IsPcapOutcome}
 use Rattle.dbus_capture.proofs.Choices.{eq_is, eq_not, cases_same}
-use Rattle.dbus_capture.proofs.NumberLaws.{part_after}
+use Rattle.dbus_capture.proofs.NumberLaws.{part_after, u32_in_front, u16_in_front}
 use Rattle.dbus_capture.proofs.ByteLaws.{byte_at, bytes_front, bytes_back, u32_respelled}
-use Rattle.dbus_capture.proofs.StepLaws.{run-append, opens, given-append}
+use Rattle.dbus_capture.proofs.StepLaws.{run-append, given-append}
+use Rattle.dbus_capture.proofs.FirstLaws.{some_first}
 use Rattle.dbus_capture.proofs.HeadLaws.{run_gathers, run_head}
 use Rattle.dbus_capture.proofs.PcapFileLaws.{head_size, decodes_header}
 use Rattle.dbus_capture.proofs.PcapFaultLaws.{Outcome, outcome_of, ended_cut, place_of, stopped_after, stopped_gives}
 
 -- ---- numbers
-
--- ---- parts of the front
-
-part_of_front : (front more : List ℕ) (k n : ℕ) → k + n ≤ length front → slice_range (front ++ more) k (k + n) ≡ slice_range front k (k + n)
-part_of_front front more k n h =
-    let size : k + n - k ≡ n = omega arith in
-    let left = length-drop k front in
-    ap (λ m. take m (drop k (front ++ more))) size ∙ ap (take n) (drop-append-le k front more (omega (arith, h)))
-    ∙ take-append-le n (drop k front) more (omega (arith, h, left)) ∙ ap (λ m. take m (drop k front)) (sym size)
-
-u32_in_front : (o : ByteOrder) (front more : List ℕ) (k : ℕ) → k + 4 ≤ length front → u32_at o k (front ++ more) ≡ u32_at o k front
-u32_in_front o front more k h = ap (u32_of o) (part_of_front front more k 4 h)
-
-u16_in_front : (o : ByteOrder) (front more : List ℕ) (k : ℕ) → k + 2 ≤ length front → u16_at o k (front ++ more) ≡ u16_at o k front
-u16_in_front o front more k h = ap (u16_of o) (part_of_front front more k 2 h)
 
 pub u16_respelled : (o : ByteOrder) (bytes : List ℕ) → length bytes ≡ 2 → AreBytes bytes → u16_bytes o (u16_of o bytes) ≡ bytes
 u16_respelled Little bytes size h = le_bytes_2 bytes _ size (byte_at bytes h) refl
@@ -184,7 +170,7 @@ module _ (h m v w u d : List ℕ) (p : HeadParts h m v w u d) (are : AreBytes h)
 -- ---- what a header comes to
 
 abbrev pub header_state : (passes_cut : Bool) → Scan
-header_state passes = record (fresh passes Start) { head = begun FileHeader }
+header_state passes = fresh passes FileHeader
 
 abbrev after_header : (passes_cut : Bool) → ByteOrder → Bool → Scan
 after_header passes o n = record (header_state passes) { head = begun Record; next = place 24; order = o; nanoseconds = n }
@@ -399,17 +385,14 @@ module _ (passes : Bool) where
       cut_told NoInterface f short = absurd f
 
 -- bytes that begin as a file does
-pub pcap_outcome : (passes : Bool) (x : ℕ) (xs : List ℕ) → AreBytes (x ∷ xs) → first_stage x ≡ FileHeader
-    → IsPcapOutcome passes (x ∷ xs) (given (fresh passes Start) (x ∷ xs)) (ended (run (fresh passes Start) (x ∷ xs))).fault
-pcap_outcome passes x xs are first =
-    let bytes = x ∷ xs in
-    let opening = opens (fresh passes Start) (header_state passes) x xs (ap (λ (t : Stage). record (fresh passes Start) { head = begun t }) first) refl in
-    subst (λ (l : List ℕ). IsPcapOutcome passes bytes l (ended (run (fresh passes Start) bytes)).fault) (sym opening.1)
-    (subst (λ (v : Scan). IsPcapOutcome passes bytes (given (header_state passes) bytes) (ended v).fault) (sym opening.0)
+pub pcap_outcome : (passes : Bool) (bytes : List ℕ) → AreBytes bytes → first_stage bytes ≡ FileHeader
+    → IsPcapOutcome passes bytes (given (first_scan passes bytes) bytes) (ended (run (first_scan passes bytes) bytes)).fault
+pcap_outcome passes bytes are first =
+    subst (λ (v : Stage). IsPcapOutcome passes bytes (given (fresh passes v) bytes) (ended (run (fresh passes v) bytes)).fault) (sym first)
     (elim (cases_lt (length bytes) 24) [
-      | inl short ↦ short_head passes bytes (λ e. cc) short
+      | inl short ↦ short_head passes bytes (some_first bytes FileHeader first (λ e. cc)) short
       | inr enough ↦
           let size = length-take-le 24 bytes enough in
           subst (HasOutcome passes) (take-append-drop 24 bytes)
           (by_magic passes (take 24 bytes) (drop 24 bytes) size (subst AreBytes (sym (take-append-drop 24 bytes)) are) (magic (u32_at Little 0 (take 24 bytes))) refl)
-    ]))
+    ])

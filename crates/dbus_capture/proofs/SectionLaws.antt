@@ -9,6 +9,7 @@ use Rattle.dbus_capture.specs.declared.interface.Interface.{Interface}
 use Rattle.dbus_capture.specs.declared.scan.Scan.{Scan}
 use Rattle.dbus_capture.specs.Numbers.{u32_of, u32_bytes, u16_bytes, u32_at, u16_at}
 use Rattle.dbus_capture.specs.Stages.{is_raw, Heading, begun}
+use Rattle.dbus_capture.specs.Beginnings.{first_stage}
 use Rattle.dbus_capture.specs.Scans.{place, fresh, refused}
 use Rattle.dbus_capture.specs.Blocks.{is_length, order_mark, section_by, section_head, decoded, decoded_by}
 use Rattle.dbus_capture.specs.Steps.{Turn, Gathers, run, told, given, turn_of, may_end, ended}
@@ -20,7 +21,8 @@ use Rattle.dbus_capture.specs.BlockFaults.{interfaces_all, last_section}
 use Rattle.dbus_capture.proofs.Choices.{eq_is, both_true, when_true}
 use Rattle.dbus_capture.proofs.KeptLaws.{kept_then, kept_as, kept_moved, kept_still, payload_both, whole_both, cut_both}
 use Rattle.dbus_capture.proofs.NumberLaws.{u32_size, u16_size, u32_after, u16_after, part_after}
-use Rattle.dbus_capture.proofs.StepLaws.{run-append, given-append, opens, turn_gathers}
+use Rattle.dbus_capture.proofs.StepLaws.{run-append, given-append, turn_gathers}
+use Rattle.dbus_capture.proofs.FirstLaws.{begins_section}
 use Rattle.dbus_capture.proofs.HeadLaws.{run_head}
 use Rattle.dbus_capture.proofs.BlockTurns.{length_ok, takes_head}
 use Rattle.dbus_capture.proofs.BlockLaws.{Went, Took, goes_on, respell, counts_as, went, framed_size, other_read, enhanced_read, obsolete_read, simple_read}
@@ -206,14 +208,9 @@ next_section passes s order interfaces x i f =
     section_took s m x (h8 ++ h16) i.ready.unfaulted i.ready.give refl refl refl refl to none f (regroup_section h8 h16 x.options (u32_bytes o total)) (omega (arith, l, b))
 
 -- the first section
-opens_section : (passes : Bool) (o : ByteOrder) (rest : List ℕ) → let t : Scan = record (fresh passes stages.Start) { head = begun stages.Section } in
-    (run (fresh passes stages.Start) (u32_bytes o 0x0a0d0d0a ++ rest) ≡ run t (u32_bytes o 0x0a0d0d0a ++ rest)) × (given (fresh passes stages.Start) (u32_bytes o 0x0a0d0d0a ++ rest) ≡ given t (u32_bytes o 0x0a0d0d0a ++ rest))
-opens_section passes Little rest = opens (fresh passes stages.Start) (record (fresh passes stages.Start) { head = begun stages.Section }) 10 (13 ∷ 13 ∷ 10 ∷ rest) refl refl
-opens_section passes Big rest = opens (fresh passes stages.Start) (record (fresh passes stages.Start) { head = begun stages.Section }) 10 (13 ∷ 13 ∷ 10 ∷ rest) refl refl
-
-first_section : (passes : Bool) (x : FileSection) → FitsSection passes x → Took (fresh passes stages.Start) (framed_bytes x.order 0x0a0d0d0a (section_body x)) x.order [] []
+first_section : (passes : Bool) (x : FileSection) → FitsSection passes x → Took (fresh passes stages.Section) (framed_bytes x.order 0x0a0d0d0a (section_body x)) x.order [] []
 first_section passes x f =
-    let s = fresh passes stages.Start in
+    let s = fresh passes stages.Section in
     let o = x.order in
     let total = 12 + length (section_body x) in
     let h8 = u32_bytes o 0x0a0d0d0a ++ u32_bytes o total in
@@ -222,15 +219,9 @@ first_section passes x f =
     let b = second_size o x.minor total x.size f.size f.minor f.body.size in
     let l = length-append h16 x.options in
     let k = length-append h8 h16 in
-    let m : Scan = record s { head = begun stages.Section } in
-    let rest = u32_bytes o total ++ h16 in
-    let regroup : h8 ++ h16 ≡ u32_bytes o 0x0a0d0d0a ++ rest = append_assoc (u32_bytes o 0x0a0d0d0a) (u32_bytes o total) h16 in
-    let opening = opens_section passes o rest in
-    let law = takes_head m stages.Section (h8 ++ h16) (record { unfaulted = refl; head = refl; give = refl; skip = refl }) refl (omega (arith, k, a, b)) (omega (arith, k, a, b)) in
-    let told = section_told o x.minor total x.size f.size f.minor f.body.size m f.body.whole (omega (arith, l, b)) in
-    let to : run s (h8 ++ h16) ≡ _ = ap (run s) regroup ∙ opening.0 ∙ ap (run m) (sym regroup) ∙ law.0 ∙ told in
-    let none : given s (h8 ++ h16) ≡ [] = ap (given s) regroup ∙ opening.1 ∙ ap (given m) (sym regroup) ∙ law.1 in
-    section_took s m x (h8 ++ h16) refl refl refl refl refl refl to none f (regroup_section h8 h16 x.options (u32_bytes o total)) (omega (arith, l, b))
+    let law = takes_head s stages.Section (h8 ++ h16) (record { unfaulted = refl; head = refl; give = refl; skip = refl }) refl (omega (arith, k, a, b)) (omega (arith, k, a, b)) in
+    let told = section_told o x.minor total x.size f.size f.minor f.body.size s f.body.whole (omega (arith, l, b)) in
+    section_took s s x (h8 ++ h16) refl refl refl refl refl refl (law.0 ∙ told) law.1 f (regroup_section h8 h16 x.options (u32_bytes o total)) (omega (arith, l, b))
 
 -- ---- the file
 
@@ -267,9 +258,9 @@ module _ (passes : Bool) where
       (sections_read w.final x.order here sections w.stands (w.kept.passes ∙ e) f.1)
 
   pub file_read : (x : FileSection) (sections : List FileSection) → FitsSection passes x → AllFitSections passes sections
-      → Took (fresh passes stages.Start) (sections_bytes (x ∷ sections)) (last_section x sections).order (interfaces_all [] (last_section x sections).blocks) (sections_packets (x ∷ sections))
+      → Took (fresh passes stages.Section) (sections_bytes (x ∷ sections)) (last_section x sections).order (interfaces_all [] (last_section x sections).blocks) (sections_packets (x ∷ sections))
   file_read x sections f g =
-      let s = fresh passes stages.Start in
+      let s = fresh passes stages.Section in
       let w = with_blocks s x refl f (first_section passes x f) in
       let here = interfaces_all [] x.blocks in
       let bytes = sections_bytes (x ∷ sections) in
@@ -278,6 +269,18 @@ module _ (passes : Bool) where
       (subst (λ (v : List Interface). Took s bytes (order_in x.order sections) v packets) (interfaces_last x sections)
       (took_then s (section_bytes x) (sections_bytes sections) x.order (order_in x.order sections) here (interfaces_in here sections) (blocks_packets [] x.blocks) (sections_packets sections) w
       (sections_read w.final x.order here sections w.stands w.kept.passes g)))
+
+regroup_file : (k t b c d more : List ℕ) → ((((k ++ t) ++ b) ++ c) ++ d) ++ more ≡ k ++ (t ++ (b ++ (c ++ (d ++ more))))
+regroup_file k t b c d more = append_assoc (((k ++ t) ++ b) ++ c) d more ∙ append_assoc ((k ++ t) ++ b) c (d ++ more) ∙ append_assoc (k ++ t) b (c ++ (d ++ more)) ∙ append_assoc k t (b ++ (c ++ (d ++ more)))
+
+-- a file, and what follows it, begin as a file
+pub first_of_sections : (x : FileSection) (sections : List FileSection) (more : List ℕ) → first_stage (sections_bytes (x ∷ sections) ++ more) ≡ stages.Section
+first_of_sections x sections more =
+    let size = u32_bytes x.order (12 + length (section_body x)) in
+    let body = section_body x ++ size in
+    let blocks = blocks_bytes x.order x.blocks in
+    let rest = sections_bytes sections in
+    ap first_stage (regroup_file (u32_bytes x.order 0x0a0d0d0a) size body blocks rest more) ∙ begins_section x.order (size ++ (body ++ (blocks ++ (rest ++ more))))
 
 -- between two blocks a file may end
 pub block_ends : (s : Scan) → Ready s stages.Block → ended s ≡ s

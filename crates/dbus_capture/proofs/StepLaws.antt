@@ -1,11 +1,11 @@
 -- How many bytes at once are read as they are one by one.
-use Rattle.std.proofs.Common.{◌<◌, get_or, take, sym, ◌≡◌, ℕ, zero, suc, ◌-◌, ◌≤◌, Bool, true, false, List, [], ◌∷◌, ◌++◌, length, Option, Some, None, is_some, refl, ap, ◌∙◌, arith}
+use Rattle.std.proofs.Common.{◌≡◌, ℕ, zero, suc, ◌-◌, ◌≤◌, Bool, true, false, List, [], ◌∷◌, ◌++◌, length, Option, Some, None, is_some, refl, ap, ◌∙◌, arith}
 use Rattle.dbus_capture.specs.declared.fault.CaptureFault.{CaptureFault}
 use Rattle.dbus_capture.specs.declared.stage.Stage.{Stage}
-use Rattle.dbus_capture.specs.declared.stage.Stage.TheVariants.{Start, Raw}
-use Rattle.dbus_capture.specs.Stages.{begun, is_raw, is_filed, first_stage}
+use Rattle.dbus_capture.specs.declared.stage.Stage.TheVariants.{Raw}
+use Rattle.dbus_capture.specs.Stages.{is_raw, is_filed}
 use Rattle.dbus_capture.specs.declared.scan.Scan.{Scan}
-use Rattle.dbus_capture.specs.Steps.{Turn, Stays, Passes, Gives, Skips, Gathers, turn_by, turn_of, stepped, with_byte, opened_by, opened, step, run, told, given}
+use Rattle.dbus_capture.specs.Steps.{Turn, Stays, Passes, Gives, Skips, Gathers, turn_by, turn_of, stepped, with_byte, step, run, told, given}
 
 -- ---- any pieces
 
@@ -25,8 +25,8 @@ pub told-append : {A : Type 0} (tells : Scan → ℕ → A) (s : Scan) (xs ys : 
 unfolding run told
 told-append tells s [] ys = refl
 told-append tells s (x ∷ xs) ys =
-    ap (with_byte (turn_of (opened s x)) (tells s x)) (told-append tells (step s x) xs ys)
-    ∙ with_byte-append (turn_of (opened s x)) (tells s x) (told tells (step s x) xs) (told tells (run (step s x) xs) ys)
+    ap (with_byte (turn_of s) (tells s x)) (told-append tells (step s x) xs ys)
+    ∙ with_byte-append (turn_of s) (tells s x) (told tells (step s x) xs) (told tells (run (step s x) xs) ys)
 
 pub given-append : (s : Scan) (xs ys : List ℕ) → given s (xs ++ ys) ≡ given s xs ++ given (run s xs) ys
 unfolding given
@@ -59,78 +59,23 @@ turn_gathers None false (suc m) skip p q h k = absurd (omega (arith, h))
 turn_gathers None false zero (suc m) p q h k = absurd (omega (arith, k))
 turn_gathers None false zero zero p q h k = refl
 
--- ---- the first byte
-
-pub opened_filed : (f : Option CaptureFault) (stage : Stage) (s : Scan) (b : ℕ) → is_filed stage ≡ true → opened_by f stage s b ≡ s
-opened_filed (Some f) stage s b p = refl
-opened_filed None Start s b p = cc
-opened_filed None Raw s b p = refl
-opened_filed None _ s b p = refl
-
-pub opened_raw : (f : Option CaptureFault) (stage : Stage) (s : Scan) (b : ℕ) → is_raw stage ≡ true → opened_by f stage s b ≡ s
-opened_raw (Some f) stage s b p = refl
-opened_raw None Start s b p = cc
-opened_raw None Raw s b p = refl
-opened_raw None _ s b p = refl
-
-opened_stopped : (f : Option CaptureFault) (stage : Stage) (s : Scan) (b : ℕ) → is_some f ≡ true → opened_by f stage s b ≡ s
-opened_stopped None stage s b p = cc
-opened_stopped (Some f) stage s b p = refl
-
 pub filed_not_raw : (stage : Stage) → is_filed stage ≡ true → is_raw stage ≡ false
-filed_not_raw Start p = refl
 filed_not_raw Raw p = cc
 filed_not_raw _ p = refl
 
-pub filed_or_raw : (stage : Stage) → (stage ≡ Start → ⊥) → is_raw stage ≡ false → is_filed stage ≡ true
-filed_or_raw Start n p = absurd (n refl)
-filed_or_raw Raw n p = cc
-filed_or_raw _ n p = refl
-
 -- ---- one turn
 
-step_as : (s : Scan) (b : ℕ) (t : Turn) → opened s b ≡ s → turn_of s ≡ t → step s b ≡ stepped s b t
+step_as : (s : Scan) (b : ℕ) (t : Turn) → turn_of s ≡ t → step s b ≡ stepped s b t
 unfolding step
-step_as s b t o e = ap (λ (v : Scan). stepped v b (turn_of v)) o ∙ ap (stepped s b) e
+step_as s b t e = ap (stepped s b) e
 
-pub run_first : (s : Scan) (b : ℕ) (t : Turn) (bytes : List ℕ) → opened s b ≡ s → turn_of s ≡ t → run s (b ∷ bytes) ≡ run (stepped s b t) bytes
+pub run_first : (s : Scan) (b : ℕ) (t : Turn) (bytes : List ℕ) → turn_of s ≡ t → run s (b ∷ bytes) ≡ run (stepped s b t) bytes
 unfolding run
-run_first s b t bytes o e = ap (λ v. run v bytes) (step_as s b t o e)
+run_first s b t bytes e = ap (λ v. run v bytes) (step_as s b t e)
 
-pub given_first : (s : Scan) (b : ℕ) (t : Turn) (bytes : List ℕ) → opened s b ≡ s → turn_of s ≡ t → given s (b ∷ bytes) ≡ with_byte t b (given (stepped s b t) bytes)
+pub given_first : (s : Scan) (b : ℕ) (t : Turn) (bytes : List ℕ) → turn_of s ≡ t → given s (b ∷ bytes) ≡ with_byte t b (given (stepped s b t) bytes)
 unfolding given told
-given_first s b t bytes o e =
-    ap (λ (v : Scan). with_byte (turn_of v) b (given (step s b) bytes)) o ∙ ap (λ v. with_byte v b (given (step s b) bytes)) e
-    ∙ ap (λ v. with_byte t b (given v bytes)) (step_as s b t o e)
-
--- a state that the first byte opens as another goes on as that
-pub opens : (s t : Scan) (b : ℕ) (bytes : List ℕ) → opened s b ≡ t → opened t b ≡ t → (run s (b ∷ bytes) ≡ run t (b ∷ bytes)) × (given s (b ∷ bytes) ≡ given t (b ∷ bytes))
-unfolding run given told step
-opens s t b bytes o p =
-    let e : opened s b ≡ opened t b = o ∙ sym p in (
-      ap (λ (v : Scan). run (stepped v b (turn_of v)) bytes) e,
-      ap (λ (v : Scan). with_byte (turn_of v) b (given (stepped v b (turn_of v)) bytes)) e,
-    )
-
-pub opens_take : (s t : Scan) (piece : List ℕ) (n : ℕ) → 0 < length piece → 0 < n → opened s (get_or piece 0 0) ≡ t → opened t (get_or piece 0 0) ≡ t
-    → (run s (take n piece) ≡ run t (take n piece)) × (given s (take n piece) ≡ given t (take n piece))
-opens_take s t [] n some more o p = absurd (omega (arith, some))
-opens_take s t (b ∷ bytes) zero some more o p = absurd (omega (arith, more))
-opens_take s t (b ∷ bytes) (suc n) some more o p = opens s t b (take n bytes) o p
-
-opened_start : (f : Option CaptureFault) (stage : Stage) (s : Scan) (b : ℕ) → f ≡ None → stage ≡ Start → opened_by f stage s b ≡ record s { head = begun (first_stage b) }
-opened_start (Some f) stage s b p q = cc
-opened_start None Start s b p q = refl
-opened_start None Raw s b p q = cc
-opened_start None _ s b p q = cc
-
--- how the first byte opens a start
-pub opens_start : (s : Scan) (piece : List ℕ) (n : ℕ) → s.fault ≡ None → s.head.stage ≡ Start → 0 < length piece → 0 < n
-    → let t : Scan = record s { head = begun (first_stage (get_or piece 0 0)) } in
-    ((f : Option CaptureFault) → opened_by f (first_stage (get_or piece 0 0)) t (get_or piece 0 0) ≡ t)
-    → (run s (take n piece) ≡ run t (take n piece)) × (given s (take n piece) ≡ given t (take n piece))
-opens_start s piece n p q some more o =
-    opens_take s (record s { head = begun (first_stage (get_or piece 0 0)) }) piece n some more (opened_start s.fault s.head.stage s (get_or piece 0 0) p q) (o s.fault)
+given_first s b t bytes e = ap (λ v. with_byte v b (given (step s b) bytes)) e ∙ ap (λ v. with_byte t b (given v bytes)) (step_as s b t e)
 
 -- ---- many
 
@@ -147,18 +92,16 @@ unfolding run given told
 run_stopped s [] p = (refl, refl)
 run_stopped s (x ∷ xs) p =
     let t : turn_of s ≡ Stays = stays_by s.fault (is_raw s.head.stage) s.give s.skip p in
-    let o = opened_stopped s.fault s.head.stage s x p in
     let rest = run_stopped s xs p in
-    (run_first s x Stays xs o t ∙ rest.0, given_first s x Stays xs o t ∙ rest.1)
+    (run_first s x Stays xs t ∙ rest.0, given_first s x Stays xs t ∙ rest.1)
 
 pub run_raw : (s : Scan) (xs : List ℕ) → is_some s.fault ≡ false → is_raw s.head.stage ≡ true → (run s xs ≡ s) × (given s xs ≡ xs)
 unfolding run given told
 run_raw s [] p q = (refl, refl)
 run_raw s (x ∷ xs) p q =
-    let o = opened_raw s.fault s.head.stage s x q in
     let t : turn_of s ≡ Passes = turn_passes s.fault (is_raw s.head.stage) s.give s.skip (none_of s.fault p) q in
     let rest = run_raw s xs p q in
-    (run_first s x Passes xs o t ∙ rest.0, given_first s x Passes xs o t ∙ ap (λ l. x ∷ l) rest.1)
+    (run_first s x Passes xs t ∙ rest.0, given_first s x Passes xs t ∙ ap (λ l. x ∷ l) rest.1)
 
 pub run_gives : (s : Scan) (xs : List ℕ) → s.fault ≡ None → is_filed s.head.stage ≡ true → length xs ≤ s.give
     → (run s xs ≡ record s { give = s.give - length xs }) × (given s xs ≡ xs)
@@ -167,13 +110,12 @@ run_gives s [] p q h = (ap (λ (n : ℕ). record s { give = n }) (let e : s.give
 run_gives s (x ∷ xs) p q h =
     let some : s.give ≡ suc (s.give - 1) = omega (arith, h) in
     let raw = filed_not_raw s.head.stage q in
-    let o = opened_filed s.fault s.head.stage s x q in
     let t : turn_of s ≡ Gives = turn_gives s.fault (is_raw s.head.stage) s.give s.skip (s.give - 1) p raw some in
     let fewer : length xs ≤ s.give - 1 = omega (arith, h) in
     let rest = run_gives (record s { give = s.give - 1 }) xs p q fewer in
     let left : s.give - 1 - length xs ≡ s.give - suc (length xs) = omega arith in (
-      run_first s x Gives xs o t ∙ rest.0 ∙ ap (λ (n : ℕ). record s { give = n }) left,
-      given_first s x Gives xs o t ∙ ap (λ l. x ∷ l) rest.1,
+      run_first s x Gives xs t ∙ rest.0 ∙ ap (λ (n : ℕ). record s { give = n }) left,
+      given_first s x Gives xs t ∙ ap (λ l. x ∷ l) rest.1,
     )
 
 pub run_skips : (s : Scan) (xs : List ℕ) → s.fault ≡ None → is_filed s.head.stage ≡ true → s.give ≡ 0 → length xs ≤ s.skip
@@ -183,11 +125,10 @@ run_skips s [] p q z h = (ap (λ (n : ℕ). record s { skip = n }) (let e : s.sk
 run_skips s (x ∷ xs) p q z h =
     let some : s.skip ≡ suc (s.skip - 1) = omega (arith, h) in
     let raw = filed_not_raw s.head.stage q in
-    let o = opened_filed s.fault s.head.stage s x q in
     let t : turn_of s ≡ Skips = turn_skips s.fault (is_raw s.head.stage) s.give s.skip (s.skip - 1) p raw z some in
     let fewer : length xs ≤ s.skip - 1 = omega (arith, h) in
     let rest = run_skips (record s { skip = s.skip - 1 }) xs p q z fewer in
     let left : s.skip - 1 - length xs ≡ s.skip - suc (length xs) = omega arith in (
-      run_first s x Skips xs o t ∙ rest.0 ∙ ap (λ (n : ℕ). record s { skip = n }) left,
-      given_first s x Skips xs o t ∙ rest.1,
+      run_first s x Skips xs t ∙ rest.0 ∙ ap (λ (n : ℕ). record s { skip = n }) left,
+      given_first s x Skips xs t ∙ rest.1,
     )

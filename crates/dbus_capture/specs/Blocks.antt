@@ -2,7 +2,7 @@
 -- File Structure" and "Block Definition".
 use Rattle.std.specs.Prelude.{ℕ, ◌+◌, ◌-◌, ◌*◌, ◌/◌, ◌^◌, ◌%◌, ◌&&◌, ◌||◌, ◌==◌, nat_lt, nat_le, Bool, true, false, if◌then◌else◌, List, [], ◌∷◌, ◌++◌, length, slice_get, slice_index, Option, Some, None}
 use Rattle.dbus_capture.specs.declared.stage.Stage.{Stage}
-use Rattle.dbus_capture.specs.declared.stage.Stage.TheVariants.{Start, Raw, FileHeader, Record, Section, Block, InterfaceHead, OptionHead, Resolution, InterfaceTrailer, Enhanced, ObsoletePacket, Simple, Trailer}
+use Rattle.dbus_capture.specs.declared.stage.Stage.TheVariants.{Raw, FileHeader, Record, Section, Block, InterfaceHead, OptionHead, Resolution, InterfaceTrailer, Enhanced, ObsoletePacket, Simple, Trailer}
 use Rattle.dbus_capture.specs.declared.byte_order.ByteOrder.{ByteOrder}
 use Rattle.dbus_capture.specs.declared.byte_order.ByteOrder.TheVariants.{Little, Big}
 use Rattle.dbus_capture.specs.declared.fault.CaptureReason.TheVariants.{Magic, Version, Lengths, PacketCut, BlockLength, BlockLengths, OrderMark, OptionLength, TooManyInterfaces, NoInterface}
@@ -184,7 +184,6 @@ simple_head s head = simple_by s head (slice_get s.interfaces 0)
 -- ---- what a head says
 
 abbrev pub decoded_by : Stage → Scan → List ℕ → Scan
-decoded_by Start s head = s
 decoded_by Raw s head = s
 decoded_by FileHeader s head = file_header s head
 decoded_by Record s head = record_head s head

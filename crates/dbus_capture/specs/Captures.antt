@@ -1,12 +1,14 @@
 -- What a capture reads of its file, and what it hands on.
-use Rattle.std.specs.Prelude.{◌≡◌, ◌≢◌, ℕ, ◌+◌, ◌<◌, ◌≤◌, ◌^◌, ◌%◌, ◌⊎◌, ◌++◌, Bool, true, false, List, [], ◌∷◌, take, length, slice_range, Option, Some, None, is_some, Result, Ok, Err, IfOk}
+use Rattle.std.specs.Prelude.{◌≡◌, ◌≢◌, ℕ, ◌+◌, ◌<◌, ◌≤◌, ◌^◌, ◌%◌, ◌⊎◌, ◌++◌, Bool, true, false, if◌then◌else◌, List, [], ◌∷◌, take, length, slice_range, Option, Some, None, is_some, Result, Ok, Err, IfOk}
 use Rattle.std.specs.Io.KnownBytes.{Consumes, IsAtEnd, prepend_known}
 use Rattle.std.specs.List.{All}
-use Rattle.dbus_device.specs.Device.{one_more}
+use Rattle.dbus_device.specs.Device.{one_more, ReadCounts}
 use Rattle.dbus_device.specs.Calls.{joined, HasByte, ReadsPiece, ReadsPieces}
 use Rattle.dbus_device.specs.declared.device_fault.DeviceFault.{DeviceFault}
 use Rattle.dbus_device.specs.declared.packet.Packet.{Packet}
 use Rattle.dbus_device.specs.Packets.{Packets}
+use Rattle.dbus_capture.specs.Stages.{begun}
+use Rattle.dbus_capture.specs.Beginnings.{first_stage}
 use Rattle.dbus_capture.specs.Steps.{IsPart, IsOfOnePacket, run, given, packet_given, ended}
 use Rattle.dbus_capture.specs.declared.scan.Scan.{Scan}
 use Rattle.dbus_capture.specs.declared.capture.Capture.{Capture}
@@ -17,6 +19,10 @@ source_of s = s.source
 
 abbrev pub scan_of : {R : Type 0} → Capture R → Scan
 scan_of s = s.scan
+
+-- whether it is known what the input is
+abbrev pub chosen_of : {R : Type 0} → Capture R → Bool
+chosen_of s = s.chosen
 
 -- the bytes of the file that were read and not taken yet
 abbrev pub kept_of : {R : Type 0} → Capture R → List ℕ
@@ -47,9 +53,22 @@ abbrev pub given_of : Scan → Option (List ℕ) → Option (List ℕ)
 given_of s None = None
 given_of s (Some bytes) = Some (given s bytes)
 
+-- What is kept before these bytes, the rest of the file: of an input of which nothing was taken,
+-- they say what it is.
+abbrev pub opened : {R : Type 0} → Capture R → List ℕ → Scan
+opened s bytes = if s.chosen then s.scan else record s.scan { head = begun (first_stage bytes) }
+
+-- these bytes, if they are known
+abbrev pub known : Option (List ℕ) → List ℕ
+known None = []
+known (Some bytes) = bytes
+
+abbrev pub opened_of : {R : Type 0} → (R → Option (List ℕ)) → Capture R → Scan
+opened_of left s = opened s (known (file_of left s))
+
 -- the bytes of the packets that were not handed on yet, if they are known
 abbrev pub left_of : {R : Type 0} → (R → Option (List ℕ)) → Capture R → Option (List ℕ)
-left_of left s = given_of (scan_of s) (file_of left s)
+left_of left s = given_of (opened_of left s) (file_of left s)
 
 -- of which packet each byte is that is handed on of bytes, if they are known
 abbrev pub packets_by : Scan → Option (List ℕ) → Option Packets
@@ -58,7 +77,39 @@ packets_by s (Some bytes) = Some (packet_given s bytes)
 
 -- of which packet each byte is that was not handed on yet, if the bytes of the file are known
 abbrev pub packets_of : {R : Type 0} → (R → Option (List ℕ)) → Capture R → Option Packets
-packets_of left s = packets_by (scan_of s) (file_of left s)
+packets_of left s = packets_by (opened_of left s) (file_of left s)
+
+-- No call of the source below was made but where it was not known what the input is, and fewer than
+-- four bytes of it were there; and each of these calls gave a byte.
+abbrev pub AreFirst : {R : Type 0} → Capture R → (pieces : List (List ℕ)) → Type 0
+AreFirst s [] = Unit {0}
+AreFirst s (last ∷ before) = (chosen_of s ≡ false) × (length (kept_of s ++ joined before) < 4) × All HasByte before
+
+-- nothing changes but what is kept of the input: calls of the source below gave more of it
+pub record Fetches {R : Type 0} (left : R → Option (List ℕ)) (calls : R → ℕ) (old new : Capture R) : Type 0 where
+  pub pieces : List (List ℕ)
+  pub called : ReadsPieces left calls (source_of old) pieces (source_of new)
+  pub first : AreFirst old pieces
+  pub kept : kept_of new ≡ kept_of old ++ joined pieces
+  pub gave_up : gave_up_of new ≡ gave_up_of old
+
+-- Four bytes of an input are there, or it ends; so it is known what it is. Nothing changes if that
+-- was known.
+pub record Begins {R : Type 0} (left : R → Option (List ℕ)) (calls failures : R → ℕ) (old new : Capture R) : Type 0 where
+  pub fetches : Fetches left calls old new
+  pub enough : (chosen_of old ≡ true) ⊎ ((4 ≤ length (kept_of new)) ⊎ IsAtEnd (left (source_of new)))
+  pub scan : scan_of new ≡ opened old (kept_of new)
+  pub chosen : chosen_of new ≡ true
+  pub unfailed : failures (source_of new) ≡ failures (source_of old)
+
+-- it is not known yet what an input is: the source below failed, or there is no room
+pub record Waits {R : Type 0} (left : R → Option (List ℕ)) (calls failures : R → ℕ) (old new : Capture R) (result : Result ℕ DeviceFault) (room : ℕ) : Type 0 where
+  pub fetches : Fetches left calls old new
+  pub scan : scan_of new ≡ scan_of old
+  pub before : chosen_of old ≡ false
+  pub after : chosen_of new ≡ false
+  pub counted : ReadCounts (failures (source_of old)) (failures (source_of new)) result
+  pub nothing : IfOk result (λ n. (n ≡ 0) × (0 < room → is_some (scan_of new).fault ≡ true))
 
 -- bytes of the file are kept, or the input is at its end
 abbrev pub HasBytes : {R : Type 0} → (R → Option (List ℕ)) → Capture R → Result Bool DeviceFault → Type 0
@@ -149,3 +200,15 @@ pub record IsStill {R : Type 0} (old new : Capture R) (result : Result ℕ Devic
 
 abbrev pub Stops : {R : Type 0} → Capture R → Capture R → Result ℕ DeviceFault → Type 0
 Stops old new result = is_some (scan_of old).fault ≡ true → IsStill old new result
+
+-- a read of an input of which it is known what it is, after what that took
+pub record ReadsOn {R : Type 0} (left : R → Option (List ℕ)) (calls failures : R → ℕ) (old new : Capture R) (result : Result ℕ DeviceFault) (buffer : List ℕ) : Type 0 where
+  pub mid : Capture R
+  pub begins : Begins left calls failures old mid
+  pub part : ReadsPart left failures mid new result buffer
+  pub asks : Asks left calls mid new result
+  pub chosen : chosen_of new ≡ true
+
+-- what a read does
+abbrev pub ReadsInput : {R : Type 0} → (R → Option (List ℕ)) → (calls failures : R → ℕ) → Capture R → Capture R → Result ℕ DeviceFault → List ℕ → Type 0
+ReadsInput left calls failures old new result buffer = ReadsOn left calls failures old new result buffer ⊎ Waits left calls failures old new result (length buffer)

@@ -2,6 +2,7 @@ pub mod Numbers
 pub mod Stages
 pub mod Scans
 pub mod Heads
+pub mod Beginnings
 pub mod Blocks
 pub mod Steps
 pub mod Captures

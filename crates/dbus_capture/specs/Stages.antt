@@ -1,7 +1,7 @@
 -- The heads of a file: which there are, how many bytes each has, and how these are gathered.
-use Rattle.std.specs.Prelude.{ℕ, List, [], Bool, true, false, ◌≡◌, ◌||◌, ◌==◌, ◌∷◌, Any, codes, if◌then◌else◌}
+use Rattle.std.specs.Prelude.{ℕ, List, [], Bool, true, false}
 use Rattle.dbus_capture.specs.declared.stage.Stage.{Stage}
-use Rattle.dbus_capture.specs.declared.stage.Stage.TheVariants.{Start, Raw, FileHeader, Record, Section, Block, InterfaceHead, OptionHead, Resolution, InterfaceTrailer, Enhanced, ObsoletePacket, Simple, Trailer}
+use Rattle.dbus_capture.specs.declared.stage.Stage.TheVariants.{Raw, FileHeader, Record, Section, Block, InterfaceHead, OptionHead, Resolution, InterfaceTrailer, Enhanced, ObsoletePacket, Simple, Trailer}
 
 pub record Heading : Type 0 where
   -- which head it is
@@ -15,7 +15,6 @@ begun stage = record { stage = stage; bytes = [] }
 
 -- how many bytes a head has
 abbrev pub want : Stage → ℕ
-want Start = 24
 want Raw = 24
 want FileHeader = 24
 want Record = 16
@@ -32,7 +31,6 @@ want Trailer = 4
 
 -- no file is around the messages
 abbrev pub is_raw : Stage → Bool
-is_raw Start = false
 is_raw Raw = true
 is_raw FileHeader = false
 is_raw Record = false
@@ -49,7 +47,6 @@ is_raw Trailer = false
 
 -- a head of a file comes
 abbrev pub is_filed : Stage → Bool
-is_filed Start = false
 is_filed Raw = false
 is_filed FileHeader = true
 is_filed Record = true
@@ -63,13 +60,3 @@ is_filed Enhanced = true
 is_filed ObsoletePacket = true
 is_filed Simple = true
 is_filed Trailer = true
-
--- Which head comes first in an input that begins with this byte: a pcap file begins with one of
--- three, by its byte order and its fractions of seconds, and a pcapng file with 10.
-abbrev pub first_stage : ℕ → Stage
-first_stage b = if (b == 0xa1) || (b == 0xd4) || (b == 0x4d) then FileHeader else (if b == 0x0a then Section else Raw)
-
--- What begins as a message, with l or B, or as a handshake, with the byte 0 or the first letter of
--- a command. D-Bus Specification, "Message Format" and "Authentication Protocol".
-abbrev pub IsFirstOfStream : ℕ → Type 0
-IsFirstOfStream b = Any (λ c. b ≡ c) (0 ∷ codes "lBACDENOR")

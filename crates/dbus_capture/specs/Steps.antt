@@ -3,11 +3,11 @@ use Rattle.std.specs.Prelude.{◌≡◌, ◌≤◌, ◌⊎◌, ℕ, zero, suc, �
 use Rattle.dbus_device.specs.declared.packet.Packet.{Packet}
 use Rattle.dbus_device.specs.Packets.{Packets}
 use Rattle.dbus_capture.specs.declared.stage.Stage.{Stage}
-use Rattle.dbus_capture.specs.declared.stage.Stage.TheVariants.{Start, Record, Block}
+use Rattle.dbus_capture.specs.declared.stage.Stage.TheVariants.{Record, Block}
 use Rattle.dbus_capture.specs.declared.fault.CaptureFault.{CaptureFault}
 use Rattle.dbus_capture.specs.declared.fault.CaptureReason.TheVariants.{Truncated}
 use Rattle.dbus_capture.specs.declared.scan.Scan.{Scan}
-use Rattle.dbus_capture.specs.Stages.{begun, want, is_raw, first_stage}
+use Rattle.dbus_capture.specs.Stages.{begun, want, is_raw}
 use Rattle.dbus_capture.specs.Scans.{place}
 use Rattle.dbus_capture.specs.Blocks.{decoded}
 
@@ -57,16 +57,8 @@ with_byte Gives b rest = b ∷ rest
 with_byte Skips b rest = rest
 with_byte Gathers b rest = rest
 
--- the first byte says what comes
-abbrev pub opened_by : Option CaptureFault → Stage → Scan → ℕ → Scan
-opened_by None Start s b = record s { head = begun (first_stage b) }
-opened_by f stage s b = s
-
-abbrev pub opened : Scan → ℕ → Scan
-opened s b = opened_by s.fault s.head.stage s b
-
 unfoldable pub step : Scan → ℕ → Scan
-step s b = stepped (opened s b) b (turn_of (opened s b))
+step s b = stepped s b (turn_of s)
 
 -- after these bytes
 unfoldable pub run : Scan → List ℕ → Scan
@@ -76,7 +68,7 @@ run s (b ∷ bytes) = run (step s b) bytes
 -- what is told of each byte that is handed on of these, by what is kept before it
 unfoldable pub told : {A : Type 0} → (Scan → ℕ → A) → Scan → List ℕ → List A
 told tells s [] = []
-told tells s (b ∷ bytes) = with_byte (turn_of (opened s b)) (tells s b) (told tells (step s b) bytes)
+told tells s (b ∷ bytes) = with_byte (turn_of s) (tells s b) (told tells (step s b) bytes)
 
 -- what is handed on of these bytes
 unfoldable pub given : Scan → List ℕ → List ℕ
@@ -110,7 +102,6 @@ may_end Stays stage held = true
 may_end Passes stage held = true
 may_end Gives stage held = false
 may_end Skips stage held = false
-may_end Gathers Start held = true
 may_end Gathers Record [] = true
 may_end Gathers Block [] = true
 may_end Gathers stage held = false

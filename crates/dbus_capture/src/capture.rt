@@ -1,22 +1,22 @@
 //! A capture as a source of messages' bytes.
-ghost use Rattle.std.specs.Prelude.{◌≡◌, ◌≢◌, ◌≤◌, [], None, length};
+ghost use Rattle.std.specs.Prelude.{◌≡◌, ◌≢◌, ◌≤◌, [], None, false, length};
 ghost use Rattle.dbus_device.specs.Device.{ReadCounts};
 ghost use Rattle.dbus_capture.specs.Packets.{last_packet};
 
 use crate::fault::CaptureFault;
 use crate::scan::Scan;
-use crate::stage::Stage;
+use crate::stage::{Stage, first_stage};
 use dbus_device::{DeviceFault, Packet, Source};
 
 // How many bytes of the file one call of the source below reads at most.
 const ROOM: usize = 65_536;
 
 /// A source of the bytes of the D-Bus packets of a file, pcap or pcapng, which it reads from the
-/// source below. If the first byte is that of no such file, it gives all bytes as they are: a
-/// message begins with `l` or `B`, and a handshake with the byte 0 or one of the letters ABCDENOR.
+/// source below. If the first four bytes are those of no such file, or the input has fewer, it
+/// gives all bytes as they are: messages, or a handshake and messages.
 ///
 /// It allocates nothing, and has a size of about 66,500 bytes. If the input is no such file, only
-/// the first read, of at most 65,536 bytes, goes through its own buffer.
+/// what is read until four bytes are there, at most 65,536 bytes, goes through its own buffer.
 ///
 /// ```rust
 /// use dbus_capture::Capture;
@@ -37,6 +37,8 @@ const ROOM: usize = 65_536;
 pub struct Capture<R> {
     source: R,
     scan: Scan,
+    // Whether it is known what the input is. Before that nothing is taken of it.
+    chosen: bool,
     // The packet of the bytes that were handed on last.
     packet: Option<Packet>,
     // The bytes of the file that were read and not taken yet.
@@ -48,14 +50,15 @@ pub struct Capture<R> {
     calls: u64,
     ghost in_order: { start ≤ end },
     ghost in_room: { end ≤ 65536 },
+    ghost untaken: { chosen ≡ false → start ≡ 0 },
 }
 
 impl<R: Source> Capture<R> {
-    ghost use Rattle.std.specs.Prelude.{◌<◌, IfOk, IsTrue, is_some, take, true};
+    ghost use Rattle.std.specs.Prelude.{◌<◌, ◌⊎◌, IfOk, IfErr, IsTrue, is_some, take, true};
     ghost use Rattle.dbus_capture.specs.Stages.{is_raw};
-    ghost use Rattle.std.specs.Io.KnownBytes.{Consumes};
+    ghost use Rattle.std.specs.Io.KnownBytes.{Consumes, IsAtEnd};
     ghost use Rattle.dbus_capture.specs.Scans.{fresh};
-    ghost use Rattle.dbus_capture.specs.Captures.{source_of, scan_of, last_packet_of, kept_of, gave_up_of, calls_of, file_of, HasBytes, Fills, HandsOn, ReadsPart, Asks, Stops};
+    ghost use Rattle.dbus_capture.specs.Captures.{source_of, scan_of, last_packet_of, kept_of, gave_up_of, calls_of, chosen_of, file_of, opened, Fetches, Begins, HasBytes, Fills, HandsOn, ReadsPart, ReadsInput, Asks, Stops};
 
     /// The capture that this source gives. It has read nothing yet.
     ///
@@ -64,14 +67,16 @@ impl<R: Source> Capture<R> {
     pub fn new(source: R, passes_cut: bool) -> Self
         ensures source { source_of result ≡ source }
         ensures kept { kept_of result ≡ [] }
-        ensures scan { scan_of result ≡ fresh passes_cut Stage.Start }
+        ensures scan { scan_of result ≡ fresh passes_cut Stage.Raw }
+        ensures chosen { chosen_of result ≡ false }
         ensures packet { last_packet_of result ≡ None }
         ensures gave_up { gave_up_of result ≡ 0 }
         ensures calls { calls_of result ≡ 0 }
     {
         Capture {
             source,
-            scan: Scan::new(passes_cut, Stage::Start),
+            scan: Scan::new(passes_cut, Stage::Raw),
+            chosen: false,
             packet: None,
             bytes: [0; ROOM],
             start: 0,
@@ -111,6 +116,52 @@ impl<R: Source> Capture<R> {
         self.fault().is_some()
     }
 
+    // Reads until four bytes are there, or the input ends.
+    fn fetch(&mut self) -> Result<(), DeviceFault>
+        requires { chosen_of self.old ≡ false }
+        ensures fetched { Fetches R.left R.calls self.old self.new }
+        ensures enough { IfOk result (λ u. (4 ≤ length (kept_of self.new)) ⊎
+            IsAtEnd (R.left (source_of self.new))) }
+        ensures failed { ReadCounts (R.failures (source_of self.old))
+            (R.failures (source_of self.new)) result }
+        ensures scan { scan_of self.new ≡ scan_of self.old }
+        ensures chosen { chosen_of self.new ≡ false }
+        ensures called { calls_of self.new ≡ calls_of self.old }
+        ensures packet { last_packet_of self.new ≡ last_packet_of self.old }
+    {
+        for number in 0..4u64 {
+            let kept = &self.bytes[self.start..self.end];
+            if kept.len() >= 4 {
+                return Ok(());
+            }
+            let count = self.source.read(&mut self.bytes[self.end..])?;
+            if count == 0 {
+                return Ok(());
+            }
+            self.end += count;
+        }
+        Ok(())
+    }
+
+    // Finds out what the input is, if that is not known.
+    fn choose(&mut self) -> Result<(), DeviceFault>
+        requires { chosen_of self.old ≡ false }
+        ensures begins { IfOk result (λ u. Begins R.left R.calls R.failures self.old self.new) }
+        ensures fetched { Fetches R.left R.calls self.old self.new }
+        ensures failed { ReadCounts (R.failures (source_of self.old))
+            (R.failures (source_of self.new)) result }
+        ensures scan { IfErr result (λ e. scan_of self.new ≡ scan_of self.old) }
+        ensures chosen { IfErr result (λ e. chosen_of self.new ≡ false) }
+        ensures called { calls_of self.new ≡ calls_of self.old }
+        ensures packet { last_packet_of self.new ≡ last_packet_of self.old }
+    {
+        self.fetch()?;
+        let stage = first_stage(&self.bytes[self.start..self.end]);
+        self.scan.begin(stage);
+        self.chosen = true;
+        Ok(())
+    }
+
     // Reads once if no bytes are kept. It is false at the end of the input.
     fn fill(&mut self) -> Result<bool, DeviceFault>
         ensures has { HasBytes R.left self.new result }
@@ -122,6 +173,7 @@ impl<R: Source> Capture<R> {
         ensures gave_up { gave_up_of self.new ≡ gave_up_of self.old }
         ensures called { calls_of self.new ≡ calls_of self.old }
         ensures packet { last_packet_of self.new ≡ last_packet_of self.old }
+        ensures chosen { chosen_of self.new ≡ chosen_of self.old }
     {
         if self.start < self.end {
             return Ok(true);
@@ -135,6 +187,7 @@ impl<R: Source> Capture<R> {
 
     // Takes bytes that are kept, and hands on those of a packet.
     fn hand_on(&mut self, buffer: &mut [u8]) -> usize
+        requires { chosen_of self.old ≡ true }
         ensures bound { result ≤ length buffer.new }
         ensures moved { HandsOn self.old self.new result (take result buffer.new) }
         ensures some { 0 < length (kept_of self.old) → 0 < length buffer.old →
@@ -143,6 +196,7 @@ impl<R: Source> Capture<R> {
         ensures gave_up { gave_up_of self.new ≡ gave_up_of self.old }
         ensures called { calls_of self.new ≡ calls_of self.old }
         ensures packet { last_packet_of self.new ≡ last_packet_of self.old }
+        ensures chosen { chosen_of self.new ≡ true }
     {
         let bytes: &[u8] = &self.bytes;
         let piece = &bytes[self.start..self.end];
@@ -162,12 +216,14 @@ impl<R: Source> Capture<R> {
 
     // Reads bytes of a packet, in as many turns as that takes.
     fn read_part(&mut self, buffer: &mut [u8]) -> Result<usize, DeviceFault>
+        requires { chosen_of self.old ≡ true }
         ensures bound { IfOk result (λ n. n ≤ length buffer.new) }
         ensures part { ReadsPart R.left R.failures self.old self.new result buffer.new }
         ensures asks { Asks R.left R.calls self.old self.new result }
         ensures stops { Stops self.old self.new result }
         ensures called { calls_of self.new ≡ calls_of self.old }
         ensures packet { last_packet_of self.new ≡ last_packet_of self.old }
+        ensures chosen { chosen_of self.new ≡ true }
     {
         if self.is_stopped() {
             return Ok(0);
@@ -191,6 +247,27 @@ impl<R: Source> Capture<R> {
         self.gave_up = self.gave_up.wrapping_add(1);
         Err(DeviceFault)
     }
+
+    // The same, also if it is not known what the input is.
+    fn read_input(&mut self, buffer: &mut [u8]) -> Result<usize, DeviceFault>
+        ensures bound { IfOk result (λ n. n ≤ length buffer.new) }
+        ensures input { ReadsInput R.left R.calls R.failures self.old self.new result buffer.new }
+        ensures stops { Stops self.old self.new result }
+        ensures called { calls_of self.new ≡ calls_of self.old }
+        ensures packet { last_packet_of self.new ≡ last_packet_of self.old }
+    {
+        if self.chosen {
+            return self.read_part(buffer);
+        }
+        if self.fault().is_some() {
+            return Ok(0);
+        }
+        if buffer.is_empty() {
+            return Ok(0);
+        }
+        self.choose()?;
+        self.read_part(buffer)
+    }
 }
 
 impl<R: Source> Source for Capture<R> {
@@ -198,7 +275,7 @@ impl<R: Source> Source for Capture<R> {
     ghost use Rattle.std.specs.Io.KnownBytes.{ReadConsumes};
     ghost use Rattle.dbus_device.specs.Device.{one_more};
     ghost use Rattle.dbus_device.specs.Packets.{ReadsOfPacket, LeavesPacket};
-    ghost use Rattle.dbus_capture.specs.Captures.{scan_of, left_of, failures_of, calls_of, packets_of, last_packet_of, ReadsPart, Asks, Stops};
+    ghost use Rattle.dbus_capture.specs.Captures.{scan_of, left_of, failures_of, calls_of, packets_of, last_packet_of, ReadsInput, Stops};
 
     ghost left = { λ s. left_of R.left s };
 
@@ -223,8 +300,9 @@ impl<R: Source> Source for Capture<R> {
     /// Fills a prefix of the buffer with bytes of one packet, and returns their number.
     ///
     /// 0 bytes are the end of the input, a fault of the file, or the buffer has no room. The source
-    /// below is called only while the bytes that it gave hold none of a packet, so each packet of a
-    /// live file is given as it comes. It is not called after a fault, nor if there is no room.
+    /// below is called only until it gave four bytes, and while the bytes that it gave hold none of
+    /// a packet, so each packet of a live file is given as it comes. It is not called after a
+    /// fault, nor if there is no room.
     ///
     /// `DeviceFault`: the source below failed. No byte is lost, none of a packet is kept, and the
     /// call may be made again. It also comes if at least 2^64 - 1 bytes of the file in a row have
@@ -241,14 +319,13 @@ impl<R: Source> Source for Capture<R> {
         ensures leaves_packet { LeavesPacket (last_packet_of self.old) (last_packet_of self.new)
             result }
         // What the file has to do with it, and which packet the bytes are of.
-        ensures part { ReadsPart R.left R.failures self.old self.new result buffer.new }
-        ensures asks { Asks R.left R.calls self.old self.new result }
+        ensures input { ReadsInput R.left R.calls R.failures self.old self.new result buffer.new }
         ensures stops { Stops self.old self.new result }
         ensures packet { last_packet_of self.new ≡
             last_packet result (scan_of self.new).packet (last_packet_of self.old) }
     {
         self.calls = self.calls.wrapping_add(1);
-        let read = self.read_part(buffer);
+        let read = self.read_input(buffer);
         self.packet = last_packet(read, self.scan.packet, self.packet);
         read
     }

@@ -16,7 +16,7 @@ pub struct CaptureFault {
 #[derive(Clone, Copy, Debug, PartialEq, Eq)]
 pub enum CaptureReason {
     /// The first four bytes are no magic number of pcap, or not the type of a section header
-    /// block, though the first byte is that of one: at 0.
+    /// block: at 0. It never comes, since an input that begins so is no file.
     Magic,
     /// The version of a pcap file is not 2.4: at byte 4. That of a section of a pcapng file is not
     /// 1.0 or 1.2: at byte 12 of the section.

@@ -5,8 +5,7 @@
 //!
 //! [`Source::read`]: dbus_device::Source::read
 ghost use Rattle.std.specs.Prelude.{◌≡◌, ◌<◌, ◌+◌, ℕ, ◌++◌, List, [], ◌∷◌, length, Bool, Option, Some, None, slice_get};
-ghost use Rattle.dbus_capture.specs.Stages.{first_stage, IsFirstOfStream};
-ghost use Rattle.dbus_capture.specs.Scans.{fresh};
+ghost use Rattle.dbus_capture.specs.Beginnings.{first_stage, first_scan, IsFirstOfStream};
 ghost use Rattle.dbus_capture.specs.Steps.{run, given, packet_given, ended};
 ghost use Rattle.dbus_capture.specs.Reading.{IsReadOf};
 ghost use Rattle.dbus_capture.specs.PcapFiles.{PcapHeader, PcapPacket, FitsHeader, FitsPacket, AllFitPackets, packet_header_bytes, pcap_bytes, captures};
@@ -34,18 +33,18 @@ pub fn pcap_is_read()
 /// capture gives the bytes of those packets before it. If the bytes end within such a packet, it
 /// also gives those of it.
 pub fn pcap_outcome()
-    ensures { (passes_cut : Bool) (x : ℕ) (xs : List ℕ) →
-        AreBytes (x ∷ xs) → first_stage x ≡ stages.FileHeader →
-        IsPcapOutcome passes_cut (x ∷ xs) (given (fresh passes_cut stages.Start) (x ∷ xs))
-        (ended (run (fresh passes_cut stages.Start) (x ∷ xs))).fault }
+    ensures { (passes_cut : Bool) (bytes : List ℕ) →
+        AreBytes bytes → first_stage bytes ≡ stages.FileHeader →
+        IsPcapOutcome passes_cut bytes (given (first_scan passes_cut bytes) bytes)
+        (ended (run (first_scan passes_cut bytes) bytes)).fault }
 {}
 
 /// It comes to this only: it has no second fault, and is no file if it has one.
 pub fn one_pcap_outcome()
-    ensures { (passes_cut : Bool) (x : ℕ) (xs out more : List ℕ)
+    ensures { (passes_cut : Bool) (bytes out more : List ℕ)
         (fault other : Option CaptureFault) →
-        AreBytes (x ∷ xs) → first_stage x ≡ stages.FileHeader →
-        IsPcapOutcome passes_cut (x ∷ xs) out fault → IsPcapOutcome passes_cut (x ∷ xs) more other →
+        AreBytes bytes → first_stage bytes ≡ stages.FileHeader →
+        IsPcapOutcome passes_cut bytes out fault → IsPcapOutcome passes_cut bytes more other →
         (out ≡ more) × (fault ≡ other) }
 {}
 
@@ -64,19 +63,19 @@ pub fn pcapng_is_read()
 /// the bytes within such a packet's block, or the length at its end, it also gives those bytes of
 /// the packet that are there.
 pub fn pcapng_outcome()
-    ensures { (passes_cut : Bool) (x : ℕ) (xs : List ℕ) →
-        AreBytes (x ∷ xs) → first_stage x ≡ stages.Section →
-        IsPcapngOutcome passes_cut (x ∷ xs) (given (fresh passes_cut stages.Start) (x ∷ xs))
-        (ended (run (fresh passes_cut stages.Start) (x ∷ xs))).fault }
+    ensures { (passes_cut : Bool) (bytes : List ℕ) →
+        AreBytes bytes → first_stage bytes ≡ stages.Section →
+        IsPcapngOutcome passes_cut bytes (given (first_scan passes_cut bytes) bytes)
+        (ended (run (first_scan passes_cut bytes) bytes)).fault }
 {}
 
 /// It comes to this only: it has no second fault, and is no file if it has one.
 pub fn one_pcapng_outcome()
-    ensures { (passes_cut : Bool) (x : ℕ) (xs out more : List ℕ)
+    ensures { (passes_cut : Bool) (bytes out more : List ℕ)
         (fault other : Option CaptureFault) →
-        AreBytes (x ∷ xs) → first_stage x ≡ stages.Section →
-        IsPcapngOutcome passes_cut (x ∷ xs) out fault →
-        IsPcapngOutcome passes_cut (x ∷ xs) more other → (out ≡ more) × (fault ≡ other) }
+        AreBytes bytes → first_stage bytes ≡ stages.Section →
+        IsPcapngOutcome passes_cut bytes out fault →
+        IsPcapngOutcome passes_cut bytes more other → (out ≡ more) × (fault ≡ other) }
 {}
 
 /// While a capture gives the bytes of a packet of a pcap file, it reports its number, place, time
@@ -86,8 +85,9 @@ pub fn pcap_packet_is_reported()
         (packet : PcapPacket) (front back : List ℕ) →
         FitsHeader header → AllFitPackets passes_cut packets → FitsPacket passes_cut packet →
         packet.original ≡ length packet.bytes → packet.bytes ≡ front ++ back →
-        Reports (run (fresh passes_cut stages.Start) (pcap_bytes header packets ++
-        (packet_header_bytes header.order packet ++ front)))
+        let bytes = pcap_bytes header packets ++
+        (packet_header_bytes header.order packet ++ front) in
+        Reports (run (first_scan passes_cut bytes) bytes)
         (pcap_packet_reported header packets packet) }
 {}
 
@@ -103,8 +103,8 @@ pub fn pcapng_packet_is_reported()
         slice_get interfaces (interface_of block) ≡ Some i → i.link_type ≡ 231 →
         packet_original block ≡ length (packet_bytes block) →
         packet_bytes block ≡ front ++ back →
-        Reports (run (fresh passes_cut stages.Start) (sections_bytes (x ∷ sections) ++
-        (block_front last.order block ++ front)))
+        let bytes = sections_bytes (x ∷ sections) ++ (block_front last.order block ++ front) in
+        Reports (run (first_scan passes_cut bytes) bytes)
         (pcapng_packet_reported (x ∷ sections) i block) }
 {}
 
@@ -115,9 +115,10 @@ pub fn pcap_bytes_have_packets()
         (packet : PcapPacket) (more : List ℕ) (i : ℕ) →
         FitsHeader header → AllFitPackets passes_cut packets → FitsPacket passes_cut packet →
         packet.original ≡ length packet.bytes → i < length packet.bytes →
-        packet_given (fresh passes_cut stages.Start)
-        ((pcap_bytes header packets ++ packet_header_bytes header.order packet) ++
-        (packet.bytes ++ more)) (length (whole_payload (captures packets)) + i) ≡
+        let bytes = (pcap_bytes header packets ++ packet_header_bytes header.order packet) ++
+        (packet.bytes ++ more) in
+        packet_given (first_scan passes_cut bytes) bytes
+        (length (whole_payload (captures packets)) + i) ≡
         Some (pcap_packet_reported header packets packet) }
 {}
 
@@ -132,20 +133,21 @@ pub fn pcapng_bytes_have_packets()
         slice_get interfaces (interface_of block) ≡ Some i → i.link_type ≡ 231 →
         packet_original block ≡ length (packet_bytes block) →
         n < length (packet_bytes block) →
-        packet_given (fresh passes_cut stages.Start)
-        ((sections_bytes (x ∷ sections) ++ block_front last.order block) ++
-        (packet_bytes block ++ more)) (length (whole_payload (sections_packets (x ∷ sections))) + n) ≡
+        let bytes = (sections_bytes (x ∷ sections) ++ block_front last.order block) ++
+        (packet_bytes block ++ more) in
+        packet_given (first_scan passes_cut bytes) bytes
+        (length (whole_payload (sections_packets (x ∷ sections))) + n) ≡
         Some (pcapng_packet_reported (x ∷ sections) i block) }
 {}
 
 /// A capture gives what begins as a message or a handshake as it is.
 pub fn streams_are_no_files()
-    ensures { (first : ℕ) → IsFirstOfStream first → first_stage first ≡ stages.Raw }
+    ensures { (first : ℕ) (rest : List ℕ) →
+        IsFirstOfStream first → first_stage (first ∷ rest) ≡ stages.Raw }
 {}
 
 /// No byte of an input that is no file is of a packet.
 pub fn streams_have_no_packets()
-    ensures { (passes_cut : Bool) (first : ℕ) (rest : List ℕ) (i : ℕ) →
-        first_stage first ≡ stages.Raw →
-        packet_given (fresh passes_cut stages.Start) (first ∷ rest) i ≡ None }
+    ensures { (passes_cut : Bool) (bytes : List ℕ) (i : ℕ) →
+        first_stage bytes ≡ stages.Raw → packet_given (first_scan passes_cut bytes) bytes i ≡ None }
 {}

@@ -2,7 +2,7 @@
 //!
 //! A [`Capture`] reads such a file from a source, and is itself a source: of the bytes of the
 //! file's D-Bus packets, one after another, as `dbus_stream` reads them. Messages with no file
-//! around them, and a handshake, pass through it unchanged: the first byte alone says which it is.
+//! around them, and a handshake, pass through it unchanged: the first four bytes say which it is.
 //! No read gives bytes of two packets, so [`Source::packet`] says where and when what was read last
 //! was captured. A file that cannot be read has one fault ([`Capture::fault`]), at one place and
 //! for one reason, and what is read ends there.

@@ -12,7 +12,7 @@ use dbus_device::Packet;
 
 // The order that a magic number says, and whether fractions of seconds are nanoseconds: the number
 // as a little-endian machine reads it.
-fn magic(number: u32) -> Option<(ByteOrder, bool)>
+pub(crate) fn magic(number: u32) -> Option<(ByteOrder, bool)>
     ensures { result ≡ magic number }
 {
     if number == 0xa1b2_c3d4 {

@@ -5,7 +5,7 @@ use crate::byte_order::ByteOrder;
 use crate::fault::{CaptureFault, CaptureReason};
 use crate::head::Head;
 use crate::interface::{Interface, Interfaces};
-use crate::stage::{Stage, first_stage};
+use crate::stage::Stage;
 use dbus_device::Packet;
 use std::mem;
 
@@ -41,7 +41,7 @@ pub struct Scan {
 impl Scan {
     ghost use Rattle.std.specs.Prelude.{[], None, true};
     ghost use Rattle.dbus_capture.specs.Scans.{fresh, refused};
-    ghost use Rattle.dbus_capture.specs.Stages.{is_filed, want};
+    ghost use Rattle.dbus_capture.specs.Stages.{begun, is_filed, want};
     ghost use Rattle.dbus_capture.specs.Steps.{IsPart, run, given, ended, may_end, turn_of};
     ghost use Rattle.dbus_capture.specs.Blocks.{decoded};
 
@@ -74,6 +74,13 @@ impl Scan {
         }
     }
 
+    // The input is of this kind. Nothing was taken of it.
+    pub(crate) fn begin(&mut self, stage: Stage)
+        ensures { self.new ≡ record self.old { head = begun stage } }
+    {
+        self.head = Head::new(stage);
+    }
+
     // Takes bytes of the piece and hands on those of a packet: how many it took, and how many it
     // handed on.
     pub(crate) fn take(&mut self, piece: &[u8], out: &mut [u8]) -> (usize, usize)
@@ -89,37 +96,12 @@ impl Scan {
             return (piece.len(), 0);
         }
         match self.head.stage() {
-            Stage::Start => self.take_first(piece, out),
             Stage::Raw => {
                 let count = copy_front(piece, out);
                 (count, count)
             }
             _ => self.take_filed(piece, out),
         }
-    }
-
-    // The same at the start, where the first byte says what comes.
-    fn take_first(&mut self, piece: &[u8], out: &mut [u8]) -> (usize, usize)
-        requires unfaulted { self.old.fault ≡ None }
-        requires starts { self.old.head.stage ≡ Stage.Start }
-        ensures took { result.0 ≤ length piece.now }
-        ensures gave { result.1 ≤ length out.new }
-        ensures runs { self.new ≡ run self.old (take result.0 piece.now) }
-        ensures gives { given self.old (take result.0 piece.now) ≡ take result.1 out.new }
-        ensures moves { 0 < length piece.now → 0 < length out.old → 0 < result.0 }
-        ensures one { 0 < result.1 → (result.0 ≡ result.1) ×
-            IsPart self.old self.new result.1 }
-    {
-        if piece.is_empty() || out.is_empty() {
-            return (0, 0);
-        }
-        let stage = first_stage(piece[0]);
-        self.head = Head::new(stage);
-        if stage.is_raw() {
-            let count = copy_front(piece, out);
-            return (count, count);
-        }
-        self.take_filed(piece, out)
     }
 
     // The same, in a file.
@@ -210,7 +192,6 @@ impl Scan {
         ensures { self.new ≡ decoded self.old head.now }
     {
         match self.head.stage() {
-            Stage::Start => {}
             Stage::Raw => {}
             Stage::FileHeader => self.file_header(head),
             Stage::Record => self.record(head),
@@ -227,13 +208,12 @@ impl Scan {
         }
     }
 
-    // Whether the file may end here: between two packets or blocks, or before its first byte.
+    // Whether the file may end here: between two packets or blocks.
     fn may_end(&self) -> bool
         requires { self.now.fault ≡ None }
         ensures { result ≡ may_end (turn_of self.now) self.now.head.stage self.now.head.bytes }
     {
         match self.head.stage() {
-            Stage::Start => self.give == 0 && self.skip == 0,
             Stage::Raw => true,
             Stage::Record | Stage::Block => self.give == 0
                 && self.skip == 0

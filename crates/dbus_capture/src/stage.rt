@@ -1,13 +1,16 @@
 //! Which head of a file comes next.
 ghost use Rattle.std.specs.Prelude.{◌≡◌};
-ghost use Rattle.dbus_capture.specs.Stages.{want, is_raw, first_stage};
+ghost use Rattle.std.specs.Prelude.{length};
+ghost use Rattle.dbus_capture.specs.Stages.{want, is_raw};
+ghost use Rattle.dbus_capture.specs.Beginnings.{stage_by, first_stage};
+
+use crate::byte_order::ByteOrder;
+use crate::pcap::magic;
 
 /// Which head comes next in a file, after the bytes of the packet under way and those that are
 /// passed over.
 #[derive(Clone, Copy)]
 pub enum Stage {
-    // The first byte, which tells the format.
-    Start,
     // No head: bytes with no file around them.
     Raw,
     // The header of a pcap file. "File Header".
@@ -42,7 +45,6 @@ impl Stage {
         ensures { result ≡ want self }
     {
         match self {
-            Stage::Start => 24,
             Stage::Raw => 24,
             Stage::FileHeader => 24,
             Stage::Record => 16,
@@ -70,13 +72,26 @@ impl Stage {
     }
 }
 
-// What comes first in an input that begins with this byte.
-pub(crate) fn first_stage(first: u8) -> Stage
-    ensures { result ≡ first_stage first }
+// Which head comes first, by the first four bytes as a little-endian machine reads them.
+fn stage_by(number: u32) -> Stage
+    ensures { result ≡ stage_by number }
 {
-    match first {
-        0xa1 | 0xd4 | 0x4d => Stage::FileHeader,
-        0x0a => Stage::Section,
-        _ => Stage::Raw,
+    if magic(number).is_some() {
+        Stage::FileHeader
+    } else if number == 0x0a0d_0d0a {
+        Stage::Section
+    } else {
+        Stage::Raw
+    }
+}
+
+// Which head comes first in an input that begins with these bytes, or that they are all of.
+pub(crate) fn first_stage(bytes: &[u8]) -> Stage
+    ensures { result ≡ first_stage bytes.now }
+{
+    if bytes.len() < 4 {
+        Stage::Raw
+    } else {
+        stage_by(ByteOrder::Little.u32_at(0, bytes))
     }
 }

@@ -3,10 +3,9 @@
 
 ghost use Rattle.std.specs.Prelude.{◌≡◌, ◌≤◌, ◌++◌, ◌⊎◌, ℕ, List, Some, length, take, true, false};
 ghost use Rattle.std.specs.Io.KnownBytes.{Consumes, IsAtEnd};
-ghost use Rattle.dbus_capture.specs.Scans.{fresh};
-ghost use Rattle.dbus_capture.specs.Captures.{file_of, left_of, packets_of, scan_of, source_of};
+ghost use Rattle.dbus_capture.specs.Beginnings.{first_scan};
+ghost use Rattle.dbus_capture.specs.Captures.{file_of, left_of, opened, packets_of, scan_of, source_of};
 ghost use Rattle.dbus_capture.specs.Steps.{ended, given, packet_given, run};
-ghost use Rattle.dbus_capture.specs.declared.stage.Stage.TheVariants as stages;
 ghost use Rattle.dbus_device.specs.Packets.{Packets};
 ghost use Rattle.dbus_page.specs.Parts.{AreTimed, IsFaultTold, IsFull, time_in, time_of};
 ghost use Rattle.dbus_page.specs.Failing.{MayFail};
@@ -91,7 +90,7 @@ fn read_through<R: Source>(
         AreTimed packets 0 (take result.parts parts.new) result.length }
     ensures fault { result.is_all ≡ true → (bytes : List ℕ) →
         file_of R.left capture.old ≡ Some bytes →
-        (ended (run (scan_of capture.old) bytes)).fault ≡ (scan_of capture.new).fault }
+        (ended (run (opened capture.old bytes) bytes)).fault ≡ (scan_of capture.new).fault }
     ensures full { result.is_all ≡ false → (bytes : List ℕ) →
         file_of R.left capture.old ≡ Some bytes →
         IsFull room.new parts.new result.length result.parts ⊎
@@ -161,16 +160,16 @@ pub extern "C" fn dbus_page_unpack(
     unpacked: &mut Unpacked,
 ) -> u32
     ensures front { (rest : List ℕ) ×
-        (given (fresh false stages.Start) file.now ≡ take unpacked.new.length room.new ++ rest) }
+        (given (first_scan false file.now) file.now ≡ take unpacked.new.length room.new ++ rest) }
     ensures whole { result ≡ WHOLE →
-        given (fresh false stages.Start) file.now ≡ take unpacked.new.length room.new }
-    ensures timed { AreTimed (packet_given (fresh false stages.Start) file.now) 0
+        given (first_scan false file.now) file.now ≡ take unpacked.new.length room.new }
+    ensures timed { AreTimed (packet_given (first_scan false file.now) file.now) 0
         (take unpacked.new.parts parts.new) unpacked.new.length }
     ensures answers { (result ≡ WHOLE) ⊎ (result ≡ NO_ROOM) }
     ensures full { result ≡ NO_ROOM →
         IsFull room.new parts.new unpacked.new.length unpacked.new.parts }
     ensures fault { result ≡ WHOLE →
-        IsFaultTold (ended (run (fresh false stages.Start) file.now)).fault unpacked.new }
+        IsFaultTold (ended (run (first_scan false file.now) file.now)).fault unpacked.new }
 {
     let source = Memory {
         left: file,

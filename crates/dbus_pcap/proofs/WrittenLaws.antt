@@ -2,15 +2,14 @@
 use Rattle.std.proofs.Common.{◌≡◌, ℕ, suc, ◌+◌, ◌<◌, ◌^◌, ◌/◌, ◌%◌, Bool, true, false, cond, nat_lt, List, [], ◌∷◌, ◌++◌, length, map, Option, Some, None, refl, sym, ap, ◌∙◌, arith, subst}
 use Rattle.dbus_capture.specs.CutPackets.{IsCaptured, whole_payload, whole_count}
 use Rattle.dbus_capture.specs.PcapFiles.{FitsHeader, FitsPacket, AllFitPackets, packet_header_bytes, captures}
-use Rattle.dbus_capture.specs.Packets.{pcap_packet_reported}
 use Rattle.dbus_capture.specs.Heads.{record_time}
 use Rattle.dbus_capture.specs.Reading.{IsRead}
-use Rattle.dbus_capture.specs.Scans.{fresh, place}
+use Rattle.dbus_capture.specs.Beginnings.{first_scan}
+use Rattle.dbus_capture.specs.Scans.{place}
 use Rattle.dbus_capture.specs.Steps.{packet_given}
-use Rattle.dbus_capture.specs.declared.stage.Stage.TheVariants.{Start}
 use Rattle.dbus_capture.proofs.PacketLaws.{pcap_packet_of}
 use Rattle.dbus_capture.proofs.PcapFileLaws.{pcap_read}
-use Rattle.dbus_pcap.specs.Written.{AllFit, CapturedMessage, file_of, last_time, messages_bytes, packet_of, written_header, written_time}
+use Rattle.dbus_pcap.specs.Written.{AllFit, CapturedMessage, file_of, messages_bytes, packet_of, written_header, written_time}
 
 pub fits_header : FitsHeader written_header
 fits_header = record { unread = refl }
@@ -55,12 +54,13 @@ time_is : (t : ℕ) → record_time true (t / 1000000000) (t % 1000000000) ≡ t
 time_is t = omega arith
 
 pub times_read : (passes : Bool) (before : List CapturedMessage) (m : CapturedMessage) (more : List ℕ) (i : ℕ) → AllFit before → length m.bytes < 2 ^ 32 → i < length m.bytes
-    → packet_given (fresh passes Start) ((file_of before ++ packet_header_bytes written_header.order (packet_of m)) ++ (m.bytes ++ more)) (length (messages_bytes before) + i)
+    → let bytes = (file_of before ++ packet_header_bytes written_header.order (packet_of m)) ++ (m.bytes ++ more) in
+    packet_given (first_scan passes bytes) bytes (length (messages_bytes before) + i)
     ≡ Some (record { number = place (length before + 1); at = place (length (file_of before)); time = Some (written_time m.time); length = length m.bytes })
 times_read passes before m more i f low there =
     let packets = map packet_of before in
     let bytes = (file_of before ++ packet_header_bytes written_header.order (packet_of m)) ++ (m.bytes ++ more) in
-    ap (λ (l : List ℕ). packet_given (fresh passes Start) bytes (length l + i)) (sym (payload_is before))
+    ap (λ (l : List ℕ). packet_given (first_scan passes bytes) bytes (length l + i)) (sym (payload_is before))
     ∙ pcap_packet_of passes written_header packets (packet_of m) fits_header (all_fit passes before f) (fits_packet passes m low) refl more i there
     ∙ ap (λ (n : ℕ). Some (record { number = place (n + 1); at = place (length (file_of before)); time = Some (record_time true (packet_of m).seconds (packet_of m).fraction); length = length m.bytes })) (count_is before)
     ∙ ap (λ (t : ℕ). Some (record { number = place (length before + 1); at = place (length (file_of before)); time = Some t; length = length m.bytes })) (time_is (written_time m.time))

@@ -2,9 +2,9 @@
 ghost use Rattle.std.specs.Prelude.{◌≡◌, ◌<◌, ◌^◌, ◌+◌, ℕ, ◌++◌, List, Bool, length, Some};
 ghost use Rattle.dbus_capture.specs.PcapFiles.{packet_header_bytes};
 ghost use Rattle.dbus_capture.specs.Reading.{IsRead};
-ghost use Rattle.dbus_capture.specs.Scans.{fresh, place};
+ghost use Rattle.dbus_capture.specs.Beginnings.{first_scan};
+ghost use Rattle.dbus_capture.specs.Scans.{place};
 ghost use Rattle.dbus_capture.specs.Steps.{packet_given};
-ghost use Rattle.dbus_capture.specs.declared.stage.Stage.TheVariants as stages;
 ghost use Rattle.dbus_pcap.specs.Written.{AllFit, CapturedMessage, file_of, messages_bytes, packet_of, written_header, written_time};
 
 /// The file of messages is read whole: a capture gives the messages, one after the other, and there
@@ -20,9 +20,9 @@ pub fn written_times_are_read()
     ensures { (passes_cut : Bool) (before : List CapturedMessage) (message : CapturedMessage)
         (more : List ℕ) (i : ℕ) →
         AllFit before → length message.bytes < 2 ^ 32 → i < length message.bytes →
-        packet_given (fresh passes_cut stages.Start)
-        ((file_of before ++ packet_header_bytes written_header.order (packet_of message)) ++
-        (message.bytes ++ more)) (length (messages_bytes before) + i) ≡
+        let bytes = (file_of before ++ packet_header_bytes written_header.order (packet_of message)) ++
+        (message.bytes ++ more) in
+        packet_given (first_scan passes_cut bytes) bytes (length (messages_bytes before) + i) ≡
         Some (record {
           number = place (length before + 1);
           at = place (length (file_of before));

@@ -1,9 +1,9 @@
-use Rattle.std.proofs.Common.{rules, length, ◌-◌, ◌<◌, Option, refl, sym, subst, arith, ◌∙◌}
+use Rattle.std.proofs.Common.{rules, length, ◌-◌, ◌<◌, Option, inr, refl, sym, subst, arith, ◌∙◌}
 use Rattle.std.proofs.KnownBytes.{Consumes-nil}
 use Rattle.dbus_capture.specs.Captures.{left_of, packets_of}
 use Rattle.dbus_device.specs.Packets.{AreOfPacket}
 use Rattle.dbus_device.specs.declared.packet.Packet.{Packet}
-use Rattle.dbus_page.proofs.FileSteps.{part_ran, ran_nothing, end_fault}
+use Rattle.dbus_page.proofs.FileSteps.{input_ran, input_unfailed, ran_nothing, end_fault, read_fails}
 use Rattle.dbus_page.proofs.PartSteps.{front_read, more_read, none_read, same_read}
 use Rattle.dbus_page.proofs.unpacking.read_through.Goals as goal
 
@@ -19,8 +19,8 @@ loop-number-preserved g c =
       more_read (left_of left) packets c.args.capture.now l.capture c.read.new.self l.room c.read.new.buffer l.length m k l.parts l.number c.part_of.result c.packet.result
           l.invariant.0 (omega (arith, c.if-count-eq0.false)) read.bound (omega (arith, c.loop-number-test.true, l.auto.parts)) read.bytes.0 read.of_packet.0 of c.part_of.ensures.begins c.part_of.ensures.timed
           (front_read l.room c.read.new.buffer l.length m k l.invariant.0.within read.bound),
-      part_ran left g.R.Source.failures c.args.capture.now l.capture c.read.new.self c.read.new.buffer k l.invariant.1 read.part c.if-count-eq0.false,
-      read.part.0.source ∙ l.invariant.2,
+      input_ran left g.R.Source.calls g.R.Source.failures c.args.capture.now l.capture c.read.new.self c.read.new.buffer l.invariant.1 k read.input c.if-count-eq0.false,
+      input_unfailed left g.R.Source.calls g.R.Source.failures c.args.capture.now l.capture c.read.new.self c.read.new.buffer l.invariant.1 k read.input ∙ l.invariant.2,
     )
 
 pub loop-number-init : goal.loop-number-init
@@ -28,7 +28,7 @@ loop-number-init g c =
     let left = g.R.Source.left in
     let capture = c.args.capture.now in (
       none_read (left_of left) (packets_of left) capture c.args.room.now c.args.parts.now (Consumes-nil (left_of left capture)),
-      ran_nothing left capture,
+      ran_nothing left g.R.Source.calls g.R.Source.failures capture,
       refl,
     )
 
@@ -43,4 +43,9 @@ pub returns-then-count-eq0-clause-fault : goal.returns-then-count-eq0-clause-fau
 returns-then-count-eq0-clause-fault g c = λ some bytes is.
     let l = c.loop-number in
     let room : 0 < length c.read.new.buffer = search rules in
-    end_fault g.R.Source.left g.R.Source.failures c.args.capture.now l.capture c.read.new.self c.read.new.buffer c.in-Ok.count bytes l.invariant.1 c.in-Ok.ensures.part c.if-count-eq0.true room is
+    end_fault g.R.Source.left g.R.Source.calls g.R.Source.failures c.args.capture.now l.capture c.read.new.self c.read.new.buffer l.invariant.1 c.in-Ok.count bytes c.in-Ok.ensures.input c.if-count-eq0.true room is
+
+pub returns-in-Err-clause-full : goal.returns-in-Err-clause-full
+returns-in-Err-clause-full g c = λ none bytes is.
+    let l = c.loop-number in
+    inr (read_fails g.R.Source.left g.R.Source.calls g.R.Source.failures c.args.capture.now l.capture c.read.new.self c.read.new.buffer l.invariant.1 c.in-Err.field-0 bytes l.invariant.2 is c.in-Err.ensures.input)

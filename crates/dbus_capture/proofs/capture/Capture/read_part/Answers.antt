@@ -65,7 +65,7 @@ returns-then-passes_on-clause-asks g c =
     raw_asks g.R.Source.left g.R.Source.failures g.R.Source.calls c.args.self.now _ c.read.result c.read.new.buffer p (subst (λ (n : ℕ). 0 < n) (sym c.read.auto.buffer) room) e.bound e.bytes e.called
 
 pub turns-init : goal.turns-init
-turns-init g c = goes_nowhere g.R.Source.left g.R.Source.calls g.R.Source.failures c.args.self.now
+turns-init g c = (goes_nowhere g.R.Source.left g.R.Source.calls g.R.Source.failures c.args.self.now, c.requires)
 
 pub returns-in_err-fill-clause-asks : goal.returns-in_err-fill-clause-asks
 returns-in_err-fill-clause-asks g c =
@@ -73,7 +73,7 @@ returns-in_err-fill-clause-asks g c =
     let now = c.args.self.now in
     let new = c.fill.new.self in
     let p = err_from_is_err_and c.from_residual.result c.from_residual.ensures.1 in
-    asks_last left g.R.Source.calls g.R.Source.failures c.turns.turn now c.turns.self new new c.from_residual.result c.turns.invariant c.fill.ensures.fills c.in_err-fill.ensures.has refl
+    asks_last left g.R.Source.calls g.R.Source.failures c.turns.turn now c.turns.self new new c.from_residual.result c.turns.invariant.0 c.fill.ensures.fills c.in_err-fill.ensures.has refl
     (subst (λ (r : Result ℕ DeviceFault). IfOk r (λ n. (n ≡ 0) × Ends left now new)) (sym p.1) tt)
 
 pub returns-then-not-branch-clause-part : goal.returns-then-not-branch-clause-part
@@ -81,7 +81,7 @@ returns-then-not-branch-clause-part g c =
     let left = g.R.Source.left in
     let failures = g.R.Source.failures in
     let e = c.in_ok-fill.ensures in
-    let filled = passes_filled left failures c.turns.turn c.args.self.now c.turns.self c.fill.new.self c.turns.invariant.passes e.file e.scan e.failed e.gave_up e.called e.packet in
+    let filled = passes_filled left failures c.turns.turn c.args.self.now c.turns.self c.fill.new.self c.turns.invariant.0.passes e.file e.scan e.failed e.gave_up e.called e.packet in
     part_end left failures c.turns.turn c.args.self.now c.fill.new.self _ c.turns.buffer filled refl refl refl c.end.ensures
     (subst (λ (b : Bool). HasBytes left c.fill.new.self (Ok b)) c.if-not-branch.true e.has)
 
@@ -90,17 +90,17 @@ returns-then-not-branch-clause-asks g c =
     let left = g.R.Source.left in
     let failures = g.R.Source.failures in
     let e = c.in_ok-fill.ensures in
-    let filled = passes_filled left failures c.turns.turn c.args.self.now c.turns.self c.fill.new.self c.turns.invariant.passes e.file e.scan e.failed e.gave_up e.called e.packet in
+    let filled = passes_filled left failures c.turns.turn c.args.self.now c.turns.self c.fill.new.self c.turns.invariant.0.passes e.file e.scan e.failed e.gave_up e.called e.packet in
     let none = subst (λ (b : Bool). HasBytes left c.fill.new.self (Ok b)) c.if-not-branch.true e.has in
     let ends = reads_end left c.args.self.now c.fill.new.self _ filled.reads refl refl c.end.ensures none.0 none.1 in
-    asks_last left g.R.Source.calls failures c.turns.turn c.args.self.now c.turns.self c.fill.new.self _ (Ok 0) c.turns.invariant e.fills none.0 refl (refl, ends)
+    asks_last left g.R.Source.calls failures c.turns.turn c.args.self.now c.turns.self c.fill.new.self _ (Ok 0) c.turns.invariant.0 e.fills none.0 refl (refl, ends)
 
 pub returns-then-count-gt0-clause-part : goal.returns-then-count-gt0-clause-part
 returns-then-count-gt0-clause-part g c =
     let left = g.R.Source.left in
     let failures = g.R.Source.failures in
     let e = c.in_ok-fill.ensures in
-    let filled = passes_filled left failures c.turns.turn c.args.self.now c.turns.self c.fill.new.self c.turns.invariant.passes e.file e.scan e.failed e.gave_up e.called e.packet in
+    let filled = passes_filled left failures c.turns.turn c.args.self.now c.turns.self c.fill.new.self c.turns.invariant.0.passes e.file e.scan e.failed e.gave_up e.called e.packet in
     let h = c.hand_on-count.ensures in (
       record { source = ap failures h.source ∙ filled.unfailed.source; gave_up = h.gave_up ∙ filled.unfailed.gave_up },
       inl (
@@ -117,7 +117,7 @@ returns-then-count-gt0-clause-asks g c =
     let left = g.R.Source.left in
     let e = c.in_ok-fill.ensures in
     let some = subst (λ (b : Bool). HasBytes left c.fill.new.self (Ok b)) c.if-not-branch.false e.has in
-    let goes = goes_filled left g.R.Source.calls g.R.Source.failures c.turns.turn c.args.self.now c.turns.self c.fill.new.self c.turns.invariant e.file e.scan e.failed e.gave_up e.called e.packet e.fills some in
+    let goes = goes_filled left g.R.Source.calls g.R.Source.failures c.turns.turn c.args.self.now c.turns.self c.fill.new.self c.turns.invariant.0 e.file e.scan e.failed e.gave_up e.called e.packet e.fills some in
     asks_all left g.R.Source.calls g.R.Source.failures c.turns.turn c.args.self.now c.fill.new.self c.hand_on-count.new.self (Ok c.hand_on-count.result) goes c.hand_on-count.ensures.source
 
 some_there : (l : List ℕ) → (l ≡ [] → ⊥) → 0 < length l
@@ -129,22 +129,24 @@ turns-preserved g c =
     let left = g.R.Source.left in
     let e = c.in_ok-fill.ensures in
     let there = subst (λ (b : Bool). HasBytes left c.fill.new.self (Ok b)) c.if-not-branch.false e.has in
-    let goes = goes_filled left g.R.Source.calls g.R.Source.failures c.turns.turn c.args.self.now c.turns.self c.fill.new.self c.turns.invariant e.file e.scan e.failed e.gave_up e.called e.packet e.fills there in
+    let goes = goes_filled left g.R.Source.calls g.R.Source.failures c.turns.turn c.args.self.now c.turns.self c.fill.new.self c.turns.invariant.0 e.file e.scan e.failed e.gave_up e.called e.packet e.fills there in
     let h = c.hand_on-count.ensures in
     let few = c.if-count-gt0.false in
     let zero : c.hand_on-count.result ≡ 0 = omega (arith, few) in
     let none : take c.hand_on-count.result c.hand_on-count.new.buffer ≡ [] = ap (λ (k : ℕ). take k c.hand_on-count.new.buffer) zero in
-    let room = some_room (length c.args.buffer.now) c.is_empty.result c.is_empty.ensures c.if-is_empty.false in
-    goes_more left g.R.Source.calls g.R.Source.failures c.turns.turn c.args.self.now c.fill.new.self c.hand_on-count.new.self c.hand_on-count.result goes
-    (subst (λ (l : List ℕ). HandsOn c.fill.new.self c.hand_on-count.new.self c.hand_on-count.result l) none h.moved) (h.some (some_there (kept_of c.fill.new.self) there) (omega (arith, room))) h.source h.gave_up h.called h.packet
+    let room = some_room (length c.args.buffer.now) c.is_empty.result c.is_empty.ensures c.if-is_empty.false in (
+      goes_more left g.R.Source.calls g.R.Source.failures c.turns.turn c.args.self.now c.fill.new.self c.hand_on-count.new.self c.hand_on-count.result goes
+          (subst (λ (l : List ℕ). HandsOn c.fill.new.self c.hand_on-count.new.self c.hand_on-count.result l) none h.moved) (h.some (some_there (kept_of c.fill.new.self) there) (omega (arith, room))) h.source h.gave_up h.called h.packet,
+      h.chosen,
+    )
 
 pub returns-clause-part : goal.returns-clause-part
 returns-clause-part g c =
     let left = g.R.Source.left in
     let many = c.turns-test.false in
     let most : 2 ^ 64 ≤ c.turns.turn + 1 = omega (arith, many) in
-    inr (part_gives_up left g.R.Source.failures c.turns.turn c.args.self.now c.turns.self _ c.turns.invariant.passes most (Consumes-nil (file_of left c.turns.self)) refl refl refl)
+    inr (part_gives_up left g.R.Source.failures c.turns.turn c.args.self.now c.turns.self _ c.turns.invariant.0.passes most (Consumes-nil (file_of left c.turns.self)) refl refl refl)
 
 pub returns-clause-asks : goal.returns-clause-asks
 returns-clause-asks g c =
-    asks_all g.R.Source.left g.R.Source.calls g.R.Source.failures c.turns.turn c.args.self.now c.turns.self _ (Err _) c.turns.invariant refl
+    asks_all g.R.Source.left g.R.Source.calls g.R.Source.failures c.turns.turn c.args.self.now c.turns.self _ (Err _) c.turns.invariant.0 refl

@@ -9,9 +9,6 @@ decoded_as : (s : Scan) (head : List ℕ) (stage : Stage) → stage ≡ s.head.s
 unfolding decoded
 decoded_as s head stage e = ap (λ (t : Stage). decoded_by t s head) (sym e)
 
-pub returns-in-Start : goal.returns-in-Start
-returns-in-Start c = sym (decoded_as c.args.self.now c.args.head.now stages.Start c.in-Start.ensures)
-
 pub returns-in-Raw : goal.returns-in-Raw
 returns-in-Raw c = sym (decoded_as c.args.self.now c.args.head.now stages.Raw c.in-Raw.ensures)
 

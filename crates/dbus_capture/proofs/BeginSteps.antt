@@ -1,0 +1,324 @@
+-- What a capture does until it knows what the input is.
+use borrow.Rule.Slice.PartMut.{put_mid}
+use Rattle.std.proofs.Common.{◌≡◌, ◌≤◌, ◌<◌, ◌+◌, ◌-◌, ℕ, true, false, cond, List, [], ◌∷◌, ◌++◌, length, take, Option, None, Some, Result, Ok, Err, MatchResult, inl, inr, ◌⊎◌, is_some, refl, sym, ap, subst, ◌∙◌, arith, append_assoc, append-nil, length-append}
+use Rattle.std.specs.Io.KnownBytes.{Consumes, Keeps, IsAtEnd, ReadConsumes, prepend_known}
+use Rattle.std.specs.List.{All}
+use Rattle.std.specs.List.{slice_range}
+use Rattle.std.proofs.lemmas.List.{length-take, take-append-le}
+use Rattle.std.proofs.lemmas.Slice.{take-put_mid_below}
+use Rattle.std.proofs.Math.Seq.{take-append-add}
+use Rattle.std.proofs.lemmas.List.Elements.{All-cons, All-nil}
+use Rattle.dbus_device.specs.Device.{ReadCounts}
+use Rattle.dbus_device.specs.Calls.{joined, HasByte, ReadsPiece, ReadsPieces}
+use Rattle.dbus_device.specs.Packets.{Packets, PacketsAfter, AreOfPacket, ReadsOfPacket}
+use Rattle.dbus_device.specs.declared.device_fault.DeviceFault.{DeviceFault}
+use Rattle.dbus_device.specs.declared.packet.Packet.{Packet}
+use Rattle.dbus_device.proofs.CallLaws.{pieces_consumed}
+use Rattle.dbus_capture.specs.declared.stage.Stage.{Stage}
+use Rattle.dbus_capture.specs.declared.scan.Scan.{Scan}
+use Rattle.dbus_capture.specs.declared.capture.Capture.{Capture}
+use Rattle.dbus_capture.specs.Stages.{begun}
+use Rattle.dbus_capture.specs.Beginnings.{first_stage}
+use Rattle.dbus_capture.specs.Captures.{source_of, scan_of, chosen_of, kept_of, gave_up_of, calls_of, last_packet_of, failures_of, file_of, given_of, known, opened, opened_of, left_of, packets_by, packets_of, AreFirst, Fetches, Begins, Waits, ReadsInput}
+use Rattle.dbus_capture.specs.Packets.{last_packet}
+use Rattle.dbus_capture.proofs.Choices.{when_true, when_false}
+use Rattle.dbus_capture.proofs.FirstLaws.{first_front}
+use Rattle.dbus_capture.proofs.CaptureSteps.{rest_of, given_stopped, part_gives, part_fails, part_repacked, asks_repacked}
+use Rattle.dbus_capture.proofs.PacketSteps.{packets_rest, part_packets, of_none}
+
+-- ---- what is known of the rest of the file
+
+same_known : (a b : Option (List ℕ)) (bytes : List ℕ) → Consumes a b [] → a ≡ Some bytes → b ≡ Some bytes
+same_known None b bytes c e = absurd cc
+same_known (Some x) None bytes c e = absurd c
+same_known (Some x) (Some y) bytes c e = ap (λ (l : List ℕ). Some l) (sym c) ∙ e
+
+front_rest : (kept : List ℕ) (a : Option (List ℕ)) (bytes : List ℕ) → prepend_known kept a ≡ Some bytes → (rest : List ℕ) × (a ≡ Some rest) × (bytes ≡ kept ++ rest)
+front_rest kept None bytes e = absurd cc
+front_rest kept (Some rest) bytes e = let same : kept ++ rest ≡ bytes = cc in (rest, refl, sym same)
+
+at_end : (a : Option (List ℕ)) (rest : List ℕ) → a ≡ Some rest → IsAtEnd a → rest ≡ []
+at_end None rest e end = absurd cc
+at_end (Some x) rest e end = let same : x ≡ rest = cc in sym same ∙ end
+
+kept_on : (a b : Option (List ℕ)) (kept piece : List ℕ) → Consumes a b piece → Consumes (prepend_known kept a) (prepend_known (kept ++ piece) b) []
+kept_on None b kept piece c = tt
+kept_on (Some x) None kept piece c = absurd c
+kept_on (Some x) (Some y) kept piece c = ap (λ (l : List ℕ). kept ++ l) c ∙ sym (append_assoc kept piece y)
+
+pub opened_chosen : {R : Type 0} (s : Capture R) (bytes : List ℕ) → chosen_of s ≡ true → opened s bytes ≡ scan_of s
+opened_chosen s bytes e = when_true _ _ _ e
+
+opened_same : {R : Type 0} (s : Capture R) (bytes more : List ℕ) → first_stage bytes ≡ first_stage more → opened s bytes ≡ opened s more
+opened_same s bytes more e = ap (λ (t : Stage). cond s.chosen s.scan (record s.scan { head = begun t })) e
+
+module _ {R : Type 0} (left : R → Option (List ℕ)) (calls failures : R → ℕ) where
+  pub fetched_file : (old new : Capture R) → Fetches left calls old new → Consumes (file_of left old) (file_of left new) []
+  fetched_file old new f =
+      subst (λ (l : List ℕ). Consumes (file_of left old) (prepend_known l (left (source_of new))) []) (sym f.kept)
+      (kept_on (left (source_of old)) (left (source_of new)) (kept_of old) (joined f.pieces) (pieces_consumed left calls (source_of old) (source_of new) f.pieces f.called))
+
+  -- what the rest says is what the bytes that are there say
+  told_by : (old mid : Capture R) (bytes : List ℕ) → Begins left calls failures old mid → file_of left mid ≡ Some bytes → opened old bytes ≡ scan_of mid
+  told_by old mid bytes b e =
+      let f = front_rest (kept_of mid) (left (source_of mid)) bytes e in
+      elim b.enough [
+        | inl chosen ↦ opened_chosen old bytes chosen ∙ sym (opened_chosen old (kept_of mid) chosen) ∙ sym b.scan
+        | inr enough ↦ elim enough [
+          | inl four ↦ opened_same old bytes (kept_of mid) (ap first_stage f.2 ∙ first_front (kept_of mid) f.0 four) ∙ sym b.scan
+          | inr end ↦ ap (opened old) (f.2 ∙ ap (λ (l : List ℕ). kept_of mid ++ l) (at_end (left (source_of mid)) f.0 f.1 end) ∙ append-nil (kept_of mid)) ∙ sym b.scan
+        ]
+      ]
+
+  pub opened_known : (old mid : Capture R) (bytes : List ℕ) → Begins left calls failures old mid → file_of left old ≡ Some bytes → opened_of left old ≡ scan_of mid
+  opened_known old mid bytes b e =
+      let same = same_known (file_of left old) (file_of left mid) bytes (fetched_file old mid b.fetches) e in
+      ap (λ (o : Option (List ℕ)). opened old (known o)) e ∙ told_by old mid bytes b same
+
+  pub opened_waiting : (old new : Capture R) (r : Result ℕ DeviceFault) (room : ℕ) (bytes : List ℕ) → Waits left calls failures old new r room → file_of left old ≡ Some bytes → opened_of left old ≡ opened_of left new
+  opened_waiting old new r room bytes w e =
+      let same = same_known (file_of left old) (file_of left new) bytes (fetched_file old new w.fetches) e in
+      let scans : opened old bytes ≡ opened new bytes =
+      when_false _ _ _ w.before ∙ ap (λ (v : Scan). record v { head = begun (first_stage bytes) }) (sym w.scan) ∙ sym (when_false _ _ _ w.after) in
+      ap (λ (o : Option (List ℕ)). opened old (known o)) e ∙ scans ∙ ap (λ (o : Option (List ℕ)). opened new (known o)) (sym same)
+
+  pub waiting_fault : (old new : Capture R) (r : Result ℕ DeviceFault) (room : ℕ) → Waits left calls failures old new r room → (opened_of left new).fault ≡ (scan_of new).fault
+  waiting_fault old new r room w = ap (λ (v : Scan). v.fault) (when_false _ _ _ w.after)
+
+  -- what is said of the rest, if it is known
+  module _ {X : Type 0} (says : Scan → Option (List ℕ) → Option X) (none : (s : Scan) → says s None ≡ None) where
+    pub said_after : (old mid : Capture R) (o : Option (List ℕ)) → Begins left calls failures old mid → file_of left old ≡ o
+        → (says (opened_of left old) (file_of left old) ≡ None) ⊎ (says (opened_of left old) (file_of left old) ≡ says (scan_of mid) (file_of left mid))
+    said_after old mid None b e = inl (ap (says (opened_of left old)) e ∙ none (opened_of left old))
+    said_after old mid (Some bytes) b e =
+        let same = same_known (file_of left old) (file_of left mid) bytes (fetched_file old mid b.fetches) e in
+        inr (ap (λ (v : Scan). says v (file_of left old)) (opened_known old mid bytes b e) ∙ ap (says (scan_of mid)) (e ∙ sym same))
+
+    pub said_chosen : (s : Capture R) → chosen_of s ≡ true → says (opened_of left s) (file_of left s) ≡ says (scan_of s) (file_of left s)
+    said_chosen s e = ap (λ (v : Scan). says v (file_of left s)) (opened_chosen s (known (file_of left s)) e)
+
+    pub said_waiting : (old new : Capture R) (r : Result ℕ DeviceFault) (room : ℕ) (o : Option (List ℕ)) → Waits left calls failures old new r room → file_of left old ≡ o
+        → (says (opened_of left old) (file_of left old) ≡ None) ⊎ (says (opened_of left old) (file_of left old) ≡ says (opened_of left new) (file_of left new))
+    said_waiting old new r room None w e = inl (ap (says (opened_of left old)) e ∙ none (opened_of left old))
+    said_waiting old new r room (Some bytes) w e =
+        let same = same_known (file_of left old) (file_of left new) bytes (fetched_file old new w.fetches) e in
+        inr (ap (λ (v : Scan). says v (file_of left old)) (opened_waiting old new r room bytes w e) ∙ ap (says (opened_of left new)) (e ∙ sym same))
+
+-- ---- a read
+
+reads_from : (a b c : Option (List ℕ)) (r : Result ℕ DeviceFault) (buffer : List ℕ) → (a ≡ None) ⊎ (a ≡ b) → ReadConsumes b c r buffer → ReadConsumes a c r buffer
+reads_from a b c r buffer (inr e) reads = subst (λ (o : Option (List ℕ)). ReadConsumes o c r buffer) (sym e) reads
+reads_from a b c (Ok n) buffer (inl e) reads = (subst (λ (o : Option (List ℕ)). Consumes o c (take n buffer)) (sym e) tt, reads.1)
+reads_from a b c (Err f) buffer (inl e) reads = subst (λ (o : Option (List ℕ)). Keeps o c) (sym e) tt
+
+packets_from : (a b c : Option Packets) (packet : Option Packet) (r : Result ℕ DeviceFault) → (a ≡ None) ⊎ (a ≡ b) → ReadsOfPacket b c packet r → ReadsOfPacket a c packet r
+packets_from a b c packet r (inr e) reads = subst (λ (o : Option Packets). ReadsOfPacket o c packet r) (sym e) reads
+packets_from a b c packet (Ok n) (inl e) reads = subst (λ (o : Option Packets). PacketsAfter n o c × AreOfPacket n o packet) (sym e) (tt, tt)
+packets_from a b c packet (Err f) (inl e) reads = subst (λ (o : Option Packets). PacketsAfter 0 o c) (sym e) tt
+
+keeps_all : (a : Option (List ℕ)) → Keeps a a
+keeps_all None = tt
+keeps_all (Some x) = refl
+
+consumes_none : (a : Option (List ℕ)) (n : ℕ) (buffer : List ℕ) → n ≡ 0 → Consumes a a (take n buffer)
+consumes_none None n buffer e = tt
+consumes_none (Some x) n buffer e = ap (λ (k : ℕ). take k buffer ++ x) (sym e)
+
+after_none : (a : Option Packets) (n : ℕ) → n ≡ 0 → PacketsAfter n a a
+after_none None n e = tt
+after_none (Some packets) n e = λ i. ap packets (omega (arith, e))
+
+of_no_packet : (a : Option Packets) (packet : Option Packet) (n : ℕ) → n ≡ 0 → AreOfPacket n a packet
+of_no_packet a packet n e = subst (λ (k : ℕ). AreOfPacket k a packet) (sym e) (of_none a packet)
+
+module _ {R : Type 0} (left : R → Option (List ℕ)) (calls failures : R → ℕ) (old new : Capture R) (buffer : List ℕ) where
+  waiting_reads : (r : Result ℕ DeviceFault) → Waits left calls failures old new r (length buffer) → ReadConsumes (left_of left new) (left_of left new) r buffer
+  waiting_reads (Err e) w = keeps_all (left_of left new)
+  waiting_reads (Ok n) w = (
+    consumes_none (left_of left new) n buffer w.nothing.0,
+    λ zero room. given_stopped (opened_of left new) (file_of left new) (ap is_some (waiting_fault left calls failures old new (Ok n) (length buffer) w) ∙ w.nothing.1 room),
+  )
+
+  waiting_packets : (r : Result ℕ DeviceFault) (packet : Option Packet) → Waits left calls failures old new r (length buffer) → ReadsOfPacket (packets_of left new) (packets_of left new) packet r
+  waiting_packets (Err e) packet w = after_none (packets_of left new) 0 refl
+  waiting_packets (Ok n) packet w = (after_none (packets_of left new) n w.nothing.0, of_no_packet (packets_of left new) packet n w.nothing.0)
+
+  waiting_fails : (r : Result ℕ DeviceFault) → Waits left calls failures old new r (length buffer) → ReadCounts (failures_of failures old) (failures_of failures new) r
+  waiting_fails (Ok n) w = let a = w.counted in let b = w.fetches.gave_up in cc
+  waiting_fails (Err e) w = let a = w.counted in let b = w.fetches.gave_up in omega (arith, a, b)
+
+  pub input_gives : (r : Result ℕ DeviceFault) → ReadsInput left calls failures old new r buffer → ReadConsumes (left_of left old) (left_of left new) r buffer
+  input_gives r (inl i) =
+      reads_from (left_of left old) (rest_of left i.mid) (left_of left new) r buffer (said_after left calls failures given_of (λ s. refl) old i.mid (file_of left old) i.begins refl)
+      (subst (λ (o : Option (List ℕ)). ReadConsumes (rest_of left i.mid) o r buffer) (sym (said_chosen left calls failures given_of (λ s. refl) new i.chosen)) (part_gives left failures i.mid new r buffer i.part))
+  input_gives r (inr w) = reads_from (left_of left old) (left_of left new) (left_of left new) r buffer (said_waiting left calls failures given_of (λ s. refl) old new r (length buffer) (file_of left old) w refl) (waiting_reads r w)
+
+  pub input_packets : (r : Result ℕ DeviceFault) (before : Option Packet) → MatchResult r (λ n. n ≤ length buffer) (λ e. Unit {0}) → ReadsInput left calls failures old new r buffer
+      → ReadsOfPacket (packets_of left old) (packets_of left new) (last_packet r (scan_of new).packet before) r
+  input_packets r before b (inl i) =
+      packets_from (packets_of left old) (packets_rest left i.mid) (packets_of left new) (last_packet r (scan_of new).packet before) r
+      (said_after left calls failures packets_by (λ s. refl) old i.mid (file_of left old) i.begins refl)
+      (subst (λ (o : Option Packets). ReadsOfPacket (packets_rest left i.mid) o (last_packet r (scan_of new).packet before) r) (sym (said_chosen left calls failures packets_by (λ s. refl) new i.chosen))
+      (part_packets left failures i.mid new r buffer before b i.part))
+  input_packets r before b (inr w) =
+      packets_from (packets_of left old) (packets_of left new) (packets_of left new) (last_packet r (scan_of new).packet before) r
+      (said_waiting left calls failures packets_by (λ s. refl) old new r (length buffer) (file_of left old) w refl) (waiting_packets r (last_packet r (scan_of new).packet before) w)
+
+  pub input_fails : (r : Result ℕ DeviceFault) → ReadsInput left calls failures old new r buffer → ReadCounts (failures_of failures old) (failures_of failures new) r
+  input_fails r (inr w) = waiting_fails r w
+  input_fails r (inl i) =
+      let a = i.begins.unfailed in
+      let b = i.begins.fetches.gave_up in
+      let same : failures_of failures i.mid ≡ failures_of failures old = cc in
+      subst (λ (n : ℕ). ReadCounts n (failures_of failures new) r) same (part_fails left failures i.mid new r buffer i.part)
+
+-- ---- how often it was called, and of which packet what it handed on was, do not matter
+
+module _ {R : Type 0} (left : R → Option (List ℕ)) (calls failures : R → ℕ) (old : Capture R) (n : ℕ) (a : old.start ≤ old.end) (b : old.end ≤ 65536) (c : old.chosen ≡ false → old.start ≡ 0) where
+  abbrev called : Capture R
+  called = record old { calls = n; in_order = a; in_room = b; untaken = c }
+
+  first_called : (pieces : List (List ℕ)) → AreFirst called pieces → AreFirst old pieces
+  first_called [] f = tt
+  first_called (last ∷ before) f = (f.0, f.1, f.2)
+
+  fetched_called : (new : Capture R) → Fetches left calls called new → Fetches left calls old new
+  fetched_called new f = record { pieces = f.pieces; called = f.called; first = first_called f.pieces f.first; kept = f.kept; gave_up = f.gave_up }
+
+  begins_called : (new : Capture R) → Begins left calls failures called new → Begins left calls failures old new
+  begins_called new f = record { fetches = fetched_called new f.fetches; enough = f.enough; scan = f.scan; chosen = f.chosen; unfailed = f.unfailed }
+
+  module _ (new : Capture R) (packet : Option Packet) (p : new.start ≤ new.end) (q : new.end ≤ 65536) (u : new.chosen ≡ false → new.start ≡ 0) where
+    fetched_repacked : Fetches left calls old new → Fetches left calls old (record new { packet = packet; in_order = p; in_room = q; untaken = u })
+    fetched_repacked f = record { pieces = f.pieces; called = f.called; first = f.first; kept = f.kept; gave_up = f.gave_up }
+
+    pub input_counted : (r : Result ℕ DeviceFault) (buffer : List ℕ) → ReadsInput left calls failures called new r buffer
+        → ReadsInput left calls failures old (record new { packet = packet; in_order = p; in_room = q; untaken = u }) r buffer
+    input_counted r buffer (inl i) = inl (record {
+      mid = i.mid;
+      begins = begins_called i.mid i.begins;
+      part = part_repacked left failures i.mid new packet p q u r buffer i.part;
+      asks = asks_repacked left calls failures i.mid new packet p q u r i.asks;
+      chosen = i.chosen;
+    })
+    input_counted r buffer (inr w) = inr (record {
+      fetches = fetched_repacked (fetched_called new w.fetches);
+      scan = w.scan;
+      before = w.before;
+      after = w.after;
+      counted = w.counted;
+      nothing = w.nothing;
+    })
+
+-- ---- the first bytes
+
+from_start : (bytes : List ℕ) (n : ℕ) → slice_range bytes 0 n ≡ take n bytes
+from_start bytes n = ap (λ (k : ℕ). take k bytes) (let z : n - 0 ≡ n = omega arith in z)
+
+-- what was read behind what is kept
+pub kept_put : (bytes part : List ℕ) (start end m k : ℕ) → start ≡ 0 → end ≤ length bytes → k ≤ length part → slice_range (put_mid end m bytes part) start (end + k) ≡ slice_range bytes start end ++ take k part
+kept_put bytes part start end m k first fits within =
+    let long : length (take end bytes) ≡ end = omega (arith, length-take end bytes, fits) in
+    let front : take (end + k) (put_mid end m bytes part) ≡ take end bytes ++ take k part =
+    ap (λ (j : ℕ). take (j + k) (put_mid end m bytes part)) (sym long) ∙ (take-append-add (take end bytes) (part ++ _) k ∙ ap (λ (l : List ℕ). take end bytes ++ l) (take-append-le k part _ within)) in
+    ap (λ (n : ℕ). slice_range (put_mid end m bytes part) n (end + k)) first ∙ from_start (put_mid end m bytes part) (end + k) ∙ front
+    ∙ ap (λ (l : List ℕ). l ++ take k part) (sym (from_start bytes end)) ∙ ap (λ (n : ℕ). slice_range bytes n end ++ take k part) (sym first)
+
+-- and if nothing was
+pub kept_none : (bytes part : List ℕ) (start end m : ℕ) → start ≡ 0 → end ≤ length bytes → slice_range (put_mid end m bytes part) start end ≡ slice_range bytes start end ++ []
+kept_none bytes part start end m first fits =
+    ap (λ (n : ℕ). slice_range (put_mid end m bytes part) n end) first ∙ from_start (put_mid end m bytes part) end ∙ take-put_mid_below end m bytes part end (omega arith) fits
+    ∙ sym (from_start bytes end) ∙ ap (λ (n : ℕ). slice_range bytes n end) (sym first) ∙ sym (append-nil (slice_range bytes start end))
+
+-- what is kept is there
+pub kept_there : (bytes : List ℕ) (start end : ℕ) → start ≡ 0 → length (slice_range bytes start end) ≡ end - start → end ≤ length bytes
+kept_there bytes start end first size =
+    let whole : length (take end bytes) ≡ end =
+    ap length (sym (from_start bytes end)) ∙ ap (λ (n : ℕ). length (slice_range bytes n end)) (sym first) ∙ size ∙ (let z : end - start ≡ end = omega (arith, first) in z) in
+    omega (arith, whole, length-take end bytes)
+
+-- in so many turns the source below gave a byte each, or more
+pub record Fetched {R : Type 0} (left : R → Option (List ℕ)) (calls failures : R → ℕ) (turns : ℕ) (old new : Capture R) : Type 0 where
+  pub fetches : Fetches left calls old new
+  pub found : All HasByte fetches.pieces
+  pub many : turns ≤ length (kept_of new)
+  pub start : new.start ≡ 0
+  pub scan : scan_of new ≡ scan_of old
+  pub chosen : chosen_of new ≡ false
+  pub unfailed : failures (source_of new) ≡ failures (source_of old)
+  pub called : calls_of new ≡ calls_of old
+  pub packet : last_packet_of new ≡ last_packet_of old
+
+module _ {R : Type 0} (left : R → Option (List ℕ)) (calls failures : R → ℕ) where
+  pub fetches_nothing : (s : Capture R) → Fetches left calls s s
+  fetches_nothing s = record { pieces = []; called = refl; first = tt; kept = sym (append-nil (kept_of s)); gave_up = refl }
+
+  pub fetched_nothing : (s : Capture R) → chosen_of s ≡ false → Fetched left calls failures 0 s s
+  unfolding fetches_nothing
+  fetched_nothing s e = record {
+    fetches = fetches_nothing s;
+    found = All-nil HasByte;
+    many = omega arith;
+    start = s.untaken e;
+    scan = refl;
+    chosen = e;
+    unfailed = refl;
+    called = refl;
+    packet = refl;
+  }
+
+  -- one more call
+  pub fetches_more : (turns : ℕ) (old mid new : Capture R) (piece : List ℕ) → chosen_of old ≡ false → (f : Fetched left calls failures turns old mid) → length (kept_of mid) < 4
+      → ReadsPiece left calls (source_of mid) piece (source_of new) → kept_of new ≡ kept_of mid ++ piece → gave_up_of new ≡ gave_up_of mid → Fetches left calls old new
+  fetches_more turns old mid new piece e f few reads kept gave_up =
+      let less = subst (λ (l : List ℕ). length l < 4) f.fetches.kept few in
+      record {
+        pieces = piece ∷ f.fetches.pieces;
+        called = (source_of mid, f.fetches.called, reads);
+        first = (e, less, f.found);
+        kept = kept ∙ ap (λ (l : List ℕ). l ++ piece) f.fetches.kept ∙ append_assoc (kept_of old) (joined f.fetches.pieces) piece;
+        gave_up = gave_up ∙ f.fetches.gave_up;
+      }
+
+  pub fetched_more : (turns : ℕ) (old mid new : Capture R) (piece : List ℕ) → chosen_of old ≡ false → (f : Fetched left calls failures turns old mid) → length (kept_of mid) < 4
+      → ReadsPiece left calls (source_of mid) piece (source_of new) → kept_of new ≡ kept_of mid ++ piece → 0 < length piece → gave_up_of new ≡ gave_up_of mid → new.start ≡ mid.start
+      → scan_of new ≡ scan_of mid → chosen_of new ≡ chosen_of mid → failures (source_of new) ≡ failures (source_of mid) → calls_of new ≡ calls_of mid → last_packet_of new ≡ last_packet_of mid
+      → Fetched left calls failures (turns + 1) old new
+  unfolding fetches_more
+  fetched_more turns old mid new piece e f few reads kept some gave_up start scan chosen source called packet =
+      let size = ap length kept in
+      let both = length-append (kept_of mid) piece in
+      let many = f.many in
+      record {
+        fetches = fetches_more turns old mid new piece e f few reads kept gave_up;
+        found = All-cons HasByte piece f.fetches.pieces some f.found;
+        many = omega (arith, size, both, many, some);
+        start = start ∙ f.start;
+        scan = scan ∙ f.scan;
+        chosen = chosen ∙ f.chosen;
+        unfailed = source ∙ f.unfailed;
+        called = called ∙ f.called;
+        packet = packet ∙ f.packet;
+      }
+
+  -- it is known what the input is
+  pub begins_at : (old mid new : Capture R) (bytes : List ℕ) → chosen_of old ≡ false → Fetches left calls old mid → (4 ≤ length (kept_of mid)) ⊎ IsAtEnd (left (source_of mid))
+      → failures (source_of mid) ≡ failures (source_of old) → source_of new ≡ source_of mid → kept_of new ≡ kept_of mid → gave_up_of new ≡ gave_up_of mid → scan_of mid ≡ scan_of old
+      → bytes ≡ kept_of mid → scan_of new ≡ record (scan_of mid) { head = begun (first_stage bytes) } → chosen_of new ≡ true → Begins left calls failures old new
+  begins_at old mid new bytes e f enough unfailed source kept gave_up scan same now chosen = record {
+    fetches = record {
+      pieces = f.pieces;
+      called = subst (ReadsPieces left calls (source_of old) f.pieces) (sym source) f.called;
+      first = f.first;
+      kept = kept ∙ f.kept;
+      gave_up = gave_up ∙ f.gave_up;
+    };
+    enough = inr (subst (λ (s : R). (4 ≤ length (kept_of new)) ⊎ IsAtEnd (left s)) (sym source) (subst (λ (l : List ℕ). (4 ≤ length l) ⊎ IsAtEnd (left (source_of mid))) (sym kept) enough));
+    scan = now ∙ ap (λ (v : Scan). record v { head = begun (first_stage bytes) }) scan
+        ∙ ap (λ (l : List ℕ). record (scan_of old) { head = begun (first_stage l) }) (same ∙ sym kept) ∙ sym (when_false _ _ _ e);
+    chosen = chosen;
+    unfailed = ap failures source ∙ unfailed;
+  }
+
+  pub begins_still : (s : Capture R) → chosen_of s ≡ true → Begins left calls failures s s
+  begins_still s e = record { fetches = fetches_nothing s; enough = inl e; scan = sym (opened_chosen s (kept_of s) e); chosen = e; unfailed = refl }
