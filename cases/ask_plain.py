@@ -108,13 +108,10 @@ def ask_name(case, _):
     yield question(kind, f"text {kind} {hexed(read_bytes(text))}", verdict)
 
 
-def asker_of_texts(kind):
-    def ask_text(case, _):
-        _, text, answer = case
-        wanted = answer if answer.startswith("refused") else f"accepted {hexed(read_bytes(answer.removeprefix('accepted ')))}"
-        yield question(kind, f"{kind} {hexed(read_bytes(text))}", wanted)
-
-    return ask_text
+def ask_rule(case, _):
+    _, text, answer = case
+    wanted = answer if answer.startswith("refused") else f"accepted {hexed(read_bytes(answer.removeprefix('accepted ')))}"
+    yield question("rule", f"rule {hexed(read_bytes(text))}", wanted)
 
 
 def ask_match(case, _):
@@ -136,9 +133,8 @@ FILES = {
     **{file: asker_of(file) for file in (*MESSAGES, VALUES)},
     "signatures.txt": ask_signature,
     "names.txt": ask_name,
-    "rules.txt": asker_of_texts("rule"),
+    "rules.txt": ask_rule,
     "matches.txt": ask_match,
-    "addresses.txt": asker_of_texts("address"),
     "client_lines.txt": asker_of_lines("client"),
     "server_lines.txt": asker_of_lines("server"),
 }
