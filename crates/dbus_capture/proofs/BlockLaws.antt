@@ -19,7 +19,7 @@ use Rattle.dbus_capture.specs.CutPackets.{Captured, IsCaptured, is_cut, whole_pa
 use Rattle.dbus_capture.specs.BlockPackets.{packet_by, block_packets}
 use Rattle.dbus_device.specs.declared.packet.Packet.{Packet}
 use Rattle.dbus_capture.proofs.Choices.{lt_true, lt_false, eq_is, eq_not, cases_same, when_true, when_false}
-use Rattle.dbus_capture.proofs.NumberLaws.{u32_size, u16_size, u32_after, u16_after, u32_last}
+use Rattle.dbus_capture.proofs.NumberLaws.{u32_size, u16_size, u16_after, u32_last, u32_skip, u32_now}
 use Rattle.dbus_capture.proofs.StepLaws.{run-append, given-append, run_gives}
 use Rattle.dbus_capture.proofs.KeptLaws.{Kept, kept_then, kept_as, kept_moved, kept_begun, kept_passed}
 use Rattle.dbus_capture.proofs.BlockTurns.{length_ok, takes_head, ends_block, opens_block, opens_as}
@@ -179,199 +179,93 @@ packet_went t order interfaces size k room i time original bytes rest total u g 
           ]
     ]
 
--- the head of an enhanced or an obsolete packet block, which begins with four bytes
+-- ---- the head of a packet's block
+
+-- how such a block is read, by the type and the head that it has
+record IsPacketBlock (kind : ℕ) (stage : Stage) (order : ByteOrder) (interfaces : List Interface) (head : List ℕ) (size k : ℕ) (i : Interface) (time : Option ℕ) (n original : ℕ) : Type 0 where
+  low : kind < 2 ^ 32
+  no_section : kind ≢ 0x0a0d0d0a
+  staged : block_stage kind ≡ Some (stage, size + 12)
+  filed : is_filed stage ≡ true
+  wanted : want stage ≡ size
+  long : length head ≡ size
+  some : 0 < size
+  of : (m : Scan) → m.order ≡ order → m.interfaces ≡ interfaces → decoded_by stage m head ≡ block_packet m size k (m.total - (size + 12)) i.link_type time n original
+
+-- of an enhanced or an obsolete one it begins with four bytes
 module _ (o : ByteOrder) (front : List ℕ) (four : length front ≡ 4) (high low n original : ℕ) where
   abbrev packet_head : List ℕ
   packet_head = front ++ (u32_bytes o high ++ (u32_bytes o low ++ (u32_bytes o n ++ u32_bytes o original)))
 
-  head_size : length packet_head ≡ 20
-  head_size =
-      let a = length-append front (u32_bytes o high ++ (u32_bytes o low ++ (u32_bytes o n ++ u32_bytes o original))) in
-      let b = length-append (u32_bytes o high) (u32_bytes o low ++ (u32_bytes o n ++ u32_bytes o original)) in
-      let c = length-append (u32_bytes o low) (u32_bytes o n ++ u32_bytes o original) in
-      let d = length-append (u32_bytes o n) (u32_bytes o original) in
-      let f = u32_size o high in
-      let g = u32_size o low in
-      let h = u32_size o n in
-      let k = u32_size o original in
-      omega (arith, a, b, c, d, four, f, g, h, k)
+  abbrev time_in : Interface → Option ℕ
+  time_in i = time_of i (u32_at o 4 packet_head * 2 ^ 32 + u32_at o 8 packet_head)
 
-  two_size : length (front ++ u32_bytes o high) ≡ 8
-  two_size =
-      let b = length-append front (u32_bytes o high) in
-      let f = u32_size o high in
-      omega (arith, b, four, f)
-
-  three_size : length ((front ++ u32_bytes o high) ++ u32_bytes o low) ≡ 12
-  three_size =
-      let a = length-append (front ++ u32_bytes o high) (u32_bytes o low) in
-      let b = two_size in
-      let g = u32_size o low in
-      omega (arith, a, b, g)
-
-  four_size : length (((front ++ u32_bytes o high) ++ u32_bytes o low) ++ u32_bytes o n) ≡ 16
-  four_size =
-      let a = length-append ((front ++ u32_bytes o high) ++ u32_bytes o low) (u32_bytes o n) in
-      let b = three_size in
-      let h = u32_size o n in
-      omega (arith, a, b, h)
-
-  regroup_three : packet_head ≡ ((front ++ u32_bytes o high) ++ u32_bytes o low) ++ (u32_bytes o n ++ u32_bytes o original)
-  regroup_three =
-      sym (append_assoc front (u32_bytes o high) (u32_bytes o low ++ (u32_bytes o n ++ u32_bytes o original)))
-      ∙ sym (append_assoc (front ++ u32_bytes o high) (u32_bytes o low) (u32_bytes o n ++ u32_bytes o original))
-
-  high_read : high < 2 ^ 32 → u32_at o 4 packet_head ≡ high
-  high_read h = u32_after o front high (u32_bytes o low ++ (u32_bytes o n ++ u32_bytes o original)) 4 four h
-
-  low_read : low < 2 ^ 32 → u32_at o 8 packet_head ≡ low
-  low_read h =
-      ap (u32_at o 8) (sym (append_assoc front (u32_bytes o high) (u32_bytes o low ++ (u32_bytes o n ++ u32_bytes o original))))
-      ∙ u32_after o (front ++ u32_bytes o high) low (u32_bytes o n ++ u32_bytes o original) 8 two_size h
+  time_read : (i : Interface) → high < 2 ^ 32 → low < 2 ^ 32 → time_in i ≡ time_of i (high * 2 ^ 32 + low)
+  time_read i h l =
+      ap (λ (v : ℕ). time_of i (v * 2 ^ 32 + u32_at o 8 packet_head)) (u32_skip o front _ 0 four ∙ u32_now o high _ h)
+      ∙ ap (λ (v : ℕ). time_of i (high * 2 ^ 32 + v)) (u32_skip o front _ 4 four ∙ u32_skip o (u32_bytes o high) _ 0 (u32_size o high) ∙ u32_now o low _ l)
 
   captured_read : n < 2 ^ 32 → u32_at o 12 packet_head ≡ n
-  captured_read h = ap (u32_at o 12) regroup_three ∙ u32_after o ((front ++ u32_bytes o high) ++ u32_bytes o low) n (u32_bytes o original) 12 three_size h
+  captured_read h =
+      u32_skip o front _ 8 four ∙ u32_skip o (u32_bytes o high) _ 4 (u32_size o high) ∙ u32_skip o (u32_bytes o low) _ 0 (u32_size o low) ∙ u32_now o n _ h
 
   original_read : original < 2 ^ 32 → u32_at o 16 packet_head ≡ original
   original_read h =
-      ap (u32_at o 16) (regroup_three ∙ sym (append_assoc ((front ++ u32_bytes o high) ++ u32_bytes o low) (u32_bytes o n) (u32_bytes o original)))
-      ∙ u32_last o (((front ++ u32_bytes o high) ++ u32_bytes o low) ++ u32_bytes o n) original 16 four_size h
+      u32_skip o front _ 12 four ∙ u32_skip o (u32_bytes o high) _ 8 (u32_size o high) ∙ u32_skip o (u32_bytes o low) _ 4 (u32_size o low)
+      ∙ u32_skip o (u32_bytes o n) _ 0 (u32_size o n) ∙ u32_last o [] original 0 refl h
 
--- a packet's block, by its head
-block_took : (s : Scan) (order : ByteOrder) (interfaces : List Interface) (kind : ℕ) (m : Scan) (h bytes rest : List ℕ) (original : ℕ) (i : Interface) (size room : ℕ) (x : Scan)
-    → let total = 12 + length (h ++ (bytes ++ rest)) in
-    InSection s order interfaces → kind < 2 ^ 32 → total < 2 ^ 32 → kind ≢ 0x0a0d0d0a → block_by s total (block_stage kind) ≡ m → m.passes_cut ≡ s.passes_cut → m.next ≡ place (s.next + 8) → m.packets ≡ s.packets → m.cut ≡ s.cut
-    → run m h ≡ x → given m h ≡ [] → 8 + (size + room + 4) ≡ total → Handed m x ((bytes ++ rest) ++ u32_bytes order total) order interfaces (size + room) (packet_by original bytes (Some i))
-    → Took s (framed_bytes order kind (h ++ (bytes ++ rest))) order interfaces (packet_by original bytes (Some i))
-block_took s order interfaces kind m h bytes rest original i size room x w low fits other opened passes next packets cut to none sizes after =
-    let body = h ++ (bytes ++ rest) in
-    let total = 12 + length body in
-    let ps = packet_by original bytes (Some i) in
-    let f = framed_size order kind body in
-    let moved : 8 + (size + room + 4) ≡ length (framed_bytes order kind body) = omega (arith, f, sizes) in
-    let same_p : whole_count ps + 0 ≡ whole_count ps = omega arith in
-    let same_c : cut_count ps + 0 ≡ cut_count ps = omega arith in
-    counts_as s _ order interfaces _ _ _ _ _ _ _ moved same_p same_c
-    (begins_block s kind total m (body ++ u32_bytes order total) order interfaces interfaces _ 8 _ _ _ w low fits other opened (kept_moved s m 8 passes next packets cut)
-    (respell m _ _ order interfaces _ _ _ _ (append_assoc h (bytes ++ rest) (u32_bytes order total)) (goes_on m x h ((bytes ++ rest) ++ u32_bytes order total) order interfaces _ _ _ _ _ _ _ to none after.kept after.went)))
+  by_words : (kind : ℕ) (stage : Stage) (interfaces : List Interface) (i : Interface) → kind < 2 ^ 32 → kind ≢ 0x0a0d0d0a → block_stage kind ≡ Some (stage, 32) → is_filed stage ≡ true → want stage ≡ 20 → n < 2 ^ 32 → original < 2 ^ 32
+      → ((m : Scan) → m.order ≡ o → m.interfaces ≡ interfaces → decoded_by stage m packet_head ≡ enhanced_by m packet_head (Some i)) → IsPacketBlock kind stage o interfaces packet_head 20 12 i (time_in i) n original
+  by_words kind stage interfaces i low_kind no_section staged filed wanted fits fits_original of = record {
+    low = low_kind;
+    no_section = no_section;
+    staged = staged;
+    filed = filed;
+    wanted = wanted;
+    long = grind (arith, length-append, u32_size, four);
+    some = omega arith;
+    of = λ m e j. of m e j ∙ ap (λ (v : ByteOrder). block_packet m 20 12 (m.total - 32) i.link_type (time_of i (u32_at v 4 packet_head * 2 ^ 32 + u32_at v 8 packet_head)) (u32_at v 12 packet_head) (u32_at v 16 packet_head)) e
+        ∙ ap (λ (v : ℕ). block_packet m 20 12 (m.total - 32) i.link_type (time_in i) v (u32_at o 16 packet_head)) (captured_read fits)
+        ∙ ap (λ (v : ℕ). block_packet m 20 12 (m.total - 32) i.link_type (time_in i) n v) (original_read fits_original);
+  }
 
--- how such a block is read, by the type and the head that it has
-record IsPacketBlock (kind : ℕ) (stage : Stage) (order : ByteOrder) (interfaces : List Interface) (head : List ℕ) (i : Interface) : Type 0 where
-  low : kind < 2 ^ 32
-  no_section : kind ≢ 0x0a0d0d0a
-  staged : block_stage kind ≡ Some (stage, 32)
-  filed : is_filed stage ≡ true
-  wanted : want stage ≡ 20
-  of : (m : Scan) → m.order ≡ order → m.interfaces ≡ interfaces → decoded_by stage m head ≡ enhanced_by m head (Some i)
+module _ (order : ByteOrder) (interfaces : List Interface) (i : Interface) (number high low n original : ℕ) (found : slice_get interfaces number ≡ Some i) (fits : n < 2 ^ 32) (fits_original : original < 2 ^ 32) where
+  enhanced_is : number < 2 ^ 32 → let h = packet_head order (u32_bytes order number) (u32_size order number) high low n original in
+      IsPacketBlock 6 stages.Enhanced order interfaces h 20 12 i (time_in order (u32_bytes order number) (u32_size order number) high low n original i) n original
+  enhanced_is low_number =
+      let h = packet_head order (u32_bytes order number) (u32_size order number) high low n original in
+      by_words order (u32_bytes order number) (u32_size order number) high low n original 6 stages.Enhanced interfaces i (omega arith) (λ e. absurd (omega (arith, e))) refl refl refl fits fits_original
+      (λ m o j. ap (λ (v : ℕ). enhanced_by m h (slice_get m.interfaces v)) (ap (λ (v : ByteOrder). u32_at v 0 h) o ∙ u32_now order number _ low_number) ∙ ap (λ (v : List Interface). enhanced_by m h (slice_get v number)) j ∙ ap (enhanced_by m h) found)
 
-packet_read : (s : Scan) (order : ByteOrder) (interfaces : List Interface) (kind : ℕ) (stage : Stage) (i : Interface) (front : List ℕ) (four : length front ≡ 4) (high low original : ℕ) (bytes rest : List ℕ)
-    → let h = packet_head order front four high low (length bytes) original in
-    IsPacketBlock kind stage order interfaces h i → InSection s order interfaces → length bytes < 2 ^ 32 → padded (length bytes) ≤ length bytes + length rest → original < 2 ^ 32 → (i.link_type ≡ 231 → MayPass s.passes_cut original bytes)
-    → FitsBody (h ++ (bytes ++ rest)) → Took s (framed_bytes order kind (h ++ (bytes ++ rest))) order interfaces (packet_by original bytes (Some i))
-packet_read s order interfaces kind stage i front four high low original bytes rest p w fits low_room fits_original whole b =
-    let n = length bytes in
-    let h = packet_head order front four high low n original in
-    let body = h ++ (bytes ++ rest) in
-    let total = 12 + length body in
-    let l = length-append h (bytes ++ rest) in
-    let k = length-append bytes rest in
-    let size = head_size order front four high low n original in
-    let m : Scan = record s { head = begun stage; next = place (s.next + 8); total = total; rest = total - 20 } in
-    let opened = ap (block_by s total) p.staged ∙ opens_as s total (stage, 32) b.whole (omega (arith, l, size)) in
-    let law = takes_head m stage h (record { unfaulted = w.ready.unfaulted; head = refl; give = w.ready.give; skip = w.ready.skip }) p.filed (omega (arith, size)) (size ∙ sym p.wanted) in
-    let time = time_of i (u32_at s.order 4 h * 2 ^ 32 + u32_at s.order 8 h) in
-    let to : run m h ≡ block_packet m 20 12 (total - 32) i.link_type time n original =
-    law.0 ∙ p.of m w.order_is w.interfaces_are
-    ∙ ap (λ (v : ℕ). block_packet m 20 12 (total - 32) i.link_type time v (u32_at s.order 16 h)) (ap (λ (v : ByteOrder). u32_at v 12 h) w.order_is ∙ captured_read order front four high low n original fits)
-    ∙ ap (λ (v : ℕ). block_packet m 20 12 (total - 32) i.link_type time n v) (ap (λ (v : ByteOrder). u32_at v 16 h) w.order_is ∙ original_read order front four high low n original fits_original) in
-    let room : total - 32 ≡ n + length rest = omega (arith, l, k, size) in
-    let after = packet_went m order interfaces 20 12 (total - 32) i time original bytes rest total w.ready.unfaulted w.ready.give w.ready.skip refl b.size
-    w.order_is w.interfaces_are room (omega (arith, low_room, room)) whole in
-    block_took s order interfaces kind m h bytes rest original i 20 (total - 32) _ w p.low b.size p.no_section opened refl refl refl refl to law.1 (omega (arith, l, k, size)) after
+  halves : (drops : ℕ) → length (u16_bytes order number ++ u16_bytes order drops) ≡ 4
+  halves drops = grind (arith, length-append, u16_size)
 
-enhanced_is : (order : ByteOrder) (interfaces : List Interface) (i : Interface) (number high low n original : ℕ) → number < 2 ^ 32 → slice_get interfaces number ≡ Some i
-    → IsPacketBlock 6 stages.Enhanced order interfaces (packet_head order (u32_bytes order number) (u32_size order number) high low n original) i
-enhanced_is order interfaces i number high low n original fits found =
-    let h = packet_head order (u32_bytes order number) (u32_size order number) high low n original in
+  obsolete_is : (drops : ℕ) → number < 2 ^ 16 → let h = packet_head order (u16_bytes order number ++ u16_bytes order drops) (halves drops) high low n original in
+      IsPacketBlock 2 stages.ObsoletePacket order interfaces h 20 12 i (time_in order (u16_bytes order number ++ u16_bytes order drops) (halves drops) high low n original i) n original
+  obsolete_is drops low_number =
+      let more = u32_bytes order high ++ (u32_bytes order low ++ (u32_bytes order n ++ u32_bytes order original)) in
+      let h = packet_head order (u16_bytes order number ++ u16_bytes order drops) (halves drops) high low n original in
+      by_words order (u16_bytes order number ++ u16_bytes order drops) (halves drops) high low n original 2 stages.ObsoletePacket interfaces i (omega arith) (λ e. absurd (omega (arith, e))) refl refl refl fits fits_original
+      (λ m o j. ap (λ (v : ℕ). enhanced_by m h (slice_get m.interfaces v))
+      (ap (λ (v : ByteOrder). u16_at v 0 h) o ∙ ap (u16_at order 0) (append_assoc (u16_bytes order number) (u16_bytes order drops) more) ∙ u16_after order [] number (u16_bytes order drops ++ more) 0 refl low_number)
+      ∙ ap (λ (v : List Interface). enhanced_by m h (slice_get v number)) j ∙ ap (enhanced_by m h) found)
+
+simple_is : (order : ByteOrder) (interfaces : List Interface) (i : Interface) (n original : ℕ) → slice_get interfaces 0 ≡ Some i → original < 2 ^ 32 → captured_length i.snap_length original ≡ n
+    → IsPacketBlock 3 stages.Simple order interfaces (u32_bytes order original) 4 0 i None n original
+simple_is order interfaces i n original found fits snapped =
+    let h = u32_bytes order original in
     record {
       low = omega arith;
       no_section = λ e. absurd (omega (arith, e));
       staged = refl;
       filed = refl;
       wanted = refl;
-      of = λ m o j. ap (λ (v : ℕ). enhanced_by m h (slice_get m.interfaces v)) (ap (λ (v : ByteOrder). u32_at v 0 h) o ∙ u32_after order [] number _ 0 refl fits)
-          ∙ ap (λ (v : List Interface). enhanced_by m h (slice_get v number)) j ∙ ap (enhanced_by m h) found;
+      long = u32_size order original;
+      some = omega arith;
+      of = λ m o j. ap (λ (v : List Interface). simple_by m h (slice_get v 0)) j ∙ ap (simple_by m h) found
+          ∙ ap (λ (v : ℕ). block_packet m 4 0 (m.total - 16) i.link_type None (captured_length i.snap_length v) v) (ap (λ (v : ByteOrder). u32_at v 0 h) o ∙ u32_last order [] original 0 refl fits)
+          ∙ ap (λ (v : ℕ). block_packet m 4 0 (m.total - 16) i.link_type None v original) snapped;
     }
-
-halves_size : (order : ByteOrder) (number drops : ℕ) → length (u16_bytes order number ++ u16_bytes order drops) ≡ 4
-halves_size order number drops =
-    let z = length-append (u16_bytes order number) (u16_bytes order drops) in
-    let x = u16_size order number in
-    let y = u16_size order drops in
-    omega (arith, x, y, z)
-
-obsolete_is : (order : ByteOrder) (interfaces : List Interface) (i : Interface) (number drops high low n original : ℕ) → number < 2 ^ 16 → slice_get interfaces number ≡ Some i
-    → IsPacketBlock 2 stages.ObsoletePacket order interfaces (packet_head order (u16_bytes order number ++ u16_bytes order drops) (halves_size order number drops) high low n original) i
-obsolete_is order interfaces i number drops high low n original fits found =
-    let more = u32_bytes order high ++ (u32_bytes order low ++ (u32_bytes order n ++ u32_bytes order original)) in
-    let h = packet_head order (u16_bytes order number ++ u16_bytes order drops) (halves_size order number drops) high low n original in
-    let number_read : u16_at order 0 h ≡ number = ap (u16_at order 0) (append_assoc (u16_bytes order number) (u16_bytes order drops) more) ∙ u16_after order [] number (u16_bytes order drops ++ more) 0 refl fits in
-    record {
-      low = omega arith;
-      no_section = λ e. absurd (omega (arith, e));
-      staged = refl;
-      filed = refl;
-      wanted = refl;
-      of = λ m o j. ap (λ (v : ℕ). enhanced_by m h (slice_get m.interfaces v)) (ap (λ (v : ByteOrder). u16_at v 0 h) o ∙ number_read)
-          ∙ ap (λ (v : List Interface). enhanced_by m h (slice_get v number)) j ∙ ap (enhanced_by m h) found;
-    }
-
-module _ (passes : Bool) (s : Scan) (order : ByteOrder) (interfaces : List Interface) (w : InSection s order interfaces) (same : s.passes_cut ≡ passes) where
-  passes_as : (i : Interface) (original : ℕ) (bytes : List ℕ) → IsCapturedBy passes i original bytes → i.link_type ≡ 231 → MayPass s.passes_cut original bytes
-  passes_as i original bytes f e = subst (λ (v : Bool). MayPass v original bytes) (sym same) (may_pass passes original bytes (f e))
-
-  of_found : (bytes : List ℕ) (original : ℕ) (o : Option Interface) (i : Interface) (spelled : List ℕ) → o ≡ Some i → Took s spelled order interfaces (packet_by original bytes (Some i)) → Took s spelled order interfaces (packet_by original bytes o)
-  of_found bytes original o i spelled e t = subst (λ (v : Option Interface). Took s spelled order interfaces (packet_by original bytes v)) (sym e) t
-
-  pub enhanced_read : (number high low original : ℕ) (bytes rest : List ℕ) → FitsBlock passes interfaces (PacketBlock number high low original bytes rest) → FitsBody (block_body order (PacketBlock number high low original bytes rest))
-      → Took s (block_bytes order (PacketBlock number high low original bytes rest)) order interfaces (block_packets interfaces (PacketBlock number high low original bytes rest))
-  enhanced_read number high low original bytes rest f b =
-      let found = f.4 in
-      of_found bytes original (slice_get interfaces number) found.0 _ found.1 (packet_read s order interfaces 6 stages.Enhanced found.0 (u32_bytes order number) (u32_size order number) high low original bytes rest
-      (enhanced_is order interfaces found.0 number high low (length bytes) original f.0 found.1) w f.1 f.2 f.3 (passes_as found.0 original bytes found.2) b)
-
-  pub obsolete_read : (number drops high low original : ℕ) (bytes rest : List ℕ) → FitsBlock passes interfaces (ObsoleteBlock number drops high low original bytes rest) → FitsBody (block_body order (ObsoleteBlock number drops high low original bytes rest))
-      → Took s (block_bytes order (ObsoleteBlock number drops high low original bytes rest)) order interfaces (block_packets interfaces (ObsoleteBlock number drops high low original bytes rest))
-  obsolete_read number drops high low original bytes rest f b =
-      let found = f.4 in
-      of_found bytes original (slice_get interfaces number) found.0 _ found.1 (packet_read s order interfaces 2 stages.ObsoletePacket found.0 (u16_bytes order number ++ u16_bytes order drops) (halves_size order number drops)
-      high low original bytes rest (obsolete_is order interfaces found.0 number drops high low (length bytes) original f.0 found.1) w f.1 f.2 f.3 (passes_as found.0 original bytes found.2) b)
-
-  pub simple_read : (original : ℕ) (bytes rest : List ℕ) → FitsBlock passes interfaces (SimpleBlock original bytes rest) → FitsBody (block_body order (SimpleBlock original bytes rest))
-      → Took s (block_bytes order (SimpleBlock original bytes rest)) order interfaces (block_packets interfaces (SimpleBlock original bytes rest))
-  simple_read original bytes rest f b =
-      let n = length bytes in
-      let h = u32_bytes order original in
-      let body = h ++ (bytes ++ rest) in
-      let total = 12 + length body in
-      let l = length-append h (bytes ++ rest) in
-      let k = length-append bytes rest in
-      let size = u32_size order original in
-      let m : Scan = record s { head = begun stages.Simple; next = place (s.next + 8); total = total; rest = total - 20 } in
-      let opened = opens_as s total (stages.Simple, 16) b.whole (omega (arith, l, size)) in
-      let found = f.2 in
-      let law = takes_head m stages.Simple h (record { unfaulted = w.ready.unfaulted; head = refl; give = w.ready.give; skip = w.ready.skip }) refl (omega (arith, size)) size in
-      let told : u32_at s.order 0 h ≡ original = ap (λ (v : ByteOrder). u32_at v 0 h) w.order_is ∙ u32_last order [] original 0 refl f.0 in
-      let to : run m h ≡ block_packet m 4 0 (total - 16) found.0.link_type None n original =
-      law.0 ∙ ap (λ (v : List Interface). simple_by m h (slice_get v 0)) w.interfaces_are ∙ ap (simple_by m h) found.1
-      ∙ ap (λ (v : ℕ). block_packet m 4 0 (total - 16) found.0.link_type None (captured_length found.0.snap_length v) v) told
-      ∙ ap (λ (v : ℕ). block_packet m 4 0 (total - 16) found.0.link_type None v original) found.2.0 in
-      let low_room = f.1 in
-      let room : total - 16 ≡ n + length rest = omega (arith, l, k, size) in
-      let after = packet_went m order interfaces 4 0 (total - 16) found.0 None original bytes rest total w.ready.unfaulted w.ready.give w.ready.skip refl b.size w.order_is w.interfaces_are room (omega (arith, low_room, room))
-      (passes_as found.0 original bytes found.2.1) in
-      of_found bytes original (slice_get interfaces 0) found.0 _ found.1
-      (block_took s order interfaces 3 m h bytes rest original found.0 4 (total - 16) _ w (omega arith) b.size (λ e. absurd (omega (arith, e))) opened refl refl refl refl to law.1 (omega (arith, l, k, size)) after)
 
 -- ---- what is reported of a packet
 
@@ -424,72 +318,94 @@ begins_packet s m h8 h size room time bytes same next fine to_m quiet to_packet 
           ∙ ap (λ (v : ℕ). Some (record { number = place (s.packets + 1); at = v; time = time; length = n })) (back_eight s.next);
     }
 
-packet_reported : (s : Scan) (order : ByteOrder) (interfaces : List Interface) (kind : ℕ) (stage : Stage) (i : Interface) (first : List ℕ) (four : length first ≡ 4) (high low original : ℕ) (bytes rest : List ℕ)
-    → let h = packet_head order first four high low (length bytes) original in
-    IsPacketBlock kind stage order interfaces h i → InSection s order interfaces → length bytes < 2 ^ 32 → padded (length bytes) ≤ length bytes + length rest → original < 2 ^ 32 → original ≡ length bytes
-    → FitsBody (h ++ (bytes ++ rest)) → high < 2 ^ 32 → low < 2 ^ 32 → i.link_type ≡ 231
-    → Begins s ((u32_bytes order kind ++ u32_bytes order (12 + length (h ++ (bytes ++ rest)))) ++ h) bytes [] (record { number = place (s.packets + 1); at = place s.next; time = time_of i (high * 2 ^ 32 + low); length = length bytes })
-packet_reported s order interfaces kind stage i first four high low original bytes rest p w fits low_room fits_original whole b fh fl link_type =
-    let n = length bytes in
-    let h = packet_head order first four high low n original in
-    let total = 12 + length (h ++ (bytes ++ rest)) in
-    let l = length-append h (bytes ++ rest) in
-    let k = length-append bytes rest in
-    let size = head_size order first four high low n original in
-    let m : Scan = record s { head = begun stage; next = place (s.next + 8); total = total; rest = total - 20 } in
-    let h8 = u32_bytes order kind ++ u32_bytes order total in
-    let opened = opens_block s kind total w.ready p.low b.size p.no_section in
-    let to_m : run s h8 ≡ m = ap (λ (v : ByteOrder). run s (u32_bytes v kind ++ u32_bytes v total)) (sym w.order_is) ∙ opened.0 ∙ ap (block_by s total) p.staged ∙ opens_as s total (stage, 32) b.whole (omega (arith, l, size)) in
-    let law = takes_head m stage h (record { unfaulted = w.ready.unfaulted; head = refl; give = w.ready.give; skip = w.ready.skip }) p.filed (omega (arith, size)) (size ∙ sym p.wanted) in
-    let time = λ (hi : ℕ) (lo : ℕ). time_of i (hi * 2 ^ 32 + lo) in
-    let room : total - 32 ≡ n + length rest = omega (arith, l, k, size) in
-    let to_packet : run m h ≡ give_packet m 20 (total - 32) (time high low) n =
-    law.0 ∙ p.of m w.order_is w.interfaces_are
-    ∙ ap (λ (v : ByteOrder). block_packet m 20 12 (total - 32) i.link_type (time (u32_at v 4 h) (u32_at v 8 h)) (u32_at v 12 h) (u32_at v 16 h)) w.order_is
-    ∙ ap (λ (v : ℕ). block_packet m 20 12 (total - 32) i.link_type (time v (u32_at order 8 h)) (u32_at order 12 h) (u32_at order 16 h)) (high_read order first four high low n original fh)
-    ∙ ap (λ (v : ℕ). block_packet m 20 12 (total - 32) i.link_type (time high v) (u32_at order 12 h) (u32_at order 16 h)) (low_read order first four high low n original fl)
-    ∙ ap (λ (v : ℕ). block_packet m 20 12 (total - 32) i.link_type (time high low) v (u32_at order 16 h)) (captured_read order first four high low n original fits)
-    ∙ ap (λ (v : ℕ). block_packet m 20 12 (total - 32) i.link_type (time high low) n v) (original_read order first four high low n original fits_original)
-    ∙ packet_given m 20 12 (total - 32) i.link_type (time high low) n original (omega (arith, low_room, room)) link_type whole in
-    begins_packet s m h8 h 20 (total - 32) (time high low) bytes refl refl w.ready.unfaulted to_m (ap (λ (v : ByteOrder). given s (u32_bytes v kind ++ u32_bytes v total)) (sym w.order_is) ∙ opened.1) to_packet law.1
+begins_at : (s : Scan) (bytes front : List ℕ) (time told : Option ℕ) → time ≡ told → Begins s front bytes [] (record { number = place (s.packets + 1); at = place s.next; time = time; length = length bytes })
+    → Begins s front bytes [] (record { number = place (s.packets + 1); at = place s.next; time = told; length = length bytes })
+begins_at s bytes front time told e = subst (λ (v : Option ℕ). Begins s front bytes [] (record { number = place (s.packets + 1); at = place s.next; time = v; length = length bytes })) e
 
-simple_reported : (passes : Bool) (s : Scan) (order : ByteOrder) (interfaces : List Interface) (i : Interface) (original : ℕ) (bytes rest : List ℕ) → InSection s order interfaces → FitsBlock passes interfaces (SimpleBlock original bytes rest)
-    → FitsBody (block_body order (SimpleBlock original bytes rest)) → slice_get interfaces 0 ≡ Some i → i.link_type ≡ 231 → original ≡ length bytes
-    → Begins s (block_front order (SimpleBlock original bytes rest)) bytes [] (block_packet_reported s i (SimpleBlock original bytes rest))
-simple_reported passes s order interfaces i original bytes rest w f b found link_type whole =
-    let n = length bytes in
-    let h = u32_bytes order original in
-    let total = 12 + length (h ++ (bytes ++ rest)) in
-    let l = length-append h (bytes ++ rest) in
-    let k = length-append bytes rest in
-    let size = u32_size order original in
-    let m : Scan = record s { head = begun stages.Simple; next = place (s.next + 8); total = total; rest = total - 20 } in
-    let h8 = u32_bytes order 3 ++ u32_bytes order total in
-    let opened = opens_block s 3 total w.ready (omega arith) b.size (λ z. absurd (omega (arith, z))) in
-    let to_m : run s h8 ≡ m = ap (λ (v : ByteOrder). run s (u32_bytes v 3 ++ u32_bytes v total)) (sym w.order_is) ∙ opened.0 ∙ opens_as s total (stages.Simple, 16) b.whole (omega (arith, l, size)) in
-    let law = takes_head m stages.Simple h (record { unfaulted = w.ready.unfaulted; head = refl; give = w.ready.give; skip = w.ready.skip }) refl (omega (arith, size)) size in
-    let read : u32_at s.order 0 h ≡ original = ap (λ (v : ByteOrder). u32_at v 0 h) w.order_is ∙ u32_last order [] original 0 refl f.0 in
-    let there = f.2 in
-    let same : there.0 ≡ i = let x = there.1 in cc (x, found) in
-    let snapped : captured_length i.snap_length original ≡ length bytes = subst (λ (v : Interface). captured_length v.snap_length original ≡ length bytes) same there.2.0 in
-    let low_room = f.1 in
-    let room : total - 16 ≡ n + length rest = omega (arith, l, k, size) in
-    let to_packet : run m h ≡ give_packet m 4 (total - 16) None n =
-    law.0 ∙ ap (λ (v : List Interface). simple_by m h (slice_get v 0)) w.interfaces_are ∙ ap (simple_by m h) found
-    ∙ ap (λ (v : ℕ). block_packet m 4 0 (total - 16) i.link_type None (captured_length i.snap_length v) v) read
-    ∙ ap (λ (v : ℕ). block_packet m 4 0 (total - 16) i.link_type None v original) snapped
-    ∙ packet_given m 4 0 (total - 16) i.link_type None n original (omega (arith, low_room, room)) link_type whole in
-    begins_packet s m h8 h 4 (total - 16) None bytes refl refl w.ready.unfaulted to_m (ap (λ (v : ByteOrder). given s (u32_bytes v 3 ++ u32_bytes v total)) (sym w.order_is) ∙ opened.1) to_packet law.1
+-- ---- a packet's block
+
+module _ (s : Scan) (order : ByteOrder) (interfaces : List Interface) (kind : ℕ) (stage : Stage) (head : List ℕ) (size k : ℕ) (i : Interface) (time : Option ℕ) (original : ℕ) (bytes rest : List ℕ)
+    (p : IsPacketBlock kind stage order interfaces head size k i time (length bytes) original) (w : InSection s order interfaces) (b : FitsBody (head ++ (bytes ++ rest))) (low_room : padded (length bytes) ≤ length bytes + length rest) where
+  abbrev total : ℕ
+  total = 12 + length (head ++ (bytes ++ rest))
+
+  abbrev m : Scan
+  m = record s { head = begun stage; next = place (s.next + 8); total = total; rest = total - 20 }
+
+  sizes : total ≡ 12 + size + (length bytes + length rest)
+  sizes = grind (arith, length-append, p.long)
+
+  fits_room : padded (length bytes) ≤ total - (size + 12)
+  fits_room = omega (arith, sizes, low_room)
+
+  opened : block_by s total (block_stage kind) ≡ m
+  opened = ap (block_by s total) p.staged ∙ opens_as s total (stage, size + 12) b.whole (omega (arith, sizes))
+
+  turn : (run m head ≡ block_packet m size k (total - (size + 12)) i.link_type time (length bytes) original) × (given m head ≡ [])
+  turn =
+      let law = takes_head m stage head (record { unfaulted = w.ready.unfaulted; head = refl; give = w.ready.give; skip = w.ready.skip }) p.filed (omega (arith, p.long, p.some)) (p.long ∙ sym p.wanted) in
+      (law.0 ∙ p.of m w.order_is w.interfaces_are, law.1)
+
+  packet_read : (i.link_type ≡ 231 → MayPass s.passes_cut original bytes) → Took s (framed_bytes order kind (head ++ (bytes ++ rest))) order interfaces (packet_by original bytes (Some i))
+  packet_read whole =
+      let ps = packet_by original bytes (Some i) in
+      let room = total - (size + 12) in
+      let last = u32_bytes order total in
+      let framed = framed_size order kind (head ++ (bytes ++ rest)) in
+      let moved : 8 + (size + room + 4) ≡ length (framed_bytes order kind (head ++ (bytes ++ rest))) = omega (arith, framed, sizes) in
+      let after = packet_went m order interfaces size k room i time original bytes rest total w.ready.unfaulted w.ready.give w.ready.skip refl b.size w.order_is w.interfaces_are (omega (arith, sizes)) fits_room whole in
+      counts_as s _ order interfaces _ _ _ _ _ _ _ moved (add_none (whole_count ps)) (add_none (cut_count ps))
+      (begins_block s kind total m ((head ++ (bytes ++ rest)) ++ last) order interfaces interfaces _ 8 _ _ _ w p.low b.size p.no_section opened (kept_moved s m 8 refl refl refl refl)
+      (respell m _ _ order interfaces _ _ _ _ (append_assoc head (bytes ++ rest) last) (goes_on m _ head ((bytes ++ rest) ++ last) order interfaces _ _ _ _ _ _ _ turn.0 turn.1 after.kept after.went)))
+    where
+      add_none : (n : ℕ) → n + 0 ≡ n
+      add_none n = omega arith
+
+  packet_reported : i.link_type ≡ 231 → original ≡ length bytes
+      → Begins s ((u32_bytes order kind ++ u32_bytes order total) ++ head) bytes [] (record { number = place (s.packets + 1); at = place s.next; time = time; length = length bytes })
+  packet_reported link_type whole =
+      let opening = opens_block s kind total w.ready p.low b.size p.no_section in
+      let to_m = ap (λ (v : ByteOrder). run s (u32_bytes v kind ++ u32_bytes v total)) (sym w.order_is) ∙ opening.0 ∙ opened in
+      begins_packet s m (u32_bytes order kind ++ u32_bytes order total) head size (total - (size + 12)) time bytes refl refl w.ready.unfaulted to_m (ap (λ (v : ByteOrder). given s (u32_bytes v kind ++ u32_bytes v total)) (sym w.order_is) ∙ opening.1)
+      (turn.0 ∙ packet_given m size k (total - (size + 12)) i.link_type time (length bytes) original fits_room link_type whole) turn.1
+
+module _ (passes : Bool) (s : Scan) (order : ByteOrder) (interfaces : List Interface) (w : InSection s order interfaces) (same : s.passes_cut ≡ passes) where
+  passes_as : (i : Interface) (original : ℕ) (bytes : List ℕ) → IsCapturedBy passes i original bytes → i.link_type ≡ 231 → MayPass s.passes_cut original bytes
+  passes_as i original bytes f e = subst (λ (v : Bool). MayPass v original bytes) (sym same) (may_pass passes original bytes (f e))
+
+  of_found : (bytes : List ℕ) (original : ℕ) (o : Option Interface) (i : Interface) (spelled : List ℕ) → o ≡ Some i → Took s spelled order interfaces (packet_by original bytes (Some i)) → Took s spelled order interfaces (packet_by original bytes o)
+  of_found bytes original o i spelled e t = subst (λ (v : Option Interface). Took s spelled order interfaces (packet_by original bytes v)) (sym e) t
+
+  pub enhanced_read : (number high low original : ℕ) (bytes rest : List ℕ) → FitsBlock passes interfaces (PacketBlock number high low original bytes rest) → FitsBody (block_body order (PacketBlock number high low original bytes rest))
+      → Took s (block_bytes order (PacketBlock number high low original bytes rest)) order interfaces (block_packets interfaces (PacketBlock number high low original bytes rest))
+  enhanced_read number high low original bytes rest f b =
+      let i = f.4.0 in
+      of_found bytes original _ i _ f.4.1 (packet_read s order interfaces 6 stages.Enhanced _ 20 12 i _ original bytes rest (enhanced_is order interfaces i number high low (length bytes) original f.4.1 f.1 f.3 f.0) w b f.2 (passes_as i original bytes f.4.2))
+
+  pub obsolete_read : (number drops high low original : ℕ) (bytes rest : List ℕ) → FitsBlock passes interfaces (ObsoleteBlock number drops high low original bytes rest) → FitsBody (block_body order (ObsoleteBlock number drops high low original bytes rest))
+      → Took s (block_bytes order (ObsoleteBlock number drops high low original bytes rest)) order interfaces (block_packets interfaces (ObsoleteBlock number drops high low original bytes rest))
+  obsolete_read number drops high low original bytes rest f b =
+      let i = f.4.0 in
+      of_found bytes original _ i _ f.4.1 (packet_read s order interfaces 2 stages.ObsoletePacket _ 20 12 i _ original bytes rest (obsolete_is order interfaces i number high low (length bytes) original f.4.1 f.1 f.3 drops f.0) w b f.2 (passes_as i original bytes f.4.2))
+
+  pub simple_read : (original : ℕ) (bytes rest : List ℕ) → FitsBlock passes interfaces (SimpleBlock original bytes rest) → FitsBody (block_body order (SimpleBlock original bytes rest))
+      → Took s (block_bytes order (SimpleBlock original bytes rest)) order interfaces (block_packets interfaces (SimpleBlock original bytes rest))
+  simple_read original bytes rest f b =
+      let i = f.2.0 in
+      of_found bytes original _ i _ f.2.1 (packet_read s order interfaces 3 stages.Simple _ 4 0 i None original bytes rest (simple_is order interfaces i (length bytes) original f.2.1 f.0 f.2.2.0) w b f.1 (passes_as i original bytes f.2.2.1))
 
 pub block_reported : (passes : Bool) (s : Scan) (order : ByteOrder) (interfaces : List Interface) (i : Interface) (block : FileBlock) → InSection s order interfaces
     → FitsBlock passes interfaces block → FitsBody (block_body order block) → IsTimed block → slice_get interfaces (interface_of block) ≡ Some i → i.link_type ≡ 231 → packet_original block ≡ length (packet_bytes block)
     → Begins s (block_front order block) (packet_bytes block) [] (block_packet_reported s i block)
 block_reported passes s order interfaces i (PacketBlock number high low original bytes rest) w f b t found link_type whole =
-    let four = u32_size order number in
-    packet_reported s order interfaces 6 stages.Enhanced i (u32_bytes order number) four high low original bytes rest (enhanced_is order interfaces i number high low (length bytes) original f.0 found) w f.1 f.2 f.3 whole b t.0 t.1 link_type
+    begins_at s bytes _ _ _ (time_read order (u32_bytes order number) (u32_size order number) high low (length bytes) original i t.0 t.1)
+    (packet_reported s order interfaces 6 stages.Enhanced _ 20 12 i _ original bytes rest (enhanced_is order interfaces i number high low (length bytes) original found f.1 f.3 f.0) w b f.2 link_type whole)
 block_reported passes s order interfaces i (ObsoleteBlock number drops high low original bytes rest) w f b t found link_type whole =
-    packet_reported s order interfaces 2 stages.ObsoletePacket i (u16_bytes order number ++ u16_bytes order drops) (halves_size order number drops) high low original bytes rest
-    (obsolete_is order interfaces i number drops high low (length bytes) original f.0 found) w f.1 f.2 f.3 whole b t.0 t.1 link_type
-block_reported passes s order interfaces i (SimpleBlock original bytes rest) w f b t found link_type whole = simple_reported passes s order interfaces i original bytes rest w f b found link_type whole
+    begins_at s bytes _ _ _ (time_read order (u16_bytes order number ++ u16_bytes order drops) (halves order interfaces i number high low (length bytes) original found f.1 f.3 drops) high low (length bytes) original i t.0 t.1)
+    (packet_reported s order interfaces 2 stages.ObsoletePacket _ 20 12 i _ original bytes rest (obsolete_is order interfaces i number high low (length bytes) original found f.1 f.3 drops f.0) w b f.2 link_type whole)
+block_reported passes s order interfaces i (SimpleBlock original bytes rest) w f b t found link_type whole =
+    let same : f.2.0 ≡ i = let x = f.2.1 in cc (x, found) in
+    let snapped = subst (λ (v : Interface). captured_length v.snap_length original ≡ length bytes) same f.2.2.0 in
+    packet_reported s order interfaces 3 stages.Simple _ 4 0 i None original bytes rest (simple_is order interfaces i (length bytes) original found f.0 snapped) w b f.1 link_type whole
 block_reported passes s order interfaces i (InterfaceBlock a b c d z) w f x t found link_type whole = absurd t
 block_reported passes s order interfaces i (OtherBlock kind body) w f b t found link_type whole = absurd t

@@ -168,20 +168,22 @@ module _ (s : Scan) (a : ℕ) (order : ByteOrder) (interfaces : List Interface) 
         let link = ap (λ (v : ByteOrder). u16_at v 0 head) w.stands.order_is ∙ u16_within order bytes 8 8 0 (omega arith) in
         let snap = ap (λ (v : ByteOrder). u32_at v 4 head) w.stands.order_is ∙ u32_within order bytes 8 8 4 (omega arith) in
         record {
-          ready = record { unfaulted = w.stands.ready.unfaulted; head = refl; give = w.stands.ready.give; skip = w.stands.ready.skip };
-          order_is = w.stands.order_is;
-          interfaces_are = w.stands.interfaces_are;
-          total_is = refl;
-          rest_is = refl;
-          interface_is = ap (λ (v : ℕ). record { link_type = v; snap_length = u32_at s.order 4 head; resolution = 6; has_offset = false }) link
-              ∙ ap (λ (v : ℕ). record { link_type = u16_at order 8 bytes; snap_length = v; resolution = 6; has_offset = false }) snap;
+          inside = record {
+            ready = record { unfaulted = w.stands.ready.unfaulted; head = refl; give = w.stands.ready.give; skip = w.stands.ready.skip };
+            order_is = w.stands.order_is;
+            interfaces_are = w.stands.interfaces_are;
+            total_is = refl;
+            rest_is = refl;
+            interface_is = ap (λ (v : ℕ). record { link_type = v; snap_length = u32_at s.order 4 head; resolution = 6; has_offset = false }) link
+                ∙ ap (λ (v : ℕ). record { link_type = u16_at order 8 bytes; snap_length = v; resolution = 6; has_offset = false }) snap;
+          };
           next = ap (λ (v : ℕ). place (v + 8)) at_m ∙ place_more (a + 8) 8 ∙ ap place (let z : a + 8 + 8 ≡ a + 16 = omega arith in z);
         }
 
     -- its options are taken
-    module _ (v : OptionsTaken begins (a + 16) order interfaces total (total - 20) described (drop 16 bytes)) where
+    module _ (c : OptionsOutcome begins (a + 16) order interfaces total (total - 20) described (drop 16 bytes)) (v : OptionsTaken begins (a + 16) order interfaces total (total - 20) (with_options described c.has.options) (drop 16 bytes) c.over c.tail) where
       sound : IsSound s.passes_cut OfInterface order interfaces bytes
-      sound = inr (v.over, v.tail, v.has, ends_as v.over v.tail v.ends)
+      sound = inr (c.over, c.tail, c.has, ends_as c.over c.tail v.ends)
 
       stands : Stands s a bytes stages.InterfaceTrailer order interfaces total (16 + v.taken) v.final
       stands =
@@ -236,45 +238,45 @@ module _ (s : Scan) (a : ℕ) (order : ByteOrder) (interfaces : List Interface) 
               let z : total - 4 + 4 ≡ total = let y = has.enough in omega (arith, y) in
               form_fails s a order interfaces bytes w eight OfInterface is (total - 4) TooManyInterfaces [] (refl, has, sound, z, (let y = has.enough in omega (arith, enough, y)), same ∙ sym z, h, refl) (many_here h)
 
-          are_tail : AreBytes v.tail
-          are_tail = bytes_back (options_bytes order v.has.options) v.tail (subst AreBytes v.has.joined (are_drop 16 bytes are))
+          are_tail : AreBytes c.tail
+          are_tail = bytes_back (options_bytes order c.has.options) c.tail (subst AreBytes c.has.joined (are_drop 16 bytes are))
 
-          over_there : v.over ≤ length v.tail
+          over_there : c.over ≤ length c.tail
           over_there =
               let l = length-drop 16 bytes in
-              let e = ap length v.has.joined in
-              let k = length-append (options_bytes order v.has.options) v.tail in
-              let z = v.has.sizes in
+              let e = ap length c.has.joined in
+              let k = length-append (options_bytes order c.has.options) c.tail in
+              let z = c.has.sizes in
               omega (arith, l, e, k, z, enough)
 
-          end_is : EndSpelled order v.over v.tail
-          end_is = end_spelled order v.over v.tail are_tail over_there v.ends
+          end_is : EndSpelled order c.over c.tail
+          end_is = end_spelled order c.over c.tail are_tail over_there v.ends
 
           abbrev block : FileBlock
-          block = InterfaceBlock (u16_at order 8 bytes) (u16_at order 10 bytes) (u32_at order 12 bytes) v.has.options end_is.end
+          block = InterfaceBlock (u16_at order 8 bytes) (u16_at order 10 bytes) (u32_at order 12 bytes) c.has.options end_is.end
 
           body_is : block_body order block ≡ body_of bytes total
           body_is =
               let least = has.enough in
               let first = u16_bytes order (u16_at order 8 bytes) ++ (u16_bytes order (u16_at order 10 bytes) ++ u32_bytes order (u32_at order 12 bytes)) in
-              let options = options_bytes order v.has.options in
+              let options = options_bytes order c.has.options in
               let split : total - 12 ≡ 8 + (total - 20) = omega (arith, least) in
               let one : head ≡ first =
               half_first order bytes 8 6 are (omega (arith, there)) ∙ ap (λ (l : List ℕ). u16_bytes order (u16_at order 8 bytes) ++ l)
               (half_first order bytes 10 4 are (omega (arith, there)) ∙ ap (λ (l : List ℕ). u16_bytes order (u16_at order 10 bytes) ++ l) (word order bytes 12 are (omega (arith, there)))) in
               let two : take (total - 20) (drop 16 bytes) ≡ options ++ end_bytes order end_is.end =
-              ap (λ (n : ℕ). take n (drop 16 bytes)) (sym v.has.sizes) ∙ ap (take (length options + v.over)) v.has.joined ∙ take-append-add options v.tail v.over ∙ ap (λ (l : List ℕ). options ++ l) (sym end_is.spelled) in
+              ap (λ (n : ℕ). take n (drop 16 bytes)) (sym c.has.sizes) ∙ ap (take (length options + c.over)) c.has.joined ∙ take-append-add options c.tail c.over ∙ ap (λ (l : List ℕ). options ++ l) (sym end_is.spelled) in
               sym (ap (λ (n : ℕ). take n (drop 8 bytes)) split ∙ parts bytes 8 8 (total - 20) ∙ ap (λ (l : List ℕ). l ++ take (total - 20) (drop 16 bytes)) one ∙ ap (λ (l : List ℕ). first ++ l) two)
 
           whole : length interfaces < 64 → BlockStep s a order interfaces bytes
           whole few =
               let room : nat_le 64 (length v.final.interfaces) ≡ false = ap (λ (l : List Interface). nat_le 64 (length l)) v.interfaces_are ∙ le_false 64 (length interfaces) few in
               let final : Scan = record v.final { give = 0; skip = 0; head = begun stages.Block; next = place (v.final.next + 4); interfaces = v.final.interfaces ++ v.final.interface ∷ [] } in
-              let now = with_options described v.has.options in
+              let now = with_options described c.has.options in
               let kind : 1 ≡ u32_at order 0 bytes = sym is in
               record {
                 block = block;
-                fits = (u16_low order bytes 8 are, u32_low order bytes 12 are, v.has.fit, end_is.fits, few);
+                fits = (u16_low order bytes 8 are, u32_low order bytes 12 are, c.has.fit, end_is.fits, few);
                 body = body_fitting s a order interfaces bytes w eight OfInterface is are has sound twelve block kind body_is enough same;
                 step = subst (λ (l : List ℕ). Stepped s a bytes (block_bytes order block) order (interfaces ++ now ∷ []) l) none_handed
                     (closes s a bytes stages.InterfaceTrailer order interfaces total (16 + v.taken) v.final stands refl (λ held. refl) refl enough final order (interfaces ++ now ∷ []) (block_bytes order block)
@@ -305,27 +307,29 @@ module _ (s : Scan) (a : ℕ) (order : ByteOrder) (interfaces : List Interface) 
     options_here : OptionsOutcome begins (a + 16) order interfaces total (total - 20) described (drop 16 bytes)
     options_here = options_outcome (suc (total - 20)) begins (a + 16) order interfaces total (total - 20) described (drop 16 bytes) (omega arith) (let e = has.whole in let l = has.enough in omega (arith, e, l)) in_options (are_drop 16 bytes are)
 
-    option_here : (v : OptionFails begins (a + 16) order (total - 20) (drop 16 bytes)) → FailsAt s bytes (a + (16 + v.within)) OptionLength []
+    option_here : {over : ℕ} {tail : List ℕ} → (v : OptionFails begins (a + 16) order (total - 20) (drop 16 bytes) over tail) → FailsAt s bytes (a + (16 + v.within)) OptionLength []
     option_here v =
         let same : a + 16 + v.within ≡ a + (16 + v.within) = omega arith in
         fails_as s bytes _ _ OptionLength _ _ same refl (fails_from s begins bytes 16 (a + 16 + v.within) OptionLength [] [] reached_begins v.fails)
 
-    cut_options : OptionsCut begins (a + 16) order (total - 20) (drop 16 bytes) → FailsAt s bytes (a + length bytes) Truncated []
+    cut_options : {over : ℕ} {tail : List ℕ} → OptionsCut begins (a + 16) order (total - 20) (drop 16 bytes) over tail → FailsAt s bytes (a + length bytes) Truncated []
     cut_options v =
         let l = length-drop 16 bytes in
         let same : a + 16 + length (drop 16 bytes) ≡ a + length bytes = omega (arith, l, there) in
         fails_as s bytes _ _ Truncated _ _ same refl (fails_from s begins bytes 16 (a + 16 + length (drop 16 bytes)) Truncated [] [] reached_begins v.fails)
 
     by_options : OptionsOutcome begins (a + 16) order interfaces total (total - 20) described (drop 16 bytes) → BlockOutcome s a order interfaces bytes
-    by_options (inl v) = by_size v
-    by_options (inr (inl v)) =
-        let z = v.within_is in
-        let least = has.enough in
-        inl (form_fails s a order interfaces bytes w eight OfInterface is (16 + v.within) OptionLength [] (has, (there, v.over, v.tail, v.has, v.faulty, omega (arith, z, least)), refl) (option_here v))
-    by_options (inr (inr v)) =
-        let short = v.short in
-        let l = length-drop 16 bytes in
-        inl (cut_block s a order interfaces bytes w eight OfInterface is are has (inr (v.over, v.tail, v.has, v.ends)) twelve [] (omega (arith, short, l)) (cut_options v) refl)
+    by_options c = elim c.comes [
+      | inl v ↦ by_size c v
+      | inr (inl v) ↦
+          let z = v.within_is in
+          let least = has.enough in
+          inl (form_fails s a order interfaces bytes w eight OfInterface is (16 + v.within) OptionLength [] (has, (there, c.over, c.tail, c.has, v.faulty, omega (arith, z, least)), refl) (option_here v))
+      | inr (inr v) ↦
+          let short = v.short in
+          let l = length-drop 16 bytes in
+          inl (cut_block s a order interfaces bytes w eight OfInterface is are has (inr (c.over, c.tail, c.has, v.ends)) twelve [] (omega (arith, short, l)) (cut_options v) refl)
+    ]
 
   abbrev Told : ℕ → CaptureReason → Type 0
   Told k reason = FailsAt s bytes (a + k) reason []
@@ -333,47 +337,49 @@ module _ (s : Scan) (a : ℕ) (order : ByteOrder) (interfaces : List Interface) 
   -- an option that is at fault is told
   pub option_told : (there : 16 ≤ length bytes) (left : ℕ) (rest : List ℕ) → HasOptions order (total - 20) (drop 16 bytes) left rest → IsOptionFault order left rest → (k : ℕ) → k + left ≡ total - 2 → Told k OptionLength
   option_told there left rest has_options bad k at =
-      elim (options_here there) [
-        | inl v ↦ absurd (no_both order (total - 20) (drop 16 bytes) left v.over rest v.tail has_options v.has bad (ends_as v.over v.tail v.ends))
+      let c = options_here there in
+      elim c.comes [
+        | inl v ↦ absurd (no_both order (total - 20) (drop 16 bytes) left c.over rest c.tail has_options c.has bad (ends_as c.over c.tail v.ends))
         | inr (inl v) ↦
-            let same = (same_options order (total - 20) (drop 16 bytes) left v.over rest v.tail has_options v.has (inl bad) (inl v.faulty)).0 in
+            let same = (same_options order (total - 20) (drop 16 bytes) left c.over rest c.tail has_options c.has (inl bad) (inl v.faulty)).0 in
             let within = v.within_is in
             let least = has.enough in
             let z : 16 + v.within ≡ k = omega (arith, same, within, at, least) in
             subst (λ (n : ℕ). Told n OptionLength) z (option_here there v)
-        | inr (inr v) ↦ absurd (no_both order (total - 20) (drop 16 bytes) left v.over rest v.tail has_options v.has bad v.ends)
+        | inr (inr v) ↦ absurd (no_both order (total - 20) (drop 16 bytes) left c.over rest c.tail has_options c.has bad v.ends)
       ]
 
   -- what comes if no option is: they are taken, or the bytes end in one
-  sound_told : (k : ℕ) (reason : CaptureReason) (there : 16 ≤ length bytes) → IsSound s.passes_cut OfInterface order interfaces bytes → (OptionsTaken (begins there) (a + 16) order interfaces total (total - 20) described (drop 16 bytes) → Told k reason)
-      → (OptionsCut (begins there) (a + 16) order (total - 20) (drop 16 bytes) → Told k reason) → Told k reason
+  sound_told : (k : ℕ) (reason : CaptureReason) (there : 16 ≤ length bytes) → IsSound s.passes_cut OfInterface order interfaces bytes → ((c : OptionsOutcome (begins there) (a + 16) order interfaces total (total - 20) described (drop 16 bytes)) → OptionsTaken (begins there) (a + 16) order interfaces total (total - 20) (with_options described c.has.options) (drop 16 bytes) c.over c.tail → Told k reason)
+      → ((over : ℕ) (tail : List ℕ) → OptionsCut (begins there) (a + 16) order (total - 20) (drop 16 bytes) over tail → Told k reason) → Told k reason
   sound_told k reason there sound taken cut =
-      elim (options_here there) [
-        | inl v ↦ taken v
+      let c = options_here there in
+      elim c.comes [
+        | inl v ↦ taken c v
         | inr (inl v) ↦ elim sound [
           | inl short ↦ absurd (omega (arith, short, there))
-          | inr e ↦ absurd (no_both order (total - 20) (drop 16 bytes) v.over e.0 v.tail e.1 v.has e.2 v.faulty e.3)
+          | inr e ↦ absurd (no_both order (total - 20) (drop 16 bytes) c.over e.0 c.tail e.1 c.has e.2 v.faulty e.3)
         ]
-        | inr (inr v) ↦ cut v
+        | inr (inr v) ↦ cut c.over c.tail v
       ]
 
-  no_cut : (k : ℕ) (reason : CaptureReason) (there : 16 ≤ length bytes) → total ≤ length bytes → OptionsCut (begins there) (a + 16) order (total - 20) (drop 16 bytes) → Told k reason
-  no_cut k reason there enough v =
+  no_cut : (k : ℕ) (reason : CaptureReason) (there : 16 ≤ length bytes) → total ≤ length bytes → (over : ℕ) (tail : List ℕ) → OptionsCut (begins there) (a + 16) order (total - 20) (drop 16 bytes) over tail → Told k reason
+  no_cut k reason there enough over tail v =
       let l = length-drop 16 bytes in
       let short = v.short in
       absurd (omega (arith, l, short, there, enough))
 
   pub cut_told : IsSound s.passes_cut OfInterface order interfaces bytes → length bytes < total → Told (length bytes) Truncated
-  cut_told sound short = elim (cases_lt (length bytes) 16) [ inl h ↦ interface_cut h | inr there ↦ sound_told (length bytes) Truncated there sound (λ v. cut_here there v short) (cut_options there) ]
+  cut_told sound short = elim (cases_lt (length bytes) 16) [ inl h ↦ interface_cut h | inr there ↦ sound_told (length bytes) Truncated there sound (λ c v. cut_here there c v short) (λ over tail v. cut_options there v) ]
 
   there_all : total ≤ length bytes → 16 ≤ length bytes
   there_all enough = let z = has.enough in omega (arith, z, enough)
 
   pub unequal_told : IsSound s.passes_cut OfInterface order interfaces bytes → total ≤ length bytes → u32_at order (total - 4) bytes ≢ total → Told (total - 4) BlockLengths
-  unequal_told sound enough d = let there = there_all enough in sound_told (total - 4) BlockLengths there sound (λ v. unequal_here there v enough d) (no_cut (total - 4) BlockLengths there enough)
+  unequal_told sound enough d = let there = there_all enough in sound_told (total - 4) BlockLengths there sound (λ c v. unequal_here there c v enough d) (no_cut (total - 4) BlockLengths there enough)
 
   pub many_told : IsSound s.passes_cut OfInterface order interfaces bytes → total ≤ length bytes → u32_at order (total - 4) bytes ≡ total → 64 ≤ length interfaces → Told (total - 4) TooManyInterfaces
-  many_told sound enough same h = let there = there_all enough in sound_told (total - 4) TooManyInterfaces there sound (λ v. many_here there v enough same h) (no_cut (total - 4) TooManyInterfaces there enough)
+  many_told sound enough same h = let there = there_all enough in sound_told (total - 4) TooManyInterfaces there sound (λ c v. many_here there c v enough same h) (no_cut (total - 4) TooManyInterfaces there enough)
 
   pub interface_outcome : BlockOutcome s a order interfaces bytes
   interface_outcome =

@@ -24,21 +24,21 @@ use Rattle.dbus_capture.proofs.KeptLaws.{Kept, kept_then, kept_as, kept_moved, k
 use Rattle.dbus_capture.proofs.BlockLaws.{Went, Took, goes_on, respell, counts_as, begins_block, framed_size}
 
 -- a block of an interface, of whose options so many bytes are left
-record InOptions (t : Scan) (order : ByteOrder) (interfaces : List Interface) (total left : ℕ) (i : Interface) : Type 0 where
-  ready : Ready t (after_option left)
-  order_is : t.order ≡ order
-  interfaces_are : t.interfaces ≡ interfaces
-  total_is : t.total ≡ total
-  rest_is : t.rest ≡ left
-  interface_is : t.interface ≡ i
+pub record InOptions (t : Scan) (order : ByteOrder) (interfaces : List Interface) (total left : ℕ) (i : Interface) : Type 0 where
+  pub ready : Ready t (after_option left)
+  pub order_is : t.order ≡ order
+  pub interfaces_are : t.interfaces ≡ interfaces
+  pub total_is : t.total ≡ total
+  pub rest_is : t.rest ≡ left
+  pub interface_is : t.interface ≡ i
 
 -- bytes of options were taken, by which the place moves on by n
-record WentOn (t : Scan) (bytes : List ℕ) (order : ByteOrder) (interfaces : List Interface) (total left : ℕ) (i : Interface) (n : ℕ) : Type 0 where
-  final : Scan
-  ran : run t bytes ≡ final
-  gave : given t bytes ≡ []
-  stands : InOptions final order interfaces total left i
-  kept : Kept t final n 0 0
+pub record WentOn (t : Scan) (bytes : List ℕ) (order : ByteOrder) (interfaces : List Interface) (total left : ℕ) (i : Interface) (n : ℕ) : Type 0 where
+  pub final : Scan
+  pub ran : run t bytes ≡ final
+  pub gave : given t bytes ≡ []
+  pub stands : InOptions final order interfaces total left i
+  pub kept : Kept t final n 0 0
 
 went_both : (t : Scan) (xs ys : List ℕ) (order : ByteOrder) (interfaces : List Interface) (total left left' : ℕ) (i i' : Interface) (n k : ℕ) → (w : WentOn t xs order interfaces total left i n) → WentOn w.final ys order interfaces total left' i' k
     → WentOn t (xs ++ ys) order interfaces total left' i' (n + k)
@@ -143,7 +143,7 @@ pub not_end : (t : Scan) (code size : ℕ) → code ≢ 0 → padded size ≤ t.
     (cond (code == 14) (pass_option t (padded size) (record t.interface { has_offset = true })) (pass_option t (padded size) t.interface))
 not_end t code size c h = when_false _ _ _ (eq_not code 0 c) ∙ when_false _ _ _ (lt_false (t.rest - 4) (padded size) h)
 
-option_taken : (t : Scan) (order : ByteOrder) (interfaces : List Interface) (total more : ℕ) (i : Interface) (o : InterfaceOption) → InOptions t order interfaces total (length (option_bytes order o) + more) i → FitsOption o
+pub option_taken : (t : Scan) (order : ByteOrder) (interfaces : List Interface) (total more : ℕ) (i : Interface) (o : InterfaceOption) → InOptions t order interfaces total (length (option_bytes order o) + more) i → FitsOption o
     → WentOn t (option_bytes order o) order interfaces total more (with_option i o) (length (option_bytes order o))
 option_taken t order interfaces total more i o s f =
     let head = u16_bytes order o.code ++ u16_bytes order (length o.value) in

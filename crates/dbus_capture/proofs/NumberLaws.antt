@@ -1,7 +1,7 @@
 -- Numbers that are read where they were written.
 use Rattle.std.proofs.Common.{◌≡◌, ℕ, ◌+◌, ◌-◌, ◌<◌, ◌≤◌, ◌^◌, List, [], ◌++◌, length, take, drop, refl, sym, ap, ◌∙◌, arith, append-nil}
 use Rattle.std.specs.List.{slice_range}
-use Rattle.std.proofs.lemmas.List.{take_at, drop_at, length-drop, drop-append-le, take-append-le}
+use Rattle.std.proofs.lemmas.List.{take_at, drop_at, length-drop, drop-drop, drop-append-le, take-append-le}
 use Rattle.std.proofs.lemmas.Nat.{from_le_bytes-to_le_bytes_4, from_be_bytes-to_be_bytes_4, from_le_bytes-to_le_bytes_2, from_be_bytes-to_be_bytes_2}
 use Rattle.dbus_capture.specs.declared.byte_order.ByteOrder.{ByteOrder}
 use Rattle.dbus_capture.specs.declared.byte_order.ByteOrder.TheVariants.{Little, Big}
@@ -53,3 +53,13 @@ u32_in_front o front more k h = ap (u32_of o) (part_of_front front more k 4 h)
 
 pub u16_in_front : (o : ByteOrder) (front more : List ℕ) (k : ℕ) → k + 2 ≤ length front → u16_at o k (front ++ more) ≡ u16_at o k front
 u16_in_front o front more k h = ap (u16_of o) (part_of_front front more k 2 h)
+
+-- the first one, and one that comes after a part
+pub u32_now : (o : ByteOrder) (n : ℕ) (rest : List ℕ) → n < 2 ^ 32 → u32_at o 0 (u32_bytes o n ++ rest) ≡ n
+u32_now o n rest h = u32_after o [] n rest 0 refl h
+
+pub u32_skip : (o : ByteOrder) (part rest : List ℕ) (k : ℕ) → length part ≡ 4 → u32_at o (4 + k) (part ++ rest) ≡ u32_at o k rest
+u32_skip o part rest k e =
+    let size : 4 + k + 4 - (4 + k) ≡ k + 4 - k = omega arith in
+    ap (u32_of o) (ap (λ m. take m (drop (4 + k) (part ++ rest))) size
+    ∙ ap (take (k + 4 - k)) (sym (drop-drop k 4 (part ++ rest)) ∙ ap (drop k) (drop_at part rest 4 e)))
