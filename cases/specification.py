@@ -4,7 +4,7 @@
 The exit status is 1 if a definition, a case or a row of docs/PEERS.md is not there, a case has another answer, a rule
 or a choice lacks a definition or cases of a side, or a sentence is in no row. With --check nothing is written, and it
 is 1 if the page is not current. With the D-Bus Specification as HTML, which Debian's dbus-1-doc has, each sentence that
-is counted is printed with its rows, and it is 1 if a section has another number of them.
+is counted is printed with its rows, and it is 1 if a section that has some is not there or has another number of them.
 """
 
 import collections
@@ -28,6 +28,7 @@ ROWS = DATA.parent / "specification.txt"
 PAGE, PEERS = ROOT / "docs" / "SPECIFICATION.md", ROOT / "docs" / "PEERS.md"
 # Each kind of row, and how the page says it; and the last parts of the page.
 KINDS = {"rule": "**{}**", "choice": "**{}** (*profile*)", "beyond": "*Beyond:* {}", "same": '*Said again:* "{}".'}
+FIRST = "Introduction"
 WHOLE, BACK = "Sections that are beyond as a whole", "The way back: of which sections each file says rules"
 SECTION = re.compile(r"(==|--) (.+): (\d+)")
 ROW = re.compile(rf"({'|'.join(KINDS)})((?: \d+(?:-\d+)?)*): (.+)")
@@ -173,16 +174,24 @@ def page(head, counts, rows):
     return f"{head}\n\n{total}\n{parts}"
 
 
+def sections_of(source):
+    """The title and the text of each section, from the first one on. A title that comes again is told by the one above."""
+    parts = re.split(r"<h[2-6][^>]*>(.*?)</h[2-6]>", ASIDE.sub(" ", source), flags=re.S)
+    above, titles = "", [*map(plain, parts[1::2])]
+    for title, text in list(zip(titles, parts[2::2]))[titles.index(FIRST) :]:
+        above = above if titles.count(title) > 1 else title
+        yield title if title == above else f"{title} ({above})", text
+
+
 def print_sentences(path, counts, rows):
-    """Prints the sentences with their rows, and returns whether each section has as many as the rows say."""
-    parts = re.split(r"<h[2-6][^>]*>(.*?)</h[2-6]>", ASIDE.sub(" ", path.read_text(errors="replace")), flags=re.S)
+    """Prints the sentences with their rows, and returns whether each section that has some has as many as the rows say."""
     found = {}
-    for title, text in zip(map(plain, parts[1::2]), parts[2::2]):
+    for title, text in sections_of(path.read_text(errors="replace")):
         found[title] = [it for block in BLOCK.split(text) for it in END.split(plain(block)) if COUNTED.search(it)]
         for number, sentence in enumerate(found[title], 1):
             said = [f"\n    {it.kind}: {it.said}" for it in rows if it.section == title and number in it.numbers]
             print(f"{title} {number}: {sentence}", *said, sep="")
-    return all(len(found.get(title, ())) == count for title, count in counts.items())
+    return {title: len(its) for title, its in found.items() if its or title in counts} == counts
 
 
 def main(*words):

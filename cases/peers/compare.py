@@ -2,6 +2,8 @@
 """compare.py: asks the programs of this folder about messages and values (cases/README.md), and writes docs/PEERS.md of how they answer."""
 
 import collections
+import concurrent.futures as futures
+import itertools
 import pathlib
 import re
 import subprocess
@@ -12,9 +14,10 @@ ROOT = HERE.parent.parent
 sys.dont_write_bytecode = True
 sys.path.insert(0, str(HERE.parent))
 
-from read_cases import DATA, read_cases  # noqa: E402
+from dialogues import told as told_of  # noqa: E402
+from read_cases import DATA, read_bytes, read_cases  # noqa: E402
 from rewritten import MESSAGES, VALUES, rewritten_of  # noqa: E402
-from run import answers_of, asked_of  # noqa: E402
+from run import UNKNOWN, answers_of, asked_of  # noqa: E402
 
 # The name of each peer, and its program and package: of C, or of Python.
 IN_C = (("libdbus", "libdbus", "dbus-1"), ("GDBus", "gdbus", "gio-2.0"), ("sd-bus", "sdbus", "libsystemd"))
@@ -23,9 +26,13 @@ IN_PYTHON = (
     ("dbus-next", "with_dbus_next", "dbus_next"),
     ("dbus-fast", "with_dbus_fast", "dbus_fast"),
 )
-FLAGS = "-std=c11 -O2 -Wall -Wextra".split()
+FLAGS = "-std=c11 -O2 -Wall -Wextra -D_DEFAULT_SOURCE".split()
 PYTHONS = (sys.executable, "/usr/bin/python3")
 BUSES = ("dbus-daemon", "dbus-broker")
+# Our ends in whose place a peer can be.
+OURS = {"server": "server user=1000( agrees=yes)?", "client": "client external=1000( asks=yes)?"}
+# Dialogues that are about what is behind them.
+BEHIND = ("reply_after", "line_after_begin", "line_after_ok")
 MOST_NAMES = 4
 LONGEST_RULE = 50
 
@@ -37,10 +44,10 @@ def output_of(*words):
     return subprocess.run(words, check=True, capture_output=True, text=True).stdout.strip()
 
 
-def build(program, package):
+def build(program, package, shared=("main.c",)):
     built = ROOT / "out" / "peers" / program
     built.parent.mkdir(parents=True, exist_ok=True)
-    sources = (HERE / f"{program}.c", HERE / "main.c")
+    sources = [HERE / it for it in (f"{program}.c", *shared)]
     subprocess.run(["cc", *FLAGS, "-o", built, *sources, *output_of("pkg-config", "--cflags", "--libs", package).split()], check=True)
     return [str(built)]
 
@@ -147,6 +154,62 @@ def said_by_buses(file):
             yield f"| {shown} | {ours}{', *profile*' if case.is_choice else ''} | {' | '.join(theirs)} |"
 
 
+def delivered_rows():
+    """How many cases of matches.txt a bus can be asked, and a line for each that one delivers otherwise. Their first orders are asked."""
+    asked, python = [it._replace(questions=it.questions[:1]) for it in asked_of("plain", [DATA / "matches.txt"])], python_with("jeepney")
+    said = {bus: [*answers_of([python, str(HERE / "with_bus.py"), bus], asked)[0]] for bus in BUSES}
+    yield f"{sum(it.answer != UNKNOWN for it in said[BUSES[0]])} of {len(asked)}"
+    for bus, it in ((bus, it) for bus, its in said.items() for it in its if it.wanted not in (None, it.answer)):
+        rule = bytes.fromhex(it.question.words.split(" ")[1].replace("-", "")).decode()
+        yield f"| {bus} | `{rule}` | {it.question.wanted.right} | {it.answer} | `{it.case.name}` |"
+
+
+def dialogues_of(side):
+    """The dialogues in which a peer can take the place of that end: its name, the bytes that it is handed, what our end says, and whether it asks."""
+    for name, end, given, sent, _, status, _ in read_cases(DATA / "dialogues.txt"):
+        asks = re.fullmatch(OURS[side], end)
+        data, said = read_bytes(given or '""'), read_bytes(sent or '""')
+        if asks and data and not name.startswith(BEHIND) and (side == "client" or asks[1] or b"NEGOTIATE" not in data):
+            lines = said.split(b"\r\n")[side == "client" :]
+            yield name, data, told_of([b"\r\n".join(lines)], status == "closed"), bool(asks[1])
+
+
+def differs_at(wanted, found, asks, is_at_once):
+    """The first word that is another, as it is wanted and as it is found."""
+    if not asks:
+        found = re.sub("NEGOTIATE_UNIX_FD.*", "BEGIN", found)
+    if is_at_once:
+        wanted, found = re.sub("NEGOTIATE_UNIX_FD ?", "", wanted) or "BEGIN", found.split(" ")[0]
+        wanted = wanted.split(" ")[0]
+    pairs = itertools.zip_longest(wanted.split(), found.split(), fillvalue="nothing")
+    return next((pair for pair in pairs if pair[0] != pair[1]), None)
+
+
+def dialogue_rows(side, commands):
+    """A line for each way in which a peer answers a dialogue otherwise."""
+    asked = [*dialogues_of(side)]
+    lines = "".join(f"dialogue {data.hex()}\n" for _, data, *_ in asked)
+    with futures.ThreadPoolExecutor(2) as pool:
+        answered = pool.map(lambda it: subprocess.run(it, input=lines, capture_output=True, text=True).stdout.split("\n"), commands.values())
+    for peer, answers in zip(commands, answered):
+        found = collections.defaultdict(list)
+        for (name, _, wanted, asks), answer in zip(asked, answers):
+            found[differs_at(wanted, answer, asks or side == "server", side == "client" and peer == "sd-bus")].append(f"`{name}`")
+        found.pop(None, None)
+        yield from (f"| {peer} | {was} | {now} | {', '.join(names)} |" for (was, now), names in found.items())
+
+
+def servers():
+    python = [python_with("jeepney"), str(HERE / "with_bus.py")]
+    yield from ((bus, [*python, bus]) for bus in BUSES)
+    yield from ((name, [*python, build(f"{program}_server", package, [])[0]]) for name, program, package in IN_C[1:])
+
+
+def clients():
+    names = [name for name, *_ in (*IN_C, *IN_PYTHON)]
+    return {name: [python_with("dbus_fast"), str(HERE / "with_client.py"), name] for name in names}
+
+
 def refused_inputs():
     """How many inputs are refused, as they were and as rewritten."""
     was = now = 0
@@ -171,8 +234,11 @@ def main():
     tables["missed"] = [*missed_rows(results, False), *lost_rows(results, False)]
     tables["missed_choices"] = [*missed_rows(results, True), *lost_rows(results, True)]
     tables["rules"], tables["lines"] = said_by_buses("rules.txt"), said_by_buses("client_lines.txt")
+    tables["servers"], tables["clients"] = dialogue_rows("server", dict(servers())), dialogue_rows("client", clients())
+    tables["delivered"], *tables["deliveries"] = delivered_rows()
     tables["buses"] = (" | ".join(f"{it} {re.search(r'[0-9][0-9.]*', output_of(it, '--version'))[0]}" for it in BUSES),)
-    page = (HERE / "page.md").read_text().format(was=was, now=now, **{name: "\n".join(lines) for name, lines in tables.items()})
+    texts = {name: lines if isinstance(lines, str) else "\n".join(lines) for name, lines in tables.items()}
+    page = (HERE / "page.md").read_text().format(was=was, now=now, **texts)
     (ROOT / "docs" / "PEERS.md").write_text(page)
 
 

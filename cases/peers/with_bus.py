@@ -1,16 +1,21 @@
 #!/usr/bin/python3
-"""with_bus.py dbus-daemon | dbus-broker: starts that bus, and answers `rule` by its AddMatch, and `match` by whether it
-delivers the message. Only signals without SENDER, DESTINATION and UNIX_FDS can be asked of a bus. `line client` is
-answered by what it replies to the line in three of its states, of root."""
+"""with_bus.py dbus-daemon | dbus-broker | PROGRAM: starts that bus, or a server at the address that it is given, and
+answers `rule` by its AddMatch, and `match` by whether it delivers the message. Only signals without SENDER, DESTINATION
+and UNIX_FDS can be asked of a bus, and messages of type 5 as such. `line client` is answered by what it replies to the line in three of its states, and
+`dialogue BYTES` by what it replies to a client's bytes, both of root."""
 
+import concurrent.futures as futures
 import os
 import pathlib
+import re
 import socket
 import subprocess
 import sys
 import tempfile
+import time
 
-from jeepney import DBusAddress, MessageType, new_method_call, new_signal
+from dialogues import given_to, talk, told
+from jeepney import DBusAddress, MessageType, new_method_call
 from jeepney.io.blocking import open_dbus_connection
 from jeepney.low_level import HeaderFields
 
@@ -24,7 +29,9 @@ CONFIG = """<busconfig><type>session</type><listen>unix:path={0}</listen><auth>E
 LAUNCHED = {"dbus-daemon": "dbus-daemon --nofork --address=systemd:", "dbus-broker": "dbus-broker-launch --scope user"}
 JOURNAL = pathlib.Path("/run/systemd/journal/socket")
 BUS = DBusAddress("/org/freedesktop/DBus", bus_name="org.freedesktop.DBus", interface="org.freedesktop.DBus")
-SIGNAL = 4
+SIGNAL, UNKNOWN = 4, 5
+# The key of a field that each signal has, and a field that is none of a case.
+LACKING = {1: ("path", b"\1\1o\0", b"/X"), 2: ("interface", b"\2\1s\0", b"X.X"), 3: ("member", b"\3\1s\0", b"X")}
 SET_BY_THE_BUS = {6, 7, 9}
 LAST = b"LastOfAll\0"
 # What takes a server to WaitingForAuth, WaitingForData and WaitingForBegin, and what it replies there to a line of each
@@ -43,7 +50,9 @@ MEANINGS = {
 
 
 def start(name, room):
-    """The bus, which listens at the path."""
+    """The bus or the server, which listens at the path."""
+    if name not in LAUNCHED:
+        return subprocess.Popen([name, f"unix:path={room}/bus"])
     config = room / "bus.conf"
     config.write_text(CONFIG.format(room / "bus"))
     listens = socket.socket(socket.AF_UNIX)
@@ -61,16 +70,31 @@ def add_match(connection, rule):
     return f"no: {reply.header.fields[HeaderFields.error_name].rpartition('.')[2]}: {reply.body[0]}".replace("\n", " ")
 
 
-def deliver(hears, sends, rule, data):
-    """Whether who asks for the rule hears the message before a last one."""
+def as_signal(rule, data):
+    """The message as a signal, to which the rule holds as to the message; or nothing."""
     draft = Draft(data, "")
     draft.fields()
-    if data[1] != SIGNAL or draft.codes & SET_BY_THE_BUS or not add_match(hears, rule).startswith("yes"):
+    lacks = sorted({*LACKING} - draft.codes)
+    keys = [LACKING[code][0] for code in lacks] + ["type"] * (data[1] == UNKNOWN)
+    if data[1] not in (SIGNAL, UNKNOWN) or draft.codes & SET_BY_THE_BUS or any(re.search(rf"(^|,) *{key}", rule) for key in keys):
+        return b""
+    fields = [code + len(text).to_bytes(4, draft.order) + text + b"\0" for _, code, text in map(LACKING.get, lacks)]
+    put = b"".join(it + b"\0" * (-len(it) % 8) for it in fields)
+    length = int.from_bytes(data[12:16], draft.order)
+    # The padding behind the last field is no part of the fields.
+    length = len(put) + length if length or not lacks else len(put) - (-len(fields[-1]) % 8)
+    return data[:1] + bytes([SIGNAL]) + data[2:12] + length.to_bytes(4, draft.order) + put + data[16:]
+
+
+def deliver(hears, sends, rule, data):
+    """Whether who asks for the rule hears the message before a last one."""
+    data = as_signal(rule, data)
+    if not data or not add_match(hears, rule).startswith("yes"):
         return "?"
-    last = new_signal(DBusAddress("/", bus_name=hears.unique_name, interface="a.b"), LAST[:-1].decode())
+    last = new_method_call(DBusAddress("/", bus_name=hears.unique_name, interface="a.b"), LAST[:-1].decode())
     sends.sock.sendall(data + last.serialise(serial=99))
     heard = b""
-    hears.sock.settimeout(1)
+    hears.sock.settimeout(10)
     while LAST not in heard:
         heard += hears.sock.recv(1 << 16)
     return "yes" if heard.count(sends.unique_name.encode() + b"\0") > 1 else "no"
@@ -95,7 +119,16 @@ def reply_to(path, before, line):
     return word in TO_A_MECHANISM or word
 
 
+def dialogue(path, data):
+    said = []
+    with socket.socket(socket.AF_UNIX) as server:
+        server.connect(path)
+        return told(said, talk(server, given_to(data), said))
+
+
 def answer(address, kind, *words):
+    if kind == "dialogue":
+        return dialogue(address.partition("=")[2], bytes.fromhex(*words))
     if kind == "line" and words[0] == "client":
         line = bytes.fromhex(words[1].replace("-", ""))
         if not all(0 < byte < 128 for byte in line):
@@ -121,8 +154,11 @@ def main(name):
         if not JOURNAL.exists():
             journal.bind(str(JOURNAL) if name == "dbus-broker" else f"{room}/journal")
         process = start(name, pathlib.Path(room))
-        for line in sys.stdin:
-            print(answer(f"unix:path={room}/bus", *line.split()), flush=True)
+        while not pathlib.Path(room, "bus").exists():
+            time.sleep(0.01)
+        with futures.ThreadPoolExecutor(16) as pool:
+            for said in pool.map(lambda line: answer(f"unix:path={room}/bus", *line.split()), sys.stdin):
+                print(said, flush=True)
         process.terminate()
         process.wait()
 

@@ -574,6 +574,18 @@ class Handshakes(unittest.TestCase):
         self.assertTrue(watch.has_begun)
         self.assertEqual((watch.client(b"l"), watch.server(b"l")), (None, None))
 
+    def test_a_watch_of_all_lines_at_once(self):
+        # sd-bus sends BEGIN in one write behind NEGOTIATE_UNIX_FD.
+        lines = (b"\0", b"AUTH EXTERNAL\r\n", b"DATA\r\n", b"NEGOTIATE_UNIX_FD\r\n")
+        watch, sent = Watch(), b"".join(lines) + b"BEGIN\r\nl"
+        for line in lines:
+            self.assertEqual(watch.client(sent).length, len(line))
+            sent = sent[len(line) :]
+        for answer in (b"DATA\r\n", b"OK " + b"f" * 32 + b"\r\n", b"AGREE_UNIX_FD\r\n"):
+            self.assertIsNone(watch.client(sent))
+            self.assertEqual(watch.server(answer).length, len(answer))
+        self.assertEqual(watch.client(sent).command, LineCommand.BEGIN)
+
     def test_a_watch_refuses(self):
         for sent, command in ((b"BEGIN \r\n", LineCommand.BEGIN), (b"BEGIN\r\n", LineCommand.BEGIN), (b"OK\r\n", LineCommand.OTHER), (b"\n", None)):
             watch = Watch()

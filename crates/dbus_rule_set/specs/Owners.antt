@@ -1,5 +1,5 @@
 -- The owners of names, as a set of names with their owners, and how it changes. D-Bus
--- Specification, "Bus names".
+-- Specification, "Bus names" and "Message Bus Overview".
 use Rattle.std.specs.Prelude.{◌≡◌, ℕ, List, [], not, if◌then◌else◌, refl}
 use Rattle.std.specs.Coded.{Coded, code_by, coded×, coded_list, coded_ℕ}
 use Rattle.std.specs.Cmp.Lexicographic.{slice_cmp}
