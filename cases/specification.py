@@ -175,7 +175,7 @@ def page(head, counts, rows):
 
 
 def sections_of(source):
-    """The title and the text of each section, from the first one on. A title that comes again is told by the one above."""
+    """The title and the text of each section. A title that comes again has the one above it."""
     parts = re.split(r"<h[2-6][^>]*>(.*?)</h[2-6]>", ASIDE.sub(" ", source), flags=re.S)
     above, titles = "", [*map(plain, parts[1::2])]
     for title, text in list(zip(titles, parts[2::2]))[titles.index(FIRST) :]:
@@ -184,7 +184,7 @@ def sections_of(source):
 
 
 def print_sentences(path, counts, rows):
-    """Prints the sentences with their rows, and returns whether each section that has some has as many as the rows say."""
+    """Prints the sentences with their rows, and returns whether all are in a section of the rows."""
     found = {}
     for title, text in sections_of(path.read_text(errors="replace")):
         found[title] = [it for block in BLOCK.split(text) for it in END.split(plain(block)) if COUNTED.search(it)]

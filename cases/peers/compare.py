@@ -155,21 +155,26 @@ def said_by_buses(file):
 
 
 def delivered_rows():
-    """How many cases of matches.txt a bus can be asked, and a line for each that one delivers otherwise. Their first orders are asked."""
-    asked, python = [it._replace(questions=it.questions[:1]) for it in asked_of("plain", [DATA / "matches.txt"])], python_with("jeepney")
+    """How many cases of matches.txt, in their first order, a bus can be asked, and a line for each
+    that one delivers otherwise."""
+    cases = asked_of("plain", [DATA / "matches.txt"])
+    asked, python = [it._replace(questions=it.questions[:1]) for it in cases], python_with("jeepney")
     said = {bus: [*answers_of([python, str(HERE / "with_bus.py"), bus], asked)[0]] for bus in BUSES}
     yield f"{sum(it.answer != UNKNOWN for it in said[BUSES[0]])} of {len(asked)}"
-    for bus, it in ((bus, it) for bus, its in said.items() for it in its if it.wanted not in (None, it.answer)):
-        rule = bytes.fromhex(it.question.words.split(" ")[1].replace("-", "")).decode()
-        yield f"| {bus} | `{rule}` | {it.question.wanted.right} | {it.answer} | `{it.case.name}` |"
+    for bus, its in said.items():
+        for it in (it for it in its if it.wanted not in (None, it.answer)):
+            rule = bytes.fromhex(it.question.words.split(" ")[1].replace("-", "")).decode()
+            yield f"| {bus} | `{rule}` | {it.question.wanted.right} | {it.answer} | `{it.case.name}` |"
 
 
 def dialogues_of(side):
-    """The dialogues in which a peer can take the place of that end: its name, the bytes that it is handed, what our end says, and whether it asks."""
+    """The dialogues in which a peer can take the place of that end: the name, the bytes that it is
+    handed, what our end says, and whether it asks for descriptors."""
     for name, end, given, sent, _, status, _ in read_cases(DATA / "dialogues.txt"):
         asks = re.fullmatch(OURS[side], end)
         data, said = read_bytes(given or '""'), read_bytes(sent or '""')
-        if asks and data and not name.startswith(BEHIND) and (side == "client" or asks[1] or b"NEGOTIATE" not in data):
+        is_apt = side == "client" or asks and asks[1] or b"NEGOTIATE" not in data
+        if asks and data and is_apt and not name.startswith(BEHIND):
             lines = said.split(b"\r\n")[side == "client" :]
             yield name, data, told_of([b"\r\n".join(lines)], status == "closed"), bool(asks[1])
 
@@ -190,19 +195,23 @@ def dialogue_rows(side, commands):
     asked = [*dialogues_of(side)]
     lines = "".join(f"dialogue {data.hex()}\n" for _, data, *_ in asked)
     with futures.ThreadPoolExecutor(2) as pool:
-        answered = pool.map(lambda it: subprocess.run(it, input=lines, capture_output=True, text=True).stdout.split("\n"), commands.values())
-    for peer, answers in zip(commands, answered):
-        found = collections.defaultdict(list)
-        for (name, _, wanted, asks), answer in zip(asked, answers):
-            found[differs_at(wanted, answer, asks or side == "server", side == "client" and peer == "sd-bus")].append(f"`{name}`")
+        how = {"input": lines, "stdout": subprocess.PIPE, "stderr": subprocess.DEVNULL, "text": True}
+        ran = pool.map(lambda command: subprocess.run(command, **how), commands.values())
+    for peer, answers in zip(commands, ran):
+        found, is_at_once = collections.defaultdict(list), side == "client" and peer == "sd-bus"
+        for (name, _, wanted, asks), answer in zip(asked, answers.stdout.split("\n")):
+            differs = differs_at(wanted, answer, asks or side == "server", is_at_once)
+            found[differs].append(f"`{name}`")
         found.pop(None, None)
-        yield from (f"| {peer} | {was} | {now} | {', '.join(names)} |" for (was, now), names in found.items())
+        for (was, now), names in found.items():
+            yield f"| {peer} | {was} | {now} | {', '.join(names)} |"
 
 
 def servers():
     python = [python_with("jeepney"), str(HERE / "with_bus.py")]
     yield from ((bus, [*python, bus]) for bus in BUSES)
-    yield from ((name, [*python, build(f"{program}_server", package, [])[0]]) for name, program, package in IN_C[1:])
+    for name, program, package in IN_C[1:]:
+        yield name, python + build(f"{program}_server", package, [])
 
 
 def clients():
@@ -234,10 +243,11 @@ def main():
     tables["missed"] = [*missed_rows(results, False), *lost_rows(results, False)]
     tables["missed_choices"] = [*missed_rows(results, True), *lost_rows(results, True)]
     tables["rules"], tables["lines"] = said_by_buses("rules.txt"), said_by_buses("client_lines.txt")
-    tables["servers"], tables["clients"] = dialogue_rows("server", dict(servers())), dialogue_rows("client", clients())
+    tables["servers"] = dialogue_rows("server", dict(servers()))
+    tables["clients"] = dialogue_rows("client", clients())
     tables["delivered"], *tables["deliveries"] = delivered_rows()
     tables["buses"] = (" | ".join(f"{it} {re.search(r'[0-9][0-9.]*', output_of(it, '--version'))[0]}" for it in BUSES),)
-    texts = {name: lines if isinstance(lines, str) else "\n".join(lines) for name, lines in tables.items()}
+    texts = {it: lines if isinstance(lines, str) else "\n".join(lines) for it, lines in tables.items()}
     page = (HERE / "page.md").read_text().format(was=was, now=now, **texts)
     (ROOT / "docs" / "PEERS.md").write_text(page)
 

@@ -1,4 +1,5 @@
-"""What the programs share that put a peer in the place of an end of a dialogue (cases/data/dialogues.txt). The peer is of root, as its other end is."""
+"""What the programs share that put a peer in the place of an end of a dialogue
+(cases/data/dialogues.txt). The peer is of root, as its other end is."""
 
 import re
 
@@ -42,6 +43,7 @@ def talk(end, pieces, said, seconds=1):
 
 def told(said, closes):
     """The commands of lines up to BEGIN, and whether the end closes then."""
-    words = [line.split(b" ")[0].decode("latin1") for line in b"".join(said).lstrip(b"\0").split(b"\r\n") if line]
+    lines = b"".join(said).lstrip(b"\0").split(b"\r\n")
+    words = [line.split(b" ")[0].decode("latin1") for line in lines if line]
     words = words[: words.index("BEGIN") + 1] if "BEGIN" in words else words
     return " ".join(words + ["closes"] * closes) or "nothing"

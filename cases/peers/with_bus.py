@@ -1,8 +1,8 @@
 #!/usr/bin/python3
 """with_bus.py dbus-daemon | dbus-broker | PROGRAM: starts that bus, or a server at the address that it is given, and
 answers `rule` by its AddMatch, and `match` by whether it delivers the message. Only signals without SENDER, DESTINATION
-and UNIX_FDS can be asked of a bus, and messages of type 5 as such. `line client` is answered by what it replies to the line in three of its states, and
-`dialogue BYTES` by what it replies to a client's bytes, both of root."""
+and UNIX_FDS can be asked of a bus, and messages of type 5 as such. `line client` is answered by what it replies to the
+line in three of its states, and `dialogue BYTES` by what it replies to a client's bytes, both of root."""
 
 import concurrent.futures as futures
 import os
@@ -31,7 +31,11 @@ JOURNAL = pathlib.Path("/run/systemd/journal/socket")
 BUS = DBusAddress("/org/freedesktop/DBus", bus_name="org.freedesktop.DBus", interface="org.freedesktop.DBus")
 SIGNAL, UNKNOWN = 4, 5
 # The key of a field that each signal has, and a field that is none of a case.
-LACKING = {1: ("path", b"\1\1o\0", b"/X"), 2: ("interface", b"\2\1s\0", b"X.X"), 3: ("member", b"\3\1s\0", b"X")}
+LACKING = {
+    1: ("path", b"\1\1o\0", b"/X"),
+    2: ("interface", b"\2\1s\0", b"X.X"),
+    3: ("member", b"\3\1s\0", b"X"),
+}
 SET_BY_THE_BUS = {6, 7, 9}
 LAST = b"LastOfAll\0"
 # What takes a server to WaitingForAuth, WaitingForData and WaitingForBegin, and what it replies there to a line of each
@@ -76,14 +80,16 @@ def as_signal(rule, data):
     draft.fields()
     lacks = sorted({*LACKING} - draft.codes)
     keys = [LACKING[code][0] for code in lacks] + ["type"] * (data[1] == UNKNOWN)
-    if data[1] not in (SIGNAL, UNKNOWN) or draft.codes & SET_BY_THE_BUS or any(re.search(rf"(^|,) *{key}", rule) for key in keys):
+    is_asked_for = any(re.search(rf"(^|,) *{key}", rule) for key in keys)
+    if data[1] not in (SIGNAL, UNKNOWN) or draft.codes & SET_BY_THE_BUS or is_asked_for:
         return b""
-    fields = [code + len(text).to_bytes(4, draft.order) + text + b"\0" for _, code, text in map(LACKING.get, lacks)]
+    number = lambda count: count.to_bytes(4, draft.order)
+    fields = [code + number(len(text)) + text + b"\0" for _, code, text in map(LACKING.get, lacks)]
     put = b"".join(it + b"\0" * (-len(it) % 8) for it in fields)
     length = int.from_bytes(data[12:16], draft.order)
     # The padding behind the last field is no part of the fields.
     length = len(put) + length if length or not lacks else len(put) - (-len(fields[-1]) % 8)
-    return data[:1] + bytes([SIGNAL]) + data[2:12] + length.to_bytes(4, draft.order) + put + data[16:]
+    return data[:1] + bytes([SIGNAL]) + data[2:12] + number(length) + put + data[16:]
 
 
 def deliver(hears, sends, rule, data):
@@ -91,7 +97,8 @@ def deliver(hears, sends, rule, data):
     data = as_signal(rule, data)
     if not data or not add_match(hears, rule).startswith("yes"):
         return "?"
-    last = new_method_call(DBusAddress("/", bus_name=hears.unique_name, interface="a.b"), LAST[:-1].decode())
+    hearer = DBusAddress("/", bus_name=hears.unique_name, interface="a.b")
+    last = new_method_call(hearer, LAST[:-1].decode())
     sends.sock.sendall(data + last.serialise(serial=99))
     heard = b""
     hears.sock.settimeout(10)
@@ -157,7 +164,8 @@ def main(name):
         while not pathlib.Path(room, "bus").exists():
             time.sleep(0.01)
         with futures.ThreadPoolExecutor(16) as pool:
-            for said in pool.map(lambda line: answer(f"unix:path={room}/bus", *line.split()), sys.stdin):
+            address = f"unix:path={room}/bus"
+            for said in pool.map(lambda line: answer(address, *line.split()), sys.stdin):
                 print(said, flush=True)
         process.terminate()
         process.wait()
