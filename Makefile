@@ -1,7 +1,7 @@
 # make run         checks a sample capture by what make build made, or else builds dbus-wire without its proofs, in about three processor minutes;
 #                  ARGS='show' FILE=my.dbus for another command and capture
 # make quick-test  the tests, the cases and the examples of doc comments, without proofs: some minutes
-#                  It also holds the manual page and the completions against the texts of help
+#                  It also holds the manual page and the completions against the texts of help; bench/options.py writes what it can of them
 # make api         prints docs/API.md, the calls of the libraries, out of the sources; make quick-test checks that it is current
 # make graph       writes which crate uses which into docs/ARCHITECTURE.md; make definitions-check, and quick-test, check it
 # make definitions writes the tables of docs/DEFINITIONS.md and docs/WORKED-EXAMPLES.md out of the definitions and their examples, the rules of refused messages
@@ -125,7 +125,7 @@ kit:
 
 quick-test: kit definitions-check
 	bench/api.py --check
-	bench/options_check.py
+	bench/options.py --check
 	bench/doc_examples.py
 	bench/quick_test.py
 

@@ -27,7 +27,7 @@ import sys
 
 import definitions
 import graph
-import options_check
+import options
 import rules
 from crate_list import PARTS, ROOT, folder_of, read_crates
 from edits import edits_in
@@ -220,8 +220,8 @@ def main(*words):
         write(now, budgets, now)
         return 0
     show(now, budgets, lambda *numbers: words == ("--all",) or len({*numbers}) > 1)
-    touched(set().union(*options_check.options().values()), r"^\+  (?:-\w, |    )(--[a-z-]+)", "")
-    touched(options_check.commands(), r"^\+  ([a-z]+)  ", "dbus-wire ")
+    touched(set().union(*options.options().values()), r"^\+  (?:-\w, |    )(--[a-z-]+)", "")
+    touched(options.commands(), r"^\+  ([a-z]+)  ", "dbus-wire ")
     return 0
 
 

@@ -22,7 +22,7 @@ _dbus_wire_rule() {
 _dbus_wire() {
     local word=${COMP_WORDS[COMP_CWORD]} option=${COMP_WORDS[COMP_CWORD-1]}
     local commands='show json list check count calls swap filter encode handshake help'
-    local options='--json --explain --max-message --max-array --max-depth --fds --handshake -h --help'
+    local options= values= is_ruled=
     COMPREPLY=()
     # A redirection names a file, which bash completes.
     [[ $option == [\<\>]* ]] && return
@@ -36,67 +36,38 @@ _dbus_wire() {
     elif [[ $option == = ]]; then
         option=${COMP_WORDS[COMP_CWORD-2]}
     fi
+    # bench/options.py writes the rows of both tables. The value of most is free.
     case $option in
-        --to)
-            COMPREPLY=($(compgen -W 'l B' -- "$word"))
-            return
-            ;;
-        --fds)
-            COMPREPLY=($(compgen -W 'any below-count' -- "$word"))
-            return
-            ;;
-        --handshake | --side)
-            COMPREPLY=($(compgen -W 'client server' -- "$word"))
-            return
-            ;;
-        --max-* | --resync-window | --skip | --limit | --width | --slower | --owner)
-            # A number, or NAME=UNIQUE.
-            return
-            ;;
+        --resync-window | --skip | --limit | --max-message | --max-array | --max-depth | --width | --owner | --slower | --max-line) values=' ' ;;
+        --handshake | --side) values='client server' ;;
+        --fds) values='any below-count' ;;
+        --to) values='l B' ;;
     esac
-    case ${COMP_WORDS[1]} in
-        swap)
-            COMPREPLY=($(compgen -W "--to --raw $options" -- "$word"))
-            ;;
-        filter)
-            if [[ $word == -* ]]; then
-                COMPREPLY=($(compgen -W "--invert --owner --learn-owners --raw --skip --limit --check-rest --keep-going --resync --resync-window $options" -- "$word"))
-            else
-                _dbus_wire_rule
-            fi
-            ;;
-        show)
-            COMPREPLY=($(compgen -W "--time --escape --skip --limit --check-rest --keep-going --resync --resync-window $options" -- "$word"))
-            ;;
-        json)
-            COMPREPLY=($(compgen -W "--no-time --safe-integers --skip --limit --check-rest --keep-going --resync --resync-window $options" -- "$word"))
-            ;;
-        list)
-            if [[ $word == -* ]]; then
-                COMPREPLY=($(compgen -W "--width --invert --owner --learn-owners --skip --limit --check-rest --keep-going --resync --resync-window $options" -- "$word"))
-            else
-                _dbus_wire_rule
-            fi
-            ;;
-        check)
-            COMPREPLY=($(compgen -W "--keep-going --resync --resync-window $options" -- "$word"))
-            ;;
-        count)
-            COMPREPLY=($(compgen -W "--keep-going --resync --resync-window $options" -- "$word"))
-            ;;
-        calls)
-            COMPREPLY=($(compgen -W "--members --unanswered --errors --slower --keep-going --resync --resync-window $options" -- "$word"))
-            ;;
-        encode)
-            COMPREPLY=($(compgen -W '--to --safe-integers --explain --keep-going --max-line --max-message --max-array --max-depth --fds -h --help' -- "$word"))
-            ;;
-        handshake)
-            COMPREPLY=($(compgen -W '--side -h --help' -- "$word"))
-            ;;
+    if [[ -n $values ]]; then
+        COMPREPLY=($(compgen -W "$values" -- "$word"))
+        return
+    fi
+    local command=${COMP_WORDS[1]}
+    case $command in
+        show) options='--time --escape --json --explain --keep-going --resync --resync-window --skip --limit --check-rest --handshake --max-message --max-array --max-depth --fds -h --help' ;;
+        json) options='--no-time --safe-integers --json --explain --keep-going --resync --resync-window --skip --limit --check-rest --handshake --max-message --max-array --max-depth --fds -h --help' ;;
+        list) is_ruled=1 options='--width --invert --owner --learn-owners --json --explain --keep-going --resync --resync-window --skip --limit --check-rest --handshake --max-message --max-array --max-depth --fds -h --help' ;;
+        check) options='--json --explain --keep-going --resync --resync-window --handshake --max-message --max-array --max-depth --fds -h --help' ;;
+        count) options='--json --explain --keep-going --resync --resync-window --handshake --max-message --max-array --max-depth --fds -h --help' ;;
+        calls) options='--members --unanswered --errors --slower --json --explain --keep-going --resync --resync-window --handshake --max-message --max-array --max-depth --fds -h --help' ;;
+        swap) options='--to --raw --json --explain --handshake --max-message --max-array --max-depth --fds -h --help' ;;
+        filter) is_ruled=1 options='--invert --owner --learn-owners --raw --json --explain --keep-going --resync --resync-window --skip --limit --check-rest --handshake --max-message --max-array --max-depth --fds -h --help' ;;
+        encode) options='--to --safe-integers --explain --keep-going --max-line --max-message --max-array --max-depth --fds -h --help' ;;
+        handshake) options='--side -h --help' ;;
         help)
-            ((COMP_CWORD == 2)) && COMPREPLY=($(compgen -W "$commands" -- "$word"))
+            ((COMP_CWORD == 2)) && options=$commands
             ;;
     esac
+    if [[ -n $is_ruled && $word != -* ]]; then
+        _dbus_wire_rule
+    else
+        COMPREPLY=($(compgen -W "$options" -- "$word"))
+    fi
 }
 
 complete -o default -F _dbus_wire dbus-wire

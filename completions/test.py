@@ -21,7 +21,7 @@ import time
 
 HERE = pathlib.Path(__file__).resolve().parent
 sys.path.insert(0, str(HERE.parent / "bench"))
-from options_check import commands, options  # noqa: E402
+from options import commands, options  # noqa: E402
 
 PROMPT = "@@"
 # A shell that has written nothing for this long has written all.

@@ -96,12 +96,6 @@ pub(crate) const SHOW_MORE: &str = more!(
   dbus-monitor --session --binary | dbus-wire show"
 );
 
-/// What `--time` of `show` does.
-pub(crate) const TIME: &str = "Writes the time of each message before it";
-
-/// What `--escape` of `show` does.
-pub(crate) const ESCAPE: &str = "Writes hidden characters as \\u{202e}";
-
 /// What `json` does.
 pub(crate) const JSON: &str = "Writes each message as a line of JSON";
 
@@ -125,12 +119,6 @@ pub(crate) const JSON_MORE: &str = more!(
     "
   dbus-monitor --session --binary | dbus-wire json"
 );
-
-/// What `--no-time` of `json` does.
-pub(crate) const NO_TIME: &str = "Leaves out the times";
-
-/// What `--safe-integers` of `json` does.
-pub(crate) const SAFE_INTEGERS: &str = "Writes integers beyond 2^53 - 1 as strings";
 
 /// What `list` does.
 pub(crate) const LIST: &str = "Writes each message as one line that fits a terminal";
@@ -159,9 +147,6 @@ pub(crate) const LIST_MORE: &str = more!(
     "
   dbus-wire list --width $COLUMNS < capture"
 );
-
-/// What `--width` of `list` is.
-pub(crate) const WIDTH: &str = "Cells of a line: 80, the default; 0 for no bound; to 65535";
 
 /// What `check` does.
 pub(crate) const CHECK: &str = "Checks that the input is messages, and counts them";
@@ -236,18 +221,6 @@ pub(crate) const CALLS_MORE: &str = more!(
   dbus-wire calls --unanswered < capture"
 );
 
-/// What `--members` of `calls` does.
-pub(crate) const MEMBERS: &str = "Sums the calls up by their members";
-
-/// What `--unanswered` of `calls` does.
-pub(crate) const UNANSWERED: &str = "Lists the calls that want a reply and have none";
-
-/// What `--errors` of `calls` does.
-pub(crate) const ERRORS: &str = "Lists the calls that an error answered";
-
-/// Which calls `--slower` of `calls` lists.
-pub(crate) const SLOWER: &str = "Lists the calls replied to later: 0 to 4294967295 ms";
-
 /// What `swap` does.
 pub(crate) const SWAP: &str = "Writes each message in one byte order";
 
@@ -264,12 +237,6 @@ pub(crate) const SWAP_MORE: &str = more!(
     "
   dbus-wire swap --to B < capture > big-endian"
 );
-
-/// What the order of `swap` and `encode` is.
-pub(crate) const ORDER: &str = "The byte order: l is little-endian, B is big-endian";
-
-/// What `--raw` of `swap` and `filter` does.
-pub(crate) const RAW: &str = "Writes raw messages, also of a pcap or pcapng file";
 
 /// What `filter` does.
 pub(crate) const FILTER: &str = "Writes the messages that match a rule, as they came";
@@ -297,18 +264,6 @@ pub(crate) const FILTER_MORE: &str = more!(
     "
   dbus-wire filter \"type='signal',member='NameLost'\" < capture | dbus-wire show"
 );
-
-/// What the rules of `list` and `filter` are.
-pub(crate) const RULE: &str = "Match rules, as type='signal',path='/a'; '' matches each message";
-
-/// What `--invert` of `list` and `filter` does.
-pub(crate) const INVERT: &str = "Writes the messages that match none of the rules";
-
-/// What `--owner` of `list` and `filter` is.
-pub(crate) const OWNER: &str = "The owner of a name, as org.a.B=:1.7; any number";
-
-/// What `--learn-owners` of `list` and `filter` does.
-pub(crate) const LEARN_OWNERS: &str = "Learns owners from the input, from then on";
 
 /// What `encode` does.
 pub(crate) const ENCODE: &str = "Writes the messages that lines of JSON spell";
@@ -344,57 +299,6 @@ Exit status:
 Example:
   dbus-wire json < capture | jq -c 'select(.member)' | dbus-wire encode > calls";
 
-/// What `--safe-integers` of `encode` does.
-pub(crate) const SAFE_LINES: &str = "Takes integers beyond 2^53 - 1 only as strings";
-
-/// What `--keep-going` of `encode` does.
-pub(crate) const KEEP_GOING_LINES: &str = "Goes on after a refused line";
-
-/// What the limit on lines is.
-pub(crate) const MAX_LINE: &str = "Most bytes of a line: 0 to 1073741824, the default";
-
-/// What `--json` of `check`, `count` and `calls` does.
-pub(crate) const LINES_JSON: &str = "Writes each line as JSON";
-
-/// What `--json` of the other commands does.
-pub(crate) const REFUSALS_JSON: &str = "Tells what is refused as JSON";
-
-/// What `--explain` does.
-pub(crate) const EXPLAIN: &str = "Explains what is refused, in more lines";
-
-/// What `--keep-going` of all commands but `swap` does.
-pub(crate) const KEEP_GOING: &str = "Goes on after a refused message";
-
-/// What `--resync` of these does.
-pub(crate) const RESYNC: &str = "Keeps going where messages begin again, in 1 MiB";
-
-/// What the window of `--resync` is.
-pub(crate) const RESYNC_WINDOW: &str = "The same in N bytes: 0 to 1073741824";
-
-/// How many messages are skipped.
-pub(crate) const SKIP: &str = "Messages to skip first: 0, the default, to 4294967295";
-
-/// How many messages are written at most.
-pub(crate) const LIMIT: &str = "Most messages to write after these: 0 to 4294967295";
-
-/// What is done after them.
-pub(crate) const CHECK_REST: &str = "Reads and checks the rest of the input after these";
-
-/// What the limit on messages is.
-pub(crate) const MAX_MESSAGE: &str = "Most bytes of a message: 0 to 134217728, the default";
-
-/// What the limit on arrays is.
-pub(crate) const MAX_ARRAY: &str = "Most bytes of an array: 0 to 67108864, the default";
-
-/// What the limit on depth is.
-pub(crate) const MAX_DEPTH: &str = "Most containers open at once: 0 to 64, the default";
-
-/// What the rule on indexes of descriptors is.
-pub(crate) const FDS: &str = "Descriptor indexes: any, the default, or below-count";
-
-/// What the side of a handshake is.
-pub(crate) const HANDSHAKE: &str = "Whose handshake comes first: client or server";
-
 /// What `handshake` does.
 pub(crate) const HANDSHAKES: &str = "Lists the lines before the messages, and what each says";
 
@@ -423,5 +327,104 @@ Exit status:
 Example:
   dbus-wire handshake --side client < sent";
 
-/// What the side of `handshake` is.
+// The flags, in the order of the synopsis. A comment is what shells say of a flag, and then the unit
+// of its value, and the words that this can be: `bench/options.py` reads it.
+
+/// The byte order to write: order = l\:little-endian B\:big-endian
+pub(crate) const ORDER: &str = "The byte order: l is little-endian, B is big-endian";
+
+/// The side whose lines they are: side = client server
 pub(crate) const SIDE: &str = "Whose lines they are: client or server";
+
+/// Write the time of each message before it
+pub(crate) const TIME: &str = "Writes the time of each message before it";
+
+/// Escape hidden characters
+pub(crate) const ESCAPE: &str = "Writes hidden characters as \\u{202e}";
+
+/// Leave out the times
+pub(crate) const NO_TIME: &str = "Leaves out the times";
+
+/// Write integers beyond 2^53 - 1 as strings
+pub(crate) const SAFE_INTEGERS: &str = "Writes integers beyond 2^53 - 1 as strings";
+
+/// Take integers beyond 2^53 - 1 only as strings
+pub(crate) const SAFE_LINES: &str = "Takes integers beyond 2^53 - 1 only as strings";
+
+/// Cells of a line: cells (0 to 65535)
+pub(crate) const WIDTH: &str = "Cells of a line: 80, the default; 0 for no bound; to 65535";
+
+/// Sum the calls up by their members
+pub(crate) const MEMBERS: &str = "Sums the calls up by their members";
+
+/// List the calls without a reply
+pub(crate) const UNANSWERED: &str = "Lists the calls that want a reply and have none";
+
+/// List the calls that an error answered
+pub(crate) const ERRORS: &str = "Lists the calls that an error answered";
+
+/// List the calls replied to later: milliseconds
+pub(crate) const SLOWER: &str = "Lists the calls replied to later: 0 to 4294967295 ms";
+
+/// Write the messages that match no rule
+pub(crate) const INVERT: &str = "Writes the messages that match none of the rules";
+
+/// The owner of a well-known name: NAME=UNIQUE
+pub(crate) const OWNER: &str = "The owner of a name, as org.a.B=:1.7; any number";
+
+/// Learn owners from the input
+pub(crate) const LEARN_OWNERS: &str = "Learns owners from the input, from then on";
+
+/// Write raw messages, also of a file
+pub(crate) const RAW: &str = "Writes raw messages, also of a pcap or pcapng file";
+
+/// Tell what is refused as JSON
+pub(crate) const REFUSALS_JSON: &str = "Tells what is refused as JSON";
+
+/// Tell what is refused as JSON
+pub(crate) const LINES_JSON: &str = "Writes each line as JSON";
+
+/// Explain what is refused
+pub(crate) const EXPLAIN: &str = "Explains what is refused, in more lines";
+
+/// Go on after a refused message
+pub(crate) const KEEP_GOING: &str = "Goes on after a refused message";
+
+/// Go on after a refused line
+pub(crate) const KEEP_GOING_LINES: &str = "Goes on after a refused line";
+
+/// The same, and look for where messages begin again
+pub(crate) const RESYNC: &str = "Keeps going where messages begin again, in 1 MiB";
+
+/// The same within so many bytes: bytes (0 to 1073741824)
+pub(crate) const RESYNC_WINDOW: &str = "The same in N bytes: 0 to 1073741824";
+
+/// Most bytes of a line: bytes (0 to 1073741824)
+pub(crate) const MAX_LINE: &str = "Most bytes of a line: 0 to 1073741824, the default";
+
+/// Messages to skip first: messages
+pub(crate) const SKIP: &str = "Messages to skip first: 0, the default, to 4294967295";
+
+/// Most messages to write: messages
+pub(crate) const LIMIT: &str = "Most messages to write after these: 0 to 4294967295";
+
+/// Read and check the rest after these
+pub(crate) const CHECK_REST: &str = "Reads and checks the rest of the input after these";
+
+/// Match rules
+pub(crate) const RULE: &str = "Match rules, as type='signal',path='/a'; '' matches each message";
+
+/// The side whose handshake comes before the messages: side = client server
+pub(crate) const HANDSHAKE: &str = "Whose handshake comes first: client or server";
+
+/// Most bytes of a message: bytes (0 to 134217728)
+pub(crate) const MAX_MESSAGE: &str = "Most bytes of a message: 0 to 134217728, the default";
+
+/// Most bytes of the contents of an array: bytes (0 to 67108864)
+pub(crate) const MAX_ARRAY: &str = "Most bytes of an array: 0 to 67108864, the default";
+
+/// Most containers open at once: containers (0 to 64)
+pub(crate) const MAX_DEPTH: &str = "Most containers open at once: 0 to 64, the default";
+
+/// Which indexes of file descriptors a body may have: rule = any below-count
+pub(crate) const FDS: &str = "Descriptor indexes: any, the default, or below-count";
