@@ -192,14 +192,14 @@ pub record Asks {R : Type 0} (left : R → Option (List ℕ)) (calls : R → ℕ
   pub needed : AreNeeded (scan_of old) (kept_of old) pieces
   pub found : All HasByte pieces ⊎ IfOk result (λ n. (n ≡ 0) × Ends left old new)
 
--- after a fault nothing is read and nothing changes
+-- after a fault, or if there is no room, nothing is read and nothing changes
 pub record IsStill {R : Type 0} (old new : Capture R) (result : Result ℕ DeviceFault) : Type 0 where
   pub gives : result ≡ Ok 0
   pub source : source_of new ≡ source_of old
   pub scan : scan_of new ≡ scan_of old
 
-abbrev pub Stops : {R : Type 0} → Capture R → Capture R → Result ℕ DeviceFault → Type 0
-Stops old new result = is_some (scan_of old).fault ≡ true → IsStill old new result
+abbrev pub Stops : {R : Type 0} → Capture R → Capture R → Result ℕ DeviceFault → (room : ℕ) → Type 0
+Stops old new result room = (is_some (scan_of old).fault ≡ true) ⊎ (room ≡ 0) → IsStill old new result
 
 -- a read of an input of which it is known what it is, after what that took
 pub record ReadsOn {R : Type 0} (left : R → Option (List ℕ)) (calls failures : R → ℕ) (old new : Capture R) (result : Result ℕ DeviceFault) (buffer : List ℕ) : Type 0 where

@@ -220,7 +220,7 @@ impl<R: Source> Capture<R> {
         ensures bound { IfOk result (λ n. n ≤ length buffer.new) }
         ensures part { ReadsPart R.left R.failures self.old self.new result buffer.new }
         ensures asks { Asks R.left R.calls self.old self.new result }
-        ensures stops { Stops self.old self.new result }
+        ensures stops { Stops self.old self.new result (length buffer.new) }
         ensures called { calls_of self.new ≡ calls_of self.old }
         ensures packet { last_packet_of self.new ≡ last_packet_of self.old }
         ensures chosen { chosen_of self.new ≡ true }
@@ -252,7 +252,7 @@ impl<R: Source> Capture<R> {
     fn read_input(&mut self, buffer: &mut [u8]) -> Result<usize, DeviceFault>
         ensures bound { IfOk result (λ n. n ≤ length buffer.new) }
         ensures input { ReadsInput R.left R.calls R.failures self.old self.new result buffer.new }
-        ensures stops { Stops self.old self.new result }
+        ensures stops { Stops self.old self.new result (length buffer.new) }
         ensures called { calls_of self.new ≡ calls_of self.old }
         ensures packet { last_packet_of self.new ≡ last_packet_of self.old }
     {
@@ -320,7 +320,7 @@ impl<R: Source> Source for Capture<R> {
             result }
         // What the file has to do with it, and which packet the bytes are of.
         ensures input { ReadsInput R.left R.calls R.failures self.old self.new result buffer.new }
-        ensures stops { Stops self.old self.new result }
+        ensures stops { Stops self.old self.new result (length buffer.new) }
         ensures packet { last_packet_of self.new ≡
             last_packet result (scan_of self.new).packet (last_packet_of self.old) }
     {
