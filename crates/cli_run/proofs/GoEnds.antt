@@ -306,7 +306,7 @@ module _ {R A S : Type 0} {takes : S → S → List Placed → (told : List ℕ)
       CameTo rest (Err read.Device) = IsPast rest ⊎ IsSeeking
       CameTo rest (Err read.TooManyReads) = (IsPast rest ⊎ IsSeeking) × (reads_of new ≡ most_reads_of new)
       CameTo rest (Err read.Memory) = IsSeeking
-      CameTo rest res = ⊥
+      CameTo rest (Err (read.Format f)) = IsSeeking
 
       abbrev HasReadTo : List ℕ → Type 0
       HasReadTo rest = HasRead gathering run.left run.calls run.settings.limits (kept mid) mid.reader new.reader [] rest
@@ -435,7 +435,7 @@ module _ {R A S : Type 0} {takes : S → S → List Placed → (told : List ℕ)
         -- or not, since it could not be read so far
         came_failed : (more : List ℕ) (broken : ReadFault) → Resyncs (kept mid ++ more) mid new window (Err broken) → CameTo (kept mid ++ more) (Err broken)
         came_failed more read.Memory g = (window, way_seeks.0, way_seeks.1)
-        came_failed more (read.Format f) g = absurd g
+        came_failed more (read.Format f) g = (window, way_seeks.0, way_seeks.1)
         came_failed more read.Device g = inr (window, way_seeks.0, way_seeks.1)
         came_failed more read.TooManyReads g = (inr (window, way_seeks.0, way_seeks.1), g.1)
 
@@ -827,7 +827,10 @@ module _ {R A S : Type 0} {takes : S → S → List Placed → (told : List ℕ)
               let o = some_onward new known (Err read.Memory) (λ e. cc) passing input in
               torn Memory (Err read.Memory) o (inr (inr (sought goes (Err read.Memory) o o.came_to))) (counts ∙ h.gone.failed)
               (laws.rests run.s0 s2 items (h.gone.told ++ text) came_told rests).0
-          breaks goes (read.Format f) passing input counts = absurd (some_onward new known (Err (read.Format f)) (λ e. cc) passing input).came_to
+          breaks goes (read.Format f) passing input counts =
+              let o = some_onward new known (Err (read.Format f)) (λ e. cc) passing input in
+              torn Memory (Err (read.Format f)) o (inr (inr (sought goes (Err (read.Format f)) o o.came_to))) (counts ∙ h.gone.failed)
+              (laws.rests run.s0 s2 items (h.gone.told ++ text) came_told rests).0
 
         pub goes_on : (past : Tally) (end : ℕ) → end ≡ done_of new → past ≡ record { count = tally.count + 1; size = end; passed = tally.passed + 1; passed_size = tally.passed_size + (end - tally.size); is_cut = tally.is_cut }
             → run.settings.keeps_going ≡ true → PassedBy new (Ok Over) → IsInput new (Ok Over) → run.failures (source_of new) ≡ run.failures (source_of mid) → HasGone run takes full new past s2

@@ -1,5 +1,5 @@
 -- Parts of an input that follow one another, what is told of them, and the messages among them.
-use Rattle.std.proofs.Common.{is_some, ◌≡◌, ◌⊎◌, ℕ, zero, suc, ◌+◌, ◌-◌, ◌<◌, ◌≤◌, Bool, true, false, List, [], ◌∷◌, ◌++◌, Option, None, Some, length, take, drop, refl, sym, ap, ◌∙◌, subst, arith, inl, inr, ◌||◌, append_assoc, append-nil, length-append, take-append-drop}
+use Rattle.std.proofs.Common.{is_some, ◌≡◌, ◌⊎◌, ℕ, zero, suc, ◌+◌, ◌*◌, ◌-◌, ◌<◌, ◌≤◌, Bool, true, false, List, [], ◌∷◌, ◌++◌, Option, None, Some, length, take, drop, refl, sym, ap, ◌∙◌, subst, arith, inl, inr, ◌||◌, append_assoc, append-nil, length-append, take-append-drop}
 use Rattle.std.proofs.Math.Path.{transport}
 use Rattle.std.proofs.Math.Nat.{le-max_left, le-max_right}
 use Rattle.std.proofs.lemmas.Bool.{cases_lt, false≢true}
@@ -15,15 +15,18 @@ use Rattle.dbus_resync.specs.declared.found.Found.TheVariants.{At, Spent}
 use Rattle.dbus_resync.specs.declared.found.Searched.{Searched}
 use Rattle.dbus_resync.proofs.DamagedLaws.{begins_inside}
 use Rattle.dbus_stream.specs.Cut.{BeginWith, CutMessage, CutOutcome, Ended, Unfinished, Refused}
-use Rattle.dbus_stream.specs.GoingOn.{LeadsOn, Resumes, ahead_of}
+use Rattle.dbus_stream.specs.GoingOn.{LeadsOn, Resumes, ahead_of, counted, effort_of}
 use Rattle.dbus_stream.specs.Next.{IsCutShort}
 use Rattle.dbus_stream.specs.CutEnds.{sizes}
 use Rattle.dbus_stream.proofs.FaultPackets.{refused_later}
 use Rattle.dbus_stream.proofs.SeekSteps.{led_inside}
 use Rattle.dbus_stream.proofs.SizeSteps.{one_size, size_front, size_some}
+use Rattle.cli_options.specs.declared.resync.Resync.{Resync}
+use Rattle.cli_options.specs.declared.resync.Resync.TheVariants.{Within}
 use Rattle.cli_options.specs.declared.settings.Settings.{Settings}
-use Rattle.cli_run.specs.Inputs.{ArePlaced, IsPlaced, IsPacketBefore, IsTimeBefore, Part, Whole, PassedOver, Placed, size_of, sizes_of, time_of, wholes, By, Stated, InPacket, Resumed, PastWindow, BeginNowhere, IsLarger, HasSize, IsFaultOf, IsLast, IsPart, BeginWithParts, ResumeIn, is_to_end, looked_after, looked_behind, reach_end}
+use Rattle.cli_run.specs.Inputs.{ArePlaced, IsPlaced, IsPacketBefore, IsTimeBefore, Part, Whole, PassedOver, Placed, size_of, sizes_of, time_of, wholes, By, Stated, InPacket, Resumed, PastWindow, BeginNowhere, IsLarger, HasSize, IsFaultOf, IsLast, IsPart, IsPassedBy, BeginWithParts, ResumeIn, SoughtIn, is_to_end, looked_after, looked_behind, looked_for, looked_in, reach_end, seek_of}
 use Rattle.cli_report.specs.Gathering.{IsPrefixTo}
+use Rattle.cli_run.specs.Laws.{LooksAtFew}
 use Rattle.cli_run.specs.Output.{check_line, fault_line}
 use Rattle.cli_run.specs.Going.{AreTold, closing_line, passed_count, passed_sizes}
 use Rattle.cli_run.specs.declared.place.MessagePlace.{MessagePlace}
@@ -310,6 +313,38 @@ looked-both (part ∷ parts) more offset looked =
 pub looked-wholes : (items : List CutMessage) (offset looked : ℕ) → looked_behind (wholes items) offset looked ≡ looked
 looked-wholes [] offset looked = refl
 looked-wholes (item ∷ items) offset looked = looked-wholes items (offset + item.size) looked
+
+few_counted : (window done looked more : ℕ) → looked ≤ 16 * (done + window) → counted window done looked more ≤ 16 * (done + window)
+few_counted window done looked more few = omega (arith, few)
+
+module _ (packets : Option Packets) (settings : Settings) (window : ℕ) (is : settings.resync ≡ Within window) where
+  few_sought : (effort_there other effort offset looked more : ℕ) → seek_of settings.resync offset effort_there ≡ SoughtIn other effort → looked ≤ 16 * (offset + window) → counted other offset looked more ≤ 16 * (offset + window)
+  few_sought there other effort offset looked more sought few =
+      let both : SoughtIn window (effort_of window offset there) ≡ SoughtIn other effort = sym (ap (λ (r : Resync). seek_of r offset there) is) ∙ sought in
+      let same : window ≡ other = cc in
+      subst (λ (w : ℕ). counted w offset looked more ≤ 16 * (offset + window)) same (few_counted window offset looked more few)
+
+  few_for : (by : By) (fault : Fault) (offset looked size : ℕ) (kept : List ℕ) → IsPassedBy packets (seek_of settings.resync offset (looked + fault.at)) settings.limits offset kept by size → looked ≤ 16 * (offset + window)
+      → looked_for by fault.at offset looked ≤ 16 * (offset + window)
+  few_for Stated fault offset looked size kept passed few = few
+  few_for (InPacket number) fault offset looked size kept passed few = few
+  few_for (Resumed other effort more to_end) fault offset looked size kept passed few = few_sought (looked + fault.at) other effort offset looked (fault.at + more) passed.0 few
+  few_for (PastWindow other effort more) fault offset looked size kept passed few = few_sought (looked + fault.at) other effort offset looked (fault.at + more) passed.0 few
+
+  few_behind : (parts : List Part) (n offset looked : ℕ) (told : List ℕ) → AreTold packets settings n offset looked parts told → looked ≤ 16 * (offset + window) → looked_behind parts offset looked ≤ 16 * (offset + sizes_of parts + window)
+  few_behind [] n offset looked told t few = omega (arith, few)
+  few_behind (Whole item ∷ parts) n offset looked told t few =
+      let rest = few_behind parts (n + 1) (offset + item.size) looked t.1 t.4 (omega (arith, few)) in
+      omega (arith, rest)
+  few_behind (PassedOver kept fault by size ∷ parts) n offset looked told t few =
+      let now = few_for by fault offset looked size kept t.3.1 few in
+      let rest = few_behind parts (n + 1) (offset + size) (looked_for by fault.at offset looked) t.1 t.4 (omega (arith, now)) in
+      omega (arith, rest)
+
+pub looks_at_few : LooksAtFew
+looks_at_few packets settings window parts told is t =
+    let few : looked_in parts ≤ 16 * (0 + sizes_of parts + window) = few_behind packets settings window is parts 1 0 0 told t (omega arith) in
+    omega (arith, few)
 
 -- `check` writes the line of the fault, or else the last line
 pub line_is : (t : Tally) (fault : Option Fault) (packet : Option ℕ) → fault_line t.size fault packet ++ closing_line false true false t 0 fault ≡ check_line t.count t.size fault packet

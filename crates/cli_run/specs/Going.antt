@@ -144,11 +144,12 @@ abbrev pub status_at : (passed : ℕ) → Option Fault → ExitStatus
 status_at zero fault = status_of fault
 status_at (suc n) fault = status.Refused
 
--- why a run is given up by which a refused message is not passed over
+-- why a run is given up by which a refused message is not passed over: the reader answers its fault
+-- if it would have to hold bytes of packets
 abbrev pub cause_of : ReadFault → Cause
-cause_of read.Memory = Memory
+cause_of read.Device = ReadFailed
 cause_of read.TooManyReads = TooManyReads
-cause_of fault = ReadFailed
+cause_of fault = Memory
 
 -- the source shows why it stopped
 abbrev pub IsStopOf : Taken → (most : ℕ) → RunStop → Type 0

@@ -1,7 +1,7 @@
 -- The laws over what a command writes: of all messages and the fault after them there is an output,
 -- and of each command but `json` exactly one. And what a command does by its settings is what it
 -- does under limits alone, if they ask for no more.
-use Rattle.std.specs.Prelude.{◌≡◌, ℕ, Bool, true, false, List, [], ◌∷◌, ◌++◌, Option, ◌≢◌, ◌⊎◌, Some}
+use Rattle.std.specs.Prelude.{◌≡◌, ◌+◌, ◌*◌, ◌≤◌, ℕ, Bool, true, false, List, [], ◌∷◌, ◌++◌, Option, ◌≢◌, ◌⊎◌, Some}
 use Rattle.std.specs.List.{AllByRecursion}
 use Rattle.dbus_value_model.specs.declared.fault.Fault.{Fault}
 use Rattle.dbus_stream.specs.Cut.{CutMessage}
@@ -13,6 +13,7 @@ use Rattle.cli_options.specs.declared.window.Window.{Window}
 use Rattle.dbus_capture.specs.Reading.{IsRead}
 use Rattle.dbus_message_model.specs.Messages.{IsValidMessage}
 use Rattle.dbus_names.specs.NameStates.{NameState}
+use Rattle.cli_options.specs.declared.resync.Resync.TheVariants.{Within}
 use Rattle.cli_options.specs.declared.settings.Settings.{Settings}
 use Rattle.cli_report.specs.Devices.{reading, writing, Reading, Writing}
 use Rattle.cli_report.specs.declared.ending.ExitStatus.{ExitStatus}
@@ -27,14 +28,14 @@ use Rattle.dbus_count.specs.declared.span.Span.{Span}
 use Rattle.cli_options.specs.Selections.{AreSameCommand}
 use Rattle.cli_report.specs.declared.ending.ExitStatus.TheVariants as status
 use Rattle.cli_run.specs.Running.{Runs, RunsWith, Writes}
-use Rattle.cli_run.specs.Going.{ShowsNone}
+use Rattle.cli_run.specs.Going.{AreTold, ShowsNone}
 use Rattle.cli_run.specs.Output.{AreAlike, IsExact, IsFirstOutput, IsFront, IsOutputOfAll, form_of, output_of}
 use Rattle.dbus_call_lines.specs.Listing.{AreNames}
 use Rattle.dbus_call_lines.specs.declared.wanted.Wanted.{Wanted}
 use Rattle.cli_run.specs.ByName.{CountsByName}
 use Rattle.cli_run.specs.CallListing.{ListsCalls, all_named}
 use Rattle.cli_run.specs.CallSumming.{SumsCalls}
-use Rattle.cli_run.specs.Inputs.{Placed}
+use Rattle.cli_run.specs.Inputs.{Part, Placed, looked_in, sizes_of}
 use Rattle.cli_run.specs.Shown.{AllShown, AreShownAlike, shown_after, shown_by}
 use Rattle.cli_run.specs.LineListing.{AreLinesOf, ListsLines, WritesLines}
 use Rattle.cli_run.specs.LineNames.{first_names}
@@ -202,3 +203,8 @@ OneSums R S W V E F = (r : Reading R) (s : Reading S) (w : Writing W) (v : Writi
 -- The names by which `calls` knows connections are bus names.
 abbrev pub TellsBusNames : Type 0
 TellsBusNames = (items : List Placed) → AllByRecursion (λ x. AreNames x.names) (all_named items)
+
+-- To go on behind messages that are refused, a run with a window looks at no more bytes than 16 for
+-- each of the parts of its input and for each of the window.
+abbrev pub LooksAtFew : Type 0
+LooksAtFew = (packets : Option Packets) (settings : Settings) (window : ℕ) (parts : List Part) (told : List ℕ) → settings.resync ≡ Within window → AreTold packets settings 1 0 0 parts told → looked_in parts ≤ 16 * (sizes_of parts + window)

@@ -263,7 +263,7 @@ fn cause_of(fault: ReadFault) -> Cause
 {
     match fault {
         ReadFault::Memory => Cause::Memory,
-        ReadFault::Format(_) => Cause::ReadFailed,
+        ReadFault::Format(_) => Cause::Memory,
         ReadFault::Device => Cause::ReadFailed,
         ReadFault::TooManyReads => Cause::TooManyReads,
     }

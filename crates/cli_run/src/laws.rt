@@ -2,7 +2,7 @@
 //! and it does nothing when it runs.
 #![tactic(auto)]
 
-ghost use Rattle.cli_run.specs.Laws.{OneCalls, OneCount, OneListing, OneRun, OneSums, OneWithin, OneFront, OneOutput, PlainRuns, SomeLines, SomeOutput, TellsBusNames, WritesFile};
+ghost use Rattle.cli_run.specs.Laws.{LooksAtFew, OneCalls, OneCount, OneListing, OneRun, OneSums, OneWithin, OneFront, OneOutput, PlainRuns, SomeLines, SomeOutput, TellsBusNames, WritesFile};
 
 use dbus_count::laws::one_table;
 use dbus_stream::{Sink, Source};
@@ -88,4 +88,10 @@ pub fn one_sums<R, S, W, V, E, F>()
 /// terminal obeys nothing in its lines (`dbus_call_lines::laws::only_printed`).
 pub fn names_are_bus_names()
     ensures { TellsBusNames }
+{}
+
+/// To go on behind messages that are refused, a run with a window looks at no more bytes than 16 for
+/// each of the parts of its input and for each of the window. That is linear in both.
+pub fn looks_at_few()
+    ensures { LooksAtFew }
 {}

@@ -14,7 +14,7 @@ use Rattle.dbus_resync.specs.declared.found.Searched.{Searched}
 use Rattle.dbus_resync.proofs.OneFound.{one_found}
 use Rattle.dbus_resync.proofs.Steps.{looks_once}
 use Rattle.dbus_stream.specs.Gathering.{GathererState, gathering, fresh, under_way}
-use Rattle.dbus_stream.specs.GoingOn.{ahead_of, GoesBy, GoesTo, IsFoundIn, Looks, LooksAhead, LooksBehind, OneResumed, ResumesBehind, Seeks, StaysThere}
+use Rattle.dbus_stream.specs.GoingOn.{ahead_of, AsksForMemory, GoesBy, GoesTo, IsFoundIn, IsReadFar, Looks, LooksAhead, LooksBehind, OneResumed, ResumesBehind, Seeks, StaysThere}
 use Rattle.dbus_stream.specs.LookingAhead.{HasAhead, IsFar, ReadsTo, StandsBefore}
 use Rattle.dbus_stream.specs.Next.{ReadsNothing, ReadsWhile}
 use Rattle.dbus_stream.specs.Packets.{KeepsPackets}
@@ -187,7 +187,7 @@ module _ {R A : Type 0} where
     stays_ahead window l = stays_put l.part l.taker l.done l.stopped
 
     -- an error leaves all there
-    pub fails_ahead : (by_size : Bool) (window : ℕ) (fault : ReadFault) → Looks w old new window (Err fault) → GoesBy w old new by_size window (Err fault)
+    pub fails_ahead : (by_size : Bool) (window : ℕ) (fault : ReadFault) → Looks w old new (ahead_of window) (Err fault) → GoesBy w old new by_size window (Err fault)
     fails_ahead by_size window Memory l = l
     fails_ahead by_size window (Format fault) l = absurd l
     fails_ahead by_size window Device l = l
@@ -195,8 +195,8 @@ module _ {R A : Type 0} where
 
   -- nothing more is read
   pub looks_there : (window : ℕ) (old new : RawReader R A) → old.reader.held ≡ 0 → (window ≤ length (part_of old.reader)) ⊎ (raw.is_ended old ≡ true) → part_of new.reader ≡ part_of old.reader → new.reader.taker ≡ fresh (raw.limits_of old)
-      → raw.done_of new ≡ raw.done_of old → raw.stopped_of new ≡ raw.stopped_of old → raw.is_ended new ≡ raw.is_ended old → new.refused.dropped ≡ 0 → LooksAhead (raw.kept old ++ []) old new window
-  looks_there window old new zero enough part taker done stopped ended nothing =
+      → raw.done_of new ≡ raw.done_of old → raw.stopped_of new ≡ raw.stopped_of old → raw.is_ended new ≡ raw.is_ended old → raw.reads_of new ≡ raw.reads_of old → new.refused.dropped ≡ 0 → LooksAhead (raw.kept old ++ []) old new window
+  looks_there window old new zero enough part taker done stopped ended reads nothing =
       let held = under_way old.reader.taker.whole old.reader.taker.held in
       let none : held ≡ [] = nil_from_length held (sym old.held_counted ∙ zero) in
       let all : raw.kept old ++ [] ≡ part_of old.reader = append-nil (raw.kept old) ∙ ap (λ (l : List ℕ). l ++ part_of old.reader) none in
@@ -210,10 +210,18 @@ module _ {R A : Type 0} where
           | inl wide ↦ inl (subst (λ (l : List ℕ). window ≤ length l) (sym all) wide)
           | inr end ↦ inr (ended ∙ end)
         ];
+        far = inl reads;
       }
 
+  -- what is kept was not put into one place
+  pub asks_first : (many : ℕ) (old : RawReader R A) → (length (part_of old.reader) < length (raw.kept old)) ⊎ ((length (raw.kept old) < many) × (raw.is_ended old ≡ false)) → AsksForMemory (raw.kept old ++ []) old old many
+  asks_first many old (inl apart) = inl (apart, append-nil (raw.kept old))
+  asks_first many old (inr more) =
+      let all = ap length (append-nil (raw.kept old)) in
+      inr (more.0, omega (arith, all, more.0), more.1)
+
   -- more was read, or not
-  module _ (left : R → Option (List ℕ)) (calls : R → ℕ) (window far : ℕ) (old new : RawReader R A) (front bytes : List ℕ) (is : front ≡ raw.kept old) (wide : length front < window → window ≤ far) (mid last : Reader R GathererState Large A ghosts)
+  module _ (left : R → Option (List ℕ)) (calls : R → ℕ) (window far : ℕ) (old new : RawReader R A) (front bytes : List ℕ) (is : front ≡ raw.kept old) (twice : length front < window → far ≡ 2 * window) (none : window ≤ length front → far ≡ 0) (mid last : Reader R GathererState Large A ghosts)
       (taker : mid.taker ≡ fresh (raw.limits_of old)) (mid_done : done_of mid ≡ done_of old.reader + old.reader.held + length (part_of old.reader)) (mid_stopped : stopped_of mid ≡ stopped_of old.reader)
       (h : HasAhead gathering left calls far front bytes mid last) where
     -- no more bytes are put back than counted as done
@@ -225,7 +233,7 @@ module _ {R A : Type 0} where
         let kept = length-append held (part_of old.reader) in
         omega (arith, all, both, kept, old.held_counted, mid_done, h.done)
 
-    module _ (s : StandsBefore bytes last new.reader) (nothing : new.refused.dropped ≡ 0) (w : List ℕ) (w_is : bytes ≡ w) where
+    module _ (s : StandsBefore bytes last new.reader) (nothing : new.refused.dropped ≡ 0) (r : ReadsUpTo left calls window old new.reader) (w : List ℕ) (w_is : bytes ≡ w) where
       ahead_done : raw.done_of new ≡ raw.done_of old
       ahead_done =
           let held = under_way old.reader.taker.whole old.reader.taker.held in
@@ -247,8 +255,36 @@ module _ {R A : Type 0} where
           let all = ap length h.bytes_are in
           let both = length-append front h.reads.bytes in
           elim (cases_lt (length front) window) [
-            | inl less ↦ (let more = wide less in omega (arith, more, there, size))
+            | inl less ↦ (let more = twice less in omega (arith, more, there, size))
             | inr more ↦ omega (arith, more, all, both, size)
+          ]
+
+      -- nothing was read, if so many were there
+      ahead_unread : window ≤ length front → raw.reads_of new ≡ raw.reads_of old
+      ahead_unread there =
+          let size = ap length is in
+          elim (cases_lt 0 r.count) [
+            | inl some ↦ absurd (let less = (r.needed some).0 in omega (arith, less, there, size))
+            | inr zero ↦ (let reads = r.reads in omega (arith, reads, zero))
+          ]
+
+      ahead_far : IsFar far bytes last (Ok tt) → IsReadFar w old new window
+      ahead_far far_enough = elim (cases_lt (length front) window) [
+        | inl less ↦ inr (elim far_enough [
+          | inl there ↦ inl (let size = ap length w_is in let wide = twice less in omega (arith, size, wide, there))
+          | inr end ↦ inr (s.ended ∙ end)
+        ])
+        | inr there ↦ inl (ahead_unread there)
+      ]
+
+      -- it was to be more
+      ahead_asks : length bytes < far → is_ended last ≡ false → AsksForMemory w old new window
+      ahead_asks short open_ =
+          let size = ap length w_is in
+          let front_size = ap length is in
+          elim (cases_lt (length front) window) [
+            | inl less ↦ inr (omega (arith, less, front_size), (let wide = twice less in omega (arith, size, wide, short)), s.ended ∙ open_)
+            | inr there ↦ absurd (let zero = none there in omega (arith, zero, short))
           ]
 
       pub ahead_looks : (res : Result (Unit {0}) ReadFault) → IsFar far bytes last res → Looks w old new window res
@@ -259,8 +295,9 @@ module _ {R A : Type 0} where
         stopped = s.stopped ∙ (h.stopped ∙ mid_stopped);
         nothing = nothing;
         enough = elim far_enough [ inl there ↦ inl (ahead_wide there) | inr end ↦ inr (s.ended ∙ end) ];
+        far = ahead_far far_enough;
       }
-      ahead_looks (Err Memory) far_enough = ahead_stays
+      ahead_looks (Err Memory) short = (ahead_stays, ahead_asks short.0 short.1)
       ahead_looks (Err (Format fault)) far_enough = absurd far_enough
       ahead_looks (Err Device) far_enough = ahead_stays
       ahead_looks (Err TooManyReads) far_enough = (ahead_stays, s.reads ∙ (far_enough.0 ∙ sym s.most_reads), s.ended ∙ far_enough.1)

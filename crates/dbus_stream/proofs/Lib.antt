@@ -5,6 +5,7 @@ pub mod NextSteps
 pub mod PacketSteps
 pub mod AheadSteps
 pub mod SeekSteps
+pub mod PartSteps
 pub mod PacketPassing
 pub mod FaultPackets
 pub mod GathererSteps

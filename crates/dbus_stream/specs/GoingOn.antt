@@ -4,9 +4,11 @@
 use Rattle.std.specs.Prelude.{◌≡◌, ◌⊎◌, ℕ, ◌+◌, ◌-◌, ◌*◌, ◌<◌, ◌≤◌, max, min, List, [], ◌++◌, Bool, true, false, length, take, drop, Option, None, Some, Result, Ok, Err}
 use Rattle.dbus_value_model.specs.declared.fault.Fault.{Fault}
 use Rattle.dbus_value_model.specs.declared.limits.Limits.{Limits}
+use Rattle.dbus_header.specs.NoMessage.{BeginsWithNone}
+use Rattle.dbus_resync.specs.DamagedInputs.{IsLost, IsRest}
 use Rattle.dbus_resync.specs.Search.{BeginsAt, Looks as LooksAt, Searches}
 use Rattle.dbus_resync.specs.declared.found.Found.{Found}
-use Rattle.dbus_resync.specs.declared.found.Found.TheVariants.{At, Spent}
+use Rattle.dbus_resync.specs.declared.found.Found.TheVariants.{At, Nowhere, Spent}
 use Rattle.dbus_resync.specs.declared.found.Searched.{Searched}
 use Rattle.dbus_stream.specs.Gathering.{fresh, gathering}
 use Rattle.dbus_stream.specs.Next as next
@@ -15,7 +17,7 @@ use Rattle.dbus_stream.specs.Reading.{part_of}
 use Rattle.dbus_stream.specs.StatedSizes.{StatesSize, WantsMore}
 use Rattle.dbus_stream.specs.declared.raw_reader.RawReader.{RawReader}
 use Rattle.dbus_stream.specs.declared.read_fault.ReadFault.{ReadFault}
-use Rattle.dbus_stream.specs.declared.read_fault.ReadFault.TheVariants.{Format, TooManyReads}
+use Rattle.dbus_stream.specs.declared.read_fault.ReadFault.TheVariants.{Memory, Format, Device, TooManyReads}
 
 -- it met a fault of bytes
 abbrev pub HasFault : Option ReadFault → Type 0
@@ -92,6 +94,17 @@ module _ {R A : Type 0} where
       next.ReadsWhile gathering (λ before. (length (raw.kept old) < ahead_of window) × (length (raw.kept old ++ before) < 2 * ahead_of window)) left calls old.reader new.reader
 
   module _ (w : List ℕ) (old new : RawReader R A) where
+    -- twice as many bytes are there, if anything was read, unless the input ended: so the last read
+    -- gave some
+    abbrev pub IsReadFar : (many : ℕ) → Type 0
+    IsReadFar many = (raw.reads_of new ≡ raw.reads_of old) ⊎ ((2 * many ≤ length w) ⊎ (raw.is_ended new ≡ true))
+
+    -- memory is asked for: to put what is kept into one place, before anything is read; or for more
+    -- bytes, of which fewer are there
+    abbrev pub AsksForMemory : (many : ℕ) → Type 0
+    AsksForMemory many = ((length (part_of old.reader) < length (raw.kept old)) × (w ≡ raw.kept old))
+        ⊎ ((length (raw.kept old) < many) × (length w < 2 * many) × (raw.is_ended new ≡ false))
+
     -- so many bytes are dropped, and the fault is gone
     pub record GoesTo (offset : ℕ) : Type 0 where
       pub inside : offset ≤ length w
@@ -111,14 +124,17 @@ module _ {R A : Type 0} where
     pub record FindsIn (by_size : Bool) (window : ℕ) (found : Found) : Type 0 where
       pub looked : ℕ
       pub is_found : IsFoundIn by_size (raw.limits_of old) window (effort_in window old) (raw.is_ended new) w (record { found = found; looked = looked })
+      pub far : IsReadFar (ahead_of window)
       pub counts : raw.looked_of new ≡ counted window (raw.done_of old) (raw.looked_of old) (checked (raw.stopped_of old) + looked)
 
     abbrev pub GoesBy : (by_size : Bool) → (window : ℕ) → Result Found ReadFault → Type 0
     GoesBy by_size window (Ok (At offset)) = FindsIn by_size window (At offset) × GoesTo offset
     GoesBy by_size window (Ok found) = FindsIn by_size window found × StaysThere
     GoesBy by_size window (Err TooManyReads) = StaysThere × (raw.reads_of new ≡ raw.most_reads_of new) × (raw.is_ended new ≡ false)
-    GoesBy by_size window (Err (Format fault)) = ⊥
-    GoesBy by_size window (Err fault) = StaysThere
+    GoesBy by_size window (Err Memory) = StaysThere × AsksForMemory (ahead_of window)
+    -- a read gave bytes of a packet, and it does not note of which packets the bytes are that it holds
+    GoesBy by_size window (Err (Format fault)) = StaysThere × (raw.stopped_of old ≡ Some (Format fault)) × (raw.packed_of new ≡ true)
+    GoesBy by_size window (Err Device) = StaysThere
 
     -- a call that goes on to the first message
     abbrev pub GoesOn : (window : ℕ) → Result Found ReadFault → Type 0
@@ -136,15 +152,33 @@ module _ {R A : Type 0} where
       pub stopped : raw.stopped_of new ≡ raw.stopped_of old
       pub nothing : new.refused.dropped ≡ 0
       pub enough : (many ≤ length w) ⊎ (raw.is_ended new ≡ true)
+      pub far : IsReadFar many
 
     abbrev pub Looks : (many : ℕ) → Result (Unit {0}) ReadFault → Type 0
     Looks many (Ok x) = LooksAhead many
     Looks many (Err TooManyReads) = StaysThere × (raw.reads_of new ≡ raw.most_reads_of new) × (raw.is_ended new ≡ false)
+    Looks many (Err Memory) = StaysThere × AsksForMemory many
     Looks many (Err (Format fault)) = ⊥
-    Looks many (Err fault) = StaysThere
+    Looks many (Err Device) = StaysThere
 
 -- ---- laws
 
 -- Bytes are found to go on in one place.
 abbrev pub OneResumed : Type 0
 OneResumed = (limits : Limits) (window effort : ℕ) (bytes : List ℕ) (s t : Searched) → Resumes limits window effort bytes s → Resumes limits window effort bytes t → s ≡ t
+
+-- What is found is a part of damaged bytes: the bytes before the first message are lost; or, if none
+-- begins in the window, they are the rest.
+abbrev pub IsPartOf : Limits → (window : ℕ) → List ℕ → Found → Type 0
+IsPartOf limits window w (At offset) = IsLost limits window w offset
+IsPartOf limits window w Nowhere = IsRest limits window w
+IsPartOf limits window w Spent = Unit {0}
+
+-- So is what a call goes on to, if what it kept and read begins with no message.
+abbrev pub GoesByParts : (R A : Type 0) → Type 0
+GoesByParts R A = (window : ℕ) (w : List ℕ) (old new : RawReader R A) (found : Found) → BeginsWithNone (raw.limits_of old) w → GoesOn w old new window (Ok found) → IsPartOf (raw.limits_of old) window w found
+
+-- And what it goes on to behind a message whose stated size leads nowhere.
+abbrev pub ResyncsByParts : (R A : Type 0) → Type 0
+ResyncsByParts R A = (window : ℕ) (w : List ℕ) (old new : RawReader R A) (found : Found) → BeginsWithNone (raw.limits_of old) w → LeadsNowhere (raw.limits_of old) window (take window w)
+    → Resyncs w old new window (Ok found) → IsPartOf (raw.limits_of old) window w found

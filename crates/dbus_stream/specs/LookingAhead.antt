@@ -7,7 +7,7 @@ use Rattle.dbus_stream.specs.Taking.{Taking}
 use Rattle.dbus_stream.specs.declared.buffer.Buffer.{Ghosts}
 use Rattle.dbus_stream.specs.declared.reader.Reader.{Reader}
 use Rattle.dbus_stream.specs.declared.read_fault.ReadFault.{ReadFault}
-use Rattle.dbus_stream.specs.declared.read_fault.ReadFault.TheVariants.{Format, TooManyReads}
+use Rattle.dbus_stream.specs.declared.read_fault.ReadFault.TheVariants.{Memory, Format, Device, TooManyReads}
 
 module _ {R T B A : Type 0} {b : Ghosts B} where
   -- all that was kept counts as done
@@ -52,5 +52,6 @@ module _ {R T B A : Type 0} {b : Ghosts B} where
   abbrev pub IsFar : (far : ℕ) → List ℕ → Reader R T B A b → Result (Unit {0}) ReadFault → Type 0
   IsFar far bytes new (Ok x) = (far ≤ length bytes) ⊎ (is_ended new ≡ true)
   IsFar far bytes new (Err TooManyReads) = (reads_of new ≡ most_reads_of new) × (is_ended new ≡ false)
+  IsFar far bytes new (Err Memory) = (length bytes < far) × (is_ended new ≡ false)
   IsFar far bytes new (Err (Format fault)) = ⊥
-  IsFar far bytes new (Err fault) = Unit {0}
+  IsFar far bytes new (Err Device) = Unit {0}

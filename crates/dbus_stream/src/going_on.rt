@@ -103,8 +103,9 @@ impl<R: Source, A: Allocator + Copy> RawReader<R, A> {
     /// after an error.
     ///
     /// `TooManyReads`: as many reads were made as it may make. `Device`: a read failed. `Memory`: an
-    /// allocation failed; or a read gave bytes of a packet, since it does not note of which packets
-    /// the bytes are that it holds.
+    /// allocation failed; none is made if all that is kept is in the buffer and nothing is read.
+    /// `Format`: the fault that it met, since a read gave bytes of a packet, and it does not note of
+    /// which packets the bytes are that it holds: [`RawReader::next_packet`] goes on there.
     ///
     /// ```rust
     /// use dbus_stream::{Found, FromRead, RawReader, ReadFault};
@@ -254,13 +255,16 @@ impl<R: Source, A: Allocator + Copy> RawReader<R, A> {
         ensures unlooked { IfErr result (λ _. looked_of self.new ≡ looked_of self.old) }
         ensures few { done_of self.new ≤ 2 ^ 50 }
     {
+        let Some(ReadFault::Format(met)) = self.reader.stopped else {
+            unreachable!()
+        };
         let width = window as usize;
-        match self.look_ahead(width) {
+        match self.look_ahead(window) {
             Ok(()) => {}
             Err(fault) => return Err(fault),
         }
         if self.reader.packed {
-            return Err(ReadFault::Memory);
+            return Err(ReadFault::Format(met));
         }
         let limits = self.reader.taker.limits();
         let done = self.reader.done;
@@ -283,7 +287,7 @@ impl<R: Source, A: Allocator + Copy> RawReader<R, A> {
 
     // All that was kept is in the buffer then; and what is read, if these are fewer bytes than the
     // window has, or than state a size. If it is not, all is kept.
-    fn look_ahead(&mut self, window: usize) -> Result<(), ReadFault>
+    fn look_ahead(&mut self, window: u32) -> Result<(), ReadFault>
         ensures looks { (r : ReadsToGoOn window R.left R.calls self.old self.new) ×
             Looks (kept self.old ++ r.bytes) self.old self.new (ahead_of window) result }
         ensures failed { DeviceCounts (R.failures (source_of self.old))
@@ -294,7 +298,7 @@ impl<R: Source, A: Allocator + Copy> RawReader<R, A> {
             KeepsPackets R.packets R.packet self.old self.new }
         ensures looked { looked_of self.new ≡ looked_of self.old }
     {
-        let many = window.max(16);
+        let many = (window as usize).max(16);
         if self.is_there(many) {
             self.refused = Refused::nothing();
             self.reader.taker.let_go();
@@ -315,8 +319,11 @@ impl<R: Source, A: Allocator + Copy> RawReader<R, A> {
 
     // Whether all that is kept is in the buffer, and so many bytes, unless the input ends before.
     fn is_there(&self, many: usize) -> bool
-        ensures { result ≡ true → (self.now.reader.held ≡ 0) ×
+        ensures there { result ≡ true → (self.now.reader.held ≡ 0) ×
             ((many ≤ length (part_of self.now.reader)) ⊎ (is_ended self.now ≡ true)) }
+        ensures asks { result ≡ false →
+            (length (part_of self.now.reader) < length (kept self.now)) ⊎
+            ((length (kept self.now) < many) × (is_ended self.now ≡ false)) }
     {
         self.reader.held == 0 && (self.reader.ended || many <= self.reader.part().len())
     }
@@ -402,13 +409,9 @@ fn is_truncated(fault: Fault) -> bool
 // How many bytes are to be there if so many are looked ahead at: twice as many; none, if they are
 // there.
 fn far_enough(many: usize, there: usize) -> usize
-    ensures wide { there < many → many ≤ result }
-    ensures no_wider { result ≤ 2 * many }
+    requires { many ≤ 2 ^ 32 }
+    ensures twice { there < many → result ≡ 2 * many }
     ensures enough { many ≤ there → result ≡ 0 }
 {
-    if there < many {
-        many.saturating_mul(2)
-    } else {
-        0
-    }
+    if there < many { 2 * many } else { 0 }
 }

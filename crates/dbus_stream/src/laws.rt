@@ -6,7 +6,7 @@ ghost use Rattle.dbus_header.specs.MessageOutcomes.{IsPartial, IsRefused};
 ghost use Rattle.dbus_value_model.specs.declared.fault.Fault.{Fault};
 ghost use Rattle.dbus_value_model.specs.declared.limits.Limits.{Limits};
 ghost use Rattle.dbus_stream.specs.CutEnds.{CutOfPrefix, EachCut, NoneTruncated, OneCut, StatedSuffice};
-ghost use Rattle.dbus_stream.specs.GoingOn.{OneResumed};
+ghost use Rattle.dbus_stream.specs.GoingOn.{GoesByParts, OneResumed, ResyncsByParts};
 ghost use Rattle.dbus_stream.specs.Headline.{Headline};
 ghost use Rattle.dbus_stream.specs.Packets.{ShowsIn};
 ghost use Rattle.dbus_stream.specs.RawReading.{HasPackets, IsNewReader, KeepsPackets, ReadsNothing, ShowsLast, done_of, kept, last_of, read_of, source_of};
@@ -74,6 +74,17 @@ pub fn none_truncated()
 /// effort.
 pub fn one_resumed()
     ensures { OneResumed }
+{}
+
+/// Behind a refused message, [`RawReader::go_on`] loses what [`dbus_resync::laws`] says of damaged
+/// bytes: those before the first whole message in the window; and if it returns `Nowhere`, none
+/// begins in it. So does [`RawReader::resync`], if the size that the message states leads nowhere.
+///
+/// [`RawReader::go_on`]: crate::RawReader::go_on
+/// [`RawReader::resync`]: crate::RawReader::resync
+pub fn parts_of_damage<R: Source, A: Allocator>()
+    ensures goes { GoesByParts R A }
+    ensures resyncs { ResyncsByParts R A }
 {}
 
 /// The packet of a message is known. A new reader begins with the packets that its source tells of

@@ -1,4 +1,4 @@
-use Rattle.std.proofs.Common.{◌≡◌, ℕ, ◌+◌, ◌++◌, length, take, refl, sym, ap, ◌∙◌, subst, arith}
+use Rattle.std.proofs.Common.{◌≡◌, ℕ, Some, ◌+◌, ◌++◌, inl, inr, length, take, refl, sym, ap, ◌∙◌, subst, arith}
 use Rattle.std.proofs.Math.Path.{transport}
 use Rattle.std.proofs.lemmas.List.{length-take}
 use Rattle.dbus_value_model.specs.declared.limits.Limits.{Limits}
@@ -7,16 +7,25 @@ use Rattle.dbus_resync.specs.declared.found.Found.TheVariants.{At, Nowhere, Spen
 use Rattle.dbus_stream.specs.Gathering.{GathererState, under_way}
 use Rattle.dbus_stream.specs.GoingOn.{ahead_of, checked, counted, effort_in, effort_of, IsFoundIn, Seeks}
 use Rattle.dbus_stream.specs.RawReading.{done_of, is_ended, kept, limits_of, looked_of, stopped_of}
-use Rattle.dbus_stream.proofs.AheadSteps.{found_in, goes_reads, goes_to, stays_ahead}
+use Rattle.dbus_stream.specs.declared.read_fault.ReadFault.TheVariants.{Format}
+use Rattle.dbus_stream.proofs.AheadSteps.{fails_ahead, found_in, goes_reads, goes_to, stays_ahead}
 use Rattle.dbus_stream.proofs.PacketSteps.{still}
 use Rattle.dbus_stream.proofs.PassSteps.{none_inside}
 use Rattle.dbus_stream.proofs.raw_reader.RawReader.seek.Goals as goal
 use Rattle.dbus_stream.proofs.raw_reader.RawReader.seek.Goals.{After-seek_in-searched}
 
+pub returns-in-Err-clause-goes : goal.returns-in-Err-clause-goes
+returns-in-Err-clause-goes g c =
+    let l = c.in-Err.ensures.looks in
+    let old = c.args.self.now in (l.0, fails_ahead (kept old ++ l.0.bytes) old c.look_ahead.new.self c.args.by_size c.args.window c.in-Err.fault l.1)
+
 pub returns-then-self-clause-goes : goal.returns-then-self-clause-goes
 returns-then-self-clause-goes g c =
     let l = c.in-Ok.ensures.looks in
-    let old = c.args.self.now in (l.0, stays_ahead (kept old ++ l.0.bytes) old c.look_ahead.new.self (ahead_of c.args.window) l.1)
+    let old = c.args.self.now in
+    let some : stopped_of old ≡ Some c.in-Some-Format.field-0 = c.in-Some-Format.is in
+    let met : stopped_of old ≡ Some (Format c.in-Some-Format.met) = some ∙ ap Some (rw c.in-Some-Format.is at c.in-Some-Format.field-0-is) in
+    (l.0, (stays_ahead (kept old ++ l.0.bytes) old c.look_ahead.new.self (ahead_of c.args.window) l.1, met, c.if-self.true))
 
 -- what is left of the effort
 effort_is : (g : _) (c : After-seek_in-searched g) → c.effort_of-effort.result ≡ effort_in c.args.window c.args.self.now
@@ -91,6 +100,7 @@ returns-in-At-clause-goes g c =
           looked = c.seek_in-searched.result.looked;
           is_found = subst (λ b. IsFoundIn c.args.by_size (limits_of old) c.args.window (effort_in c.args.window old) b w (record { found = At c.in-At.offset; looked = c.seek_in-searched.result.looked })) (sym u.ended)
               (finds g place.After-seek_in-searched (At c.in-At.offset) c.in-At.is);
+          far = elim l.1.far [ inl same ↦ inl (u.reads ∙ same) | inr more ↦ inr (elim more [ inl wide ↦ inl wide | inr end ↦ inr (u.ended ∙ end) ]) ];
           counts = counts g place.After-seek_in-searched c.counted-self.result c.counted-self.ensures.counts;
         },
         goes_to (ahead_of c.args.window) c.in-At.offset w old mid _ l.1 (omega (arith, inside, size, same)) d.buffers.left d.buffers.taker d.done refl,
@@ -109,8 +119,8 @@ returns-in-Nowhere-clause-goes g c =
     let place = goal.at.returns-in-Nowhere-clause-goes g c in (
       l.0,
       (
-        record { looked = c.seek_in-searched.result.looked; is_found = finds g place.After-seek_in-searched Nowhere c.in-Nowhere.is; counts = counts g place.After-seek_in-searched c.counted-self.result c.counted-self.ensures.counts },
-        stays_ahead (kept old ++ l.0.bytes) old _ (ahead_of c.args.window) (record { part = l.1.part; taker = l.1.taker; done = l.1.done; stopped = l.1.stopped; nothing = l.1.nothing; enough = l.1.enough }),
+        record { looked = c.seek_in-searched.result.looked; is_found = finds g place.After-seek_in-searched Nowhere c.in-Nowhere.is; far = l.1.far; counts = counts g place.After-seek_in-searched c.counted-self.result c.counted-self.ensures.counts },
+        stays_ahead (kept old ++ l.0.bytes) old _ (ahead_of c.args.window) (record { part = l.1.part; taker = l.1.taker; done = l.1.done; stopped = l.1.stopped; nothing = l.1.nothing; enough = l.1.enough; far = l.1.far }),
       ),
     )
 
@@ -121,7 +131,7 @@ returns-in-Spent-clause-goes g c =
     let place = goal.at.returns-in-Spent-clause-goes g c in (
       l.0,
       (
-        record { looked = c.seek_in-searched.result.looked; is_found = finds g place.After-seek_in-searched Spent c.in-Spent.is; counts = counts g place.After-seek_in-searched c.counted-self.result c.counted-self.ensures.counts },
-        stays_ahead (kept old ++ l.0.bytes) old _ (ahead_of c.args.window) (record { part = l.1.part; taker = l.1.taker; done = l.1.done; stopped = l.1.stopped; nothing = l.1.nothing; enough = l.1.enough }),
+        record { looked = c.seek_in-searched.result.looked; is_found = finds g place.After-seek_in-searched Spent c.in-Spent.is; far = l.1.far; counts = counts g place.After-seek_in-searched c.counted-self.result c.counted-self.ensures.counts },
+        stays_ahead (kept old ++ l.0.bytes) old _ (ahead_of c.args.window) (record { part = l.1.part; taker = l.1.taker; done = l.1.done; stopped = l.1.stopped; nothing = l.1.nothing; enough = l.1.enough; far = l.1.far }),
       ),
     )
