@@ -1,8 +1,7 @@
 #!/usr/bin/env python3
 """options.py [--check]: writes the synopsis of the manual page, and what shells complete after a command.
 
-It makes them of the texts of help, cases/data/*.help, which the program prints, and of the comments of flags. It says
-which commands and options the manual page, the completions or the cases do not name, or name and the help does not.
+It makes them of the texts of help, cases/data/*.help, which the program prints, and of the comments of the flags.
 """
 
 import collections
@@ -38,13 +37,14 @@ def options():
 
 
 def options_of(command):
-    """The options of a command, and its rules. A flag is known by its text of help."""
-    rows = re.findall(r'\n/// (.*)\npub\(crate\) const \w+: &str =\s+"(.*)";', text_of("cli_options/src/help.rt"))
-    flags = {text.replace("\\\\", "\\"): comment for comment, text in rows}
+    """The options of a command, and its rules. A variant is known by the text of help in its row."""
+    variants, _, rows = text_of("cli_options/src/flag.rt").partition("pub(crate) fn argument")
+    comments = {name: it for it, name in re.findall(r"    /// (.*)\n    (\w+),", variants)}
+    flags = {it[1].replace("\\\\", "\\"): it[0] for it in re.findall(r'Flag::(\w+) =>.*?\.help\(\s*"((?:[^"\\]|\\.)*)"', rows, re.S)}
     for name, value, text in HELP_LINE.findall((DATA / f"{command}.help").read_text()):
         if name != "--help":
-            shown, unit, words = re.fullmatch(r"(.*?)(?:: (.*?)(?: = (.*))?)?", flags[text]).groups("")
-            place, plain = [*flags].index(text), re.sub(r"\\:\S*", "", words)
+            shown, unit, words = re.fullmatch(r"(.*?)(?:: (.*?)(?: = (.*))?)?", comments[flags[text]]).groups("")
+            place, plain = [*comments].index(flags[text]), re.sub(r"\\:\S*", "", words)
             yield Option(place, name, value, shown, unit, words, plain, "any number" in text)
 
 
@@ -86,8 +86,8 @@ def made():
             values[it.plain or " "].update({it.name: None} if it.value else {})
     tables[BASH, VALUES] = "".join(f"        {' | '.join(its)}) values='{it}' ;;\n" for it, its in values.items())
     for it in sorted(seen):
-        value = f"-x -a '{it.plain}'" if it.plain else "-x" if it.value else "-f"
-        told = "-f -a '(__dbus_wire_rule)'" if it.name == "RULE" else f"-l {it.name[2:]} {value} -d '{it.shown}'"
+        how = f"-x -a '{it.plain}'" if it.plain else "-x" if it.value else "-f"
+        told = "-f -a '(__dbus_wire_rule)'" if it.name == "RULE" else f"-l {it.name[2:]} {how} -d '{it.shown}'"
         tables[FISH, SEEN] += f"complete -c {PROGRAM} -n '__fish_seen_subcommand_from {' '.join(seen[it])}' {told}\n"
     texts = {path: path.read_text() for path, _ in tables}
     for (path, part), table in tables.items():

@@ -1,6 +1,6 @@
 -- The command line of the program, as `clap` reads it: its name and then a subcommand with its
 -- words.
-use Rattle.std.specs.Prelude.{◌≡◌, ℕ, Bool, Some, true, false, codes, pos}
+use Rattle.std.specs.Prelude.{◌≡◌, ℕ, Bool, List, [], ◌∷◌, Some, true, false, codes, pos}
 use Rattle.clap.specs.Words.{App, Rule, Text, app_of, new_app, new_rule, rule_of, with_rule, with_subcommand}
 use Rattle.clap.specs.Simple.{on_top}
 use Rattle.clap.specs.declared.builder.action.ArgAction.TheVariants.{SetTrue, Append}
@@ -8,6 +8,8 @@ use Rattle.clap.specs.declared.builder.arg.Arg.{Arg}
 use Rattle.clap.specs.declared.builder.command.Command.{Command}
 use Rattle.clap.specs.declared.builder.command.Command.TheViews.{out-Command}
 use Rattle.clap.specs.declared.builder.value_parser.ValueParser.TheVariants.{Signed}
+use Rattle.cli_options.specs.declared.flag.Flag.{Flag}
+use Rattle.cli_options.specs.declared.flag.Flag.TheVariants.{Order, OrderOfLines, Side, Time, Escape, NoTime, SafeIntegers, SafeLines, Width, Members, Unanswered, Errors, Slower, Invert, Owner, LearnOwners, Raw, Json, LinesJson, Explain, KeepGoing, LinesKeepGoing, Resync, ResyncWindow, MaxLine, Skip, Limit, CheckRest, Rules, NeededRules, Handshake, MaxMessage, MaxArray, MaxDepth, Fds}
 use Rattle.dbus_value_model.specs.declared.limits.TheConstants.{ARRAY_LIMIT, DEPTH_LIMIT, MESSAGE_LIMIT}
 
 -- an option with one value
@@ -26,100 +28,98 @@ text_rule needed = record (new_rule (codes "rule")) { value_names = 1; required 
 abbrev pub flag_rule : Text → Rule
 flag_rule name = record (new_rule name) { long = Some name; action = Some SetTrue }
 
--- the option `--owner`, which may occur again and again
-abbrev pub owner_rule : Rule
-owner_rule = record (word_rule (codes "owner")) { action = Some Append }
+-- an option with one value, which may occur again and again
+abbrev pub many_rule : Text → Rule
+many_rule name = record (word_rule name) { action = Some Append }
 
 -- an option whose value is a number from 0 up to this one
 abbrev pub limit_rule : Text → ℕ → Rule
 limit_rule name most = record (word_rule name) { parser = Some (Signed (pos 0) (pos most)) }
 
--- the most messages that `--skip` and `--limit` name: the greatest number of 32 bits
-abbrev pub most_messages : ℕ
-most_messages = 4294967295
+-- the argument of each flag: its name, its value, and the greatest number that this may be
+abbrev pub rule : Flag → Rule
+rule Order = needed_rule (codes "to")
+rule OrderOfLines = word_rule (codes "to")
+rule Side = needed_rule (codes "side")
+rule Time = flag_rule (codes "time")
+rule Escape = flag_rule (codes "escape")
+rule NoTime = flag_rule (codes "no-time")
+rule SafeIntegers = flag_rule (codes "safe-integers")
+rule SafeLines = flag_rule (codes "safe-integers")
+rule Width = limit_rule (codes "width") 65535
+rule Members = flag_rule (codes "members")
+rule Unanswered = flag_rule (codes "unanswered")
+rule Errors = flag_rule (codes "errors")
+rule Slower = limit_rule (codes "slower") 4294967295
+rule Invert = flag_rule (codes "invert")
+rule Owner = many_rule (codes "owner")
+rule LearnOwners = flag_rule (codes "learn-owners")
+rule Raw = flag_rule (codes "raw")
+rule Json = flag_rule (codes "json")
+rule LinesJson = flag_rule (codes "json")
+rule Explain = flag_rule (codes "explain")
+rule KeepGoing = flag_rule (codes "keep-going")
+rule LinesKeepGoing = flag_rule (codes "keep-going")
+rule Resync = flag_rule (codes "resync")
+rule ResyncWindow = limit_rule (codes "resync-window") 1073741824
+rule MaxLine = limit_rule (codes "max-line") 1073741824
+rule Skip = limit_rule (codes "skip") 4294967295
+rule Limit = limit_rule (codes "limit") 4294967295
+rule CheckRest = flag_rule (codes "check-rest")
+rule Rules = text_rule false
+rule NeededRules = text_rule true
+rule Handshake = word_rule (codes "handshake")
+rule MaxMessage = limit_rule (codes "max-message") MESSAGE_LIMIT
+rule MaxArray = limit_rule (codes "max-array") ARRAY_LIMIT
+rule MaxDepth = limit_rule (codes "max-depth") DEPTH_LIMIT
+rule Fds = word_rule (codes "fds")
 
--- the command with the options of the four limits
-abbrev pub with_limits : App → App
-with_limits app = with_rule
-    (with_rule (with_rule (with_rule app (limit_rule (codes "max-message") MESSAGE_LIMIT)) (limit_rule (codes "max-array") ARRAY_LIMIT)) (limit_rule (codes "max-depth") DEPTH_LIMIT))
-    (word_rule (codes "fds"))
+-- a command with these too, in this order
+abbrev pub with_flags : List Flag → App → App
+with_flags [] app = app
+with_flags (flag ∷ flags) app = with_flags flags (with_rule app (rule flag))
 
--- with the options that each command over messages has: `--json`, `--explain`, those of the limits,
--- and `--handshake`
-abbrev pub with_options : App → App
-with_options app = with_rule (with_limits (with_rule (with_rule app (flag_rule (codes "json"))) (flag_rule (codes "explain")))) (word_rule (codes "handshake"))
+-- those of the four limits
+abbrev pub limits : List Flag
+limits = MaxMessage ∷ MaxArray ∷ MaxDepth ∷ Fds ∷ []
 
--- the most bytes that `--resync-window` names: 1 GiB
-abbrev pub most_window : ℕ
-most_window = 1073741824
+-- those of each command over messages, one of the two of `--json` among them
+abbrev pub options : (json : Flag) → List Flag
+options json = json ∷ Explain ∷ MaxMessage ∷ MaxArray ∷ MaxDepth ∷ Fds ∷ Handshake ∷ []
 
--- and with `--keep-going`, `--resync` and its window, which all but `swap` have
-abbrev pub with_keep_going : App → App
-with_keep_going app = with_options (with_rule (with_rule (with_rule app (flag_rule (codes "keep-going"))) (flag_rule (codes "resync"))) (limit_rule (codes "resync-window") most_window))
+-- and those by which all but `swap` go on
+abbrev pub going : (json : Flag) → List Flag
+going json = KeepGoing ∷ Resync ∷ ResyncWindow ∷ options json
 
--- and with `--skip`, `--limit` and `--check-rest`, which `show`, `json`, `list` and `filter` have
-abbrev pub with_window : App → App
-with_window app = with_keep_going
-    (with_rule (with_rule (with_rule app (limit_rule (codes "skip") most_messages)) (limit_rule (codes "limit") most_messages)) (flag_rule (codes "check-rest")))
-
--- and with the rules by which messages are selected, `--invert`, `--owner` and `--learn-owners`
-abbrev pub with_selection : (needed : Bool) → App → App
-with_selection needed app = with_rule (with_rule (with_rule (with_rule app (text_rule needed)) (flag_rule (codes "invert"))) owner_rule) (flag_rule (codes "learn-owners"))
-
-abbrev pub show_app : App
-show_app = with_window (with_rule (with_rule (new_app (codes "show")) (flag_rule (codes "time"))) (flag_rule (codes "escape")))
-
-abbrev pub json_app : App
-json_app = with_window (with_rule (with_rule (new_app (codes "json")) (flag_rule (codes "no-time"))) (flag_rule (codes "safe-integers")))
-
--- the most cells that `--width` names: the greatest number of 16 bits
-abbrev pub most_cells : ℕ
-most_cells = 65535
-
-abbrev pub list_app : App
-list_app = with_window (with_selection false (with_rule (new_app (codes "list")) (limit_rule (codes "width") most_cells)))
-
-abbrev pub check_app : App
-check_app = with_keep_going (new_app (codes "check"))
-
-abbrev pub swap_app : App
-swap_app = with_options (with_rule (with_rule (new_app (codes "swap")) (needed_rule (codes "to"))) (flag_rule (codes "raw")))
-
-abbrev pub filter_app : App
-filter_app = with_window (with_rule (with_selection true (new_app (codes "filter"))) (flag_rule (codes "raw")))
-
-abbrev pub count_app : App
-count_app = with_keep_going (new_app (codes "count"))
-
-abbrev pub calls_app : App
-calls_app = with_keep_going (with_rule (with_rule (with_rule (with_rule (new_app (codes "calls")) (flag_rule (codes "members"))) (flag_rule (codes "unanswered"))) (flag_rule (codes "errors")))
-    (limit_rule (codes "slower") most_messages))
-
--- the most bytes that `--max-line` names: 1 GiB
-abbrev pub most_line : ℕ
-most_line = 1073741824
-
-abbrev pub encode_app : App
-encode_app = with_limits
-    (with_rule
-    (with_rule (with_rule (with_rule (with_rule (new_app (codes "encode")) (word_rule (codes "to"))) (flag_rule (codes "safe-integers"))) (flag_rule (codes "explain"))) (flag_rule (codes "keep-going")))
-    (limit_rule (codes "max-line") most_line))
-
-abbrev pub handshake_app : App
-handshake_app = with_rule (new_app (codes "handshake")) (needed_rule (codes "side"))
+-- and those of the window, which `show`, `json`, `list` and `filter` have
+abbrev pub window : List Flag
+window = Skip ∷ Limit ∷ CheckRest ∷ going Json
 
 -- the program has a version, and one of the subcommands must be named
 abbrev pub bare_app : App
 bare_app = on_top (λ s. record s { subcommand_required = true; has_version = true }) (new_app (codes "dbus-wire"))
 
--- the program, with its ten subcommands
+-- each command with its flags, in the order of its help
+abbrev pub commands : List (Text × List Flag)
+commands = (codes "show", Time ∷ Escape ∷ window)
+    ∷ (codes "json", NoTime ∷ SafeIntegers ∷ window)
+    ∷ (codes "list", Width ∷ Rules ∷ Invert ∷ Owner ∷ LearnOwners ∷ window)
+    ∷ (codes "check", going LinesJson)
+    ∷ (codes "count", going LinesJson)
+    ∷ (codes "calls", Members ∷ Unanswered ∷ Errors ∷ Slower ∷ going LinesJson)
+    ∷ (codes "swap", Order ∷ Raw ∷ options Json)
+    ∷ (codes "filter", NeededRules ∷ Invert ∷ Owner ∷ LearnOwners ∷ Raw ∷ window)
+    ∷ (codes "encode", OrderOfLines ∷ SafeLines ∷ Explain ∷ LinesKeepGoing ∷ MaxLine ∷ limits)
+    ∷ (codes "handshake", Side ∷ [])
+    ∷ []
+
+abbrev pub with_commands : List (Text × List Flag) → App → App
+with_commands [] app = app
+with_commands (command ∷ rest) app = with_commands rest (with_subcommand app (with_flags command.1 (new_app command.0)).top)
+
+-- the program with them
 abbrev pub wire_app : App
-wire_app = with_subcommand
-    (with_subcommand
-    (with_subcommand
-    (with_subcommand
-    (with_subcommand (with_subcommand (with_subcommand (with_subcommand (with_subcommand (with_subcommand bare_app show_app.top) json_app.top) list_app.top) check_app.top) count_app.top)
-    calls_app.top) swap_app.top) filter_app.top) encode_app.top) handshake_app.top
+wire_app = with_commands commands bare_app
 
 -- clap reads this of the argument, which no subcommand shares
 pub record IsArg (rule : Rule) (arg : Arg) : Type 0 where

@@ -57,6 +57,17 @@ Example:",
     };
 }
 
+/// What the help of a command says beside its flags.
+#[derive(Clone, Copy)]
+pub(crate) struct Texts {
+    /// What it does.
+    pub(crate) about: &'static str,
+    /// How it is called.
+    pub(crate) usage: &'static str,
+    /// What follows.
+    pub(crate) more: &'static str,
+}
+
 /// The version of the program.
 pub(crate) const VERSION: &str = "0.1.0";
 
@@ -77,14 +88,11 @@ pub(crate) const PROGRAM_MORE: &str = more!(
   dbus-wire check < capture"
 );
 
-/// What `show` does.
-pub(crate) const SHOW: &str = "Writes each message as text";
-
-/// How `show` is called.
-pub(crate) const SHOW_USAGE: &str = "dbus-wire show [OPTIONS] < FILE";
-
-/// What follows the help of `show`.
-pub(crate) const SHOW_MORE: &str = more!(
+/// The help of `show`.
+pub(crate) const SHOW: Texts = Texts {
+    about: "Writes each message as text",
+    usage: "dbus-wire show [OPTIONS] < FILE",
+    more: more!(
     going "
   For each message a line on standard output with its number from 1, byte order,
   type, serial, flags and header fields, and below it a line for each value of
@@ -94,16 +102,14 @@ pub(crate) const SHOW_MORE: &str = more!(
   is refused, `refused at P: NAME` on standard error.",
     "
   dbus-monitor --session --binary | dbus-wire show"
-);
+),
+};
 
-/// What `json` does.
-pub(crate) const JSON: &str = "Writes each message as a line of JSON";
-
-/// How `json` is called.
-pub(crate) const JSON_USAGE: &str = "dbus-wire json [OPTIONS] < FILE";
-
-/// What follows the help of `json`.
-pub(crate) const JSON_MORE: &str = more!(
+/// The help of `json`.
+pub(crate) const JSON: Texts = Texts {
+    about: "Writes each message as a line of JSON",
+    usage: "dbus-wire json [OPTIONS] < FILE",
+    more: more!(
     going "
   For each message one line on standard output, an object: its number from 1,
   its offset in bytes, its time in seconds since 1970 if the file has it and
@@ -118,16 +124,14 @@ pub(crate) const JSON_MORE: &str = more!(
   are strings.",
     "
   dbus-monitor --session --binary | dbus-wire json"
-);
+),
+};
 
-/// What `list` does.
-pub(crate) const LIST: &str = "Writes each message as one line that fits a terminal";
-
-/// How `list` is called.
-pub(crate) const LIST_USAGE: &str = "dbus-wire list [OPTIONS] [RULE]... < FILE";
-
-/// What follows the help of `list`.
-pub(crate) const LIST_MORE: &str = more!(
+/// The help of `list`.
+pub(crate) const LIST: Texts = Texts {
+    about: "Writes each message as one line that fits a terminal",
+    usage: "dbus-wire list [OPTIONS] [RULE]... < FILE",
+    more: more!(
     going "
   For each message one line on standard output: its number from 1, the time of
   day in UTC if the file has it, its size in bytes, `SENDER > DESTINATION`, and
@@ -146,31 +150,27 @@ pub(crate) const LIST_MORE: &str = more!(
   of filter: see `dbus-wire filter --help`.",
     "
   dbus-wire list --width $COLUMNS < capture"
-);
+),
+};
 
-/// What `check` does.
-pub(crate) const CHECK: &str = "Checks that the input is messages, and counts them";
-
-/// How `check` is called.
-pub(crate) const CHECK_USAGE: &str = "dbus-wire check [OPTIONS] < FILE";
-
-/// What follows the help of `check`.
-pub(crate) const CHECK_MORE: &str = more!(
+/// The help of `check`.
+pub(crate) const CHECK: Texts = Texts {
+    about: "Checks that the input is messages, and counts them",
+    usage: "dbus-wire check [OPTIONS] < FILE",
+    more: more!(
     going "
   One line on standard output: `ok N messages B bytes`, or `refused at P: NAME`
   with the place and the reason.",
     "
   dbus-wire check < capture"
-);
+),
+};
 
-/// What `count` does.
-pub(crate) const COUNT: &str = "Counts the messages of each type, sender, member and so on";
-
-/// How `count` is called.
-pub(crate) const COUNT_USAGE: &str = "dbus-wire count [OPTIONS] < FILE";
-
-/// What follows the help of `count`.
-pub(crate) const COUNT_MORE: &str = more!(
+/// The help of `count`.
+pub(crate) const COUNT: Texts = Texts {
+    about: "Counts the messages of each type, sender, member and so on",
+    usage: "dbus-wire count [OPTIONS] < FILE",
+    more: more!(
     going "
   Tables on standard output: for each type, sender, destination, interface,
   member and error name a line `N messages B bytes WORD NAME`, those of most
@@ -183,16 +183,14 @@ pub(crate) const COUNT_MORE: &str = more!(
   each message.",
     "
   dbus-wire count < capture | grep ' member '"
-);
+),
+};
 
-/// What `calls` does.
-pub(crate) const CALLS: &str = "Lists the calls, and what came of each";
-
-/// How `calls` is called.
-pub(crate) const CALLS_USAGE: &str = "dbus-wire calls [OPTIONS] < FILE";
-
-/// What follows the help of `calls`.
-pub(crate) const CALLS_MORE: &str = more!(
+/// The help of `calls`.
+pub(crate) const CALLS: Texts = Texts {
+    about: "Lists the calls, and what came of each",
+    usage: "dbus-wire calls [OPTIONS] < FILE",
+    more: more!(
     going "
   For each method call a line on standard output,
   `NUMBER SENDER > DESTINATION MEMBER OUTCOME`, once it is known what came of it:
@@ -219,33 +217,29 @@ pub(crate) const CALLS_MORE: &str = more!(
   `N replies answer no call that was seen`.",
     "
   dbus-wire calls --unanswered < capture"
-);
+),
+};
 
-/// What `swap` does.
-pub(crate) const SWAP: &str = "Writes each message in one byte order";
-
-/// How `swap` is called.
-pub(crate) const SWAP_USAGE: &str = "dbus-wire swap [OPTIONS] --to <ORDER> < FILE";
-
-/// What follows the help of `swap`.
-pub(crate) const SWAP_MORE: &str = more!(
-    "
+/// The help of `swap`.
+pub(crate) const SWAP: Texts = Texts {
+    about: "Writes each message in one byte order",
+    usage: "dbus-wire swap [OPTIONS] --to <ORDER> < FILE",
+    more: more!(
+        "
   The messages on standard output, each in the byte order that is named: raw, or
   of a pcap or pcapng file as a pcap file with their times. If the input is
   refused, `refused at P: NAME` on standard error.",
-    "",
-    "
+        "",
+        "
   dbus-wire swap --to B < capture > big-endian"
-);
+    ),
+};
 
-/// What `filter` does.
-pub(crate) const FILTER: &str = "Writes the messages that match a rule, as they came";
-
-/// How `filter` is called.
-pub(crate) const FILTER_USAGE: &str = "dbus-wire filter [OPTIONS] <RULE>... < FILE";
-
-/// What follows the help of `filter`.
-pub(crate) const FILTER_MORE: &str = more!(
+/// The help of `filter`.
+pub(crate) const FILTER: Texts = Texts {
+    about: "Writes the messages that match a rule, as they came",
+    usage: "dbus-wire filter [OPTIONS] <RULE>... < FILE",
+    more: more!(
     going "
   The messages that match one of the rules, or with --invert none of them, on
   standard output, each as it came: raw, or of a pcap or pcapng file as a pcap
@@ -263,16 +257,14 @@ pub(crate) const FILTER_MORE: &str = more!(
   GetNameOwner, and the reply of :1.7 to a call to org.a.B.",
     "
   dbus-wire filter \"type='signal',member='NameLost'\" < capture | dbus-wire show"
-);
+),
+};
 
-/// What `encode` does.
-pub(crate) const ENCODE: &str = "Writes the messages that lines of JSON spell";
-
-/// How `encode` is called.
-pub(crate) const ENCODE_USAGE: &str = "dbus-wire encode [OPTIONS] < FILE";
-
-/// What follows the help of `encode`.
-pub(crate) const ENCODE_MORE: &str = "Input:
+/// The help of `encode`.
+pub(crate) const ENCODE: Texts = Texts {
+    about: "Writes the messages that lines of JSON spell",
+    usage: "dbus-wire encode [OPTIONS] < FILE",
+    more: "Input:
   Standard input: lines as json writes them, each an object of JSON. Members may
   come in any order, but header fields are written in the order of theirs. type
   has to be there; order is l, flags are 0 and serial is the number of the line
@@ -297,16 +289,14 @@ Exit status:
   3  a read or a write failed, too many reads were made, or memory ran out
 
 Example:
-  dbus-wire json < capture | jq -c 'select(.member)' | dbus-wire encode > calls";
+  dbus-wire json < capture | jq -c 'select(.member)' | dbus-wire encode > calls",
+};
 
-/// What `handshake` does.
-pub(crate) const HANDSHAKES: &str = "Lists the lines before the messages, and what each says";
-
-/// How `handshake` is called.
-pub(crate) const HANDSHAKES_USAGE: &str = "dbus-wire handshake --side <SIDE> < FILE";
-
-/// What follows the help of `handshake`.
-pub(crate) const HANDSHAKES_MORE: &str = "Input:
+/// The help of `handshake`.
+pub(crate) const HANDSHAKES: Texts = Texts {
+    about: "Lists the lines before the messages, and what each says",
+    usage: "dbus-wire handshake --side <SIDE> < FILE",
+    more: "Input:
   What one side of a connection sent, on standard input: a client the byte 0 and
   its lines up to BEGIN, a server its lines, of which one is OK, up to its first
   message. What follows is not looked at.
@@ -325,106 +315,5 @@ Exit status:
   3  a read or a write failed, or memory ran out
 
 Example:
-  dbus-wire handshake --side client < sent";
-
-// The flags, in the order of the synopsis. A comment is what shells say of a flag, and then the unit
-// of its value, and the words that this can be: `bench/options.py` reads it.
-
-/// The byte order to write: order = l\:little-endian B\:big-endian
-pub(crate) const ORDER: &str = "The byte order: l is little-endian, B is big-endian";
-
-/// The side whose lines they are: side = client server
-pub(crate) const SIDE: &str = "Whose lines they are: client or server";
-
-/// Write the time of each message before it
-pub(crate) const TIME: &str = "Writes the time of each message before it";
-
-/// Escape hidden characters
-pub(crate) const ESCAPE: &str = "Writes hidden characters as \\u{202e}";
-
-/// Leave out the times
-pub(crate) const NO_TIME: &str = "Leaves out the times";
-
-/// Write integers beyond 2^53 - 1 as strings
-pub(crate) const SAFE_INTEGERS: &str = "Writes integers beyond 2^53 - 1 as strings";
-
-/// Take integers beyond 2^53 - 1 only as strings
-pub(crate) const SAFE_LINES: &str = "Takes integers beyond 2^53 - 1 only as strings";
-
-/// Cells of a line: cells (0 to 65535)
-pub(crate) const WIDTH: &str = "Cells of a line: 80, the default; 0 for no bound; to 65535";
-
-/// Sum the calls up by their members
-pub(crate) const MEMBERS: &str = "Sums the calls up by their members";
-
-/// List the calls without a reply
-pub(crate) const UNANSWERED: &str = "Lists the calls that want a reply and have none";
-
-/// List the calls that an error answered
-pub(crate) const ERRORS: &str = "Lists the calls that an error answered";
-
-/// List the calls replied to later: milliseconds
-pub(crate) const SLOWER: &str = "Lists the calls replied to later: 0 to 4294967295 ms";
-
-/// Write the messages that match no rule
-pub(crate) const INVERT: &str = "Writes the messages that match none of the rules";
-
-/// The owner of a well-known name: NAME=UNIQUE
-pub(crate) const OWNER: &str = "The owner of a name, as org.a.B=:1.7; any number";
-
-/// Learn owners from the input
-pub(crate) const LEARN_OWNERS: &str = "Learns owners from the input, from then on";
-
-/// Write raw messages, also of a file
-pub(crate) const RAW: &str = "Writes raw messages, also of a pcap or pcapng file";
-
-/// Tell what is refused as JSON
-pub(crate) const REFUSALS_JSON: &str = "Tells what is refused as JSON";
-
-/// Tell what is refused as JSON
-pub(crate) const LINES_JSON: &str = "Writes each line as JSON";
-
-/// Explain what is refused
-pub(crate) const EXPLAIN: &str = "Explains what is refused, in more lines";
-
-/// Go on after a refused message
-pub(crate) const KEEP_GOING: &str = "Goes on after a refused message";
-
-/// Go on after a refused line
-pub(crate) const KEEP_GOING_LINES: &str = "Goes on after a refused line";
-
-/// The same, and look for where messages begin again
-pub(crate) const RESYNC: &str = "Keeps going where messages begin again, in 1 MiB";
-
-/// The same within so many bytes: bytes (0 to 1073741824)
-pub(crate) const RESYNC_WINDOW: &str = "The same in N bytes: 0 to 1073741824";
-
-/// Most bytes of a line: bytes (0 to 1073741824)
-pub(crate) const MAX_LINE: &str = "Most bytes of a line: 0 to 1073741824, the default";
-
-/// Messages to skip first: messages
-pub(crate) const SKIP: &str = "Messages to skip first: 0, the default, to 4294967295";
-
-/// Most messages to write: messages
-pub(crate) const LIMIT: &str = "Most messages to write after these: 0 to 4294967295";
-
-/// Read and check the rest after these
-pub(crate) const CHECK_REST: &str = "Reads and checks the rest of the input after these";
-
-/// Match rules
-pub(crate) const RULE: &str = "Match rules, as type='signal',path='/a'; '' matches each message";
-
-/// The side whose handshake comes before the messages: side = client server
-pub(crate) const HANDSHAKE: &str = "Whose handshake comes first: client or server";
-
-/// Most bytes of a message: bytes (0 to 134217728)
-pub(crate) const MAX_MESSAGE: &str = "Most bytes of a message: 0 to 134217728, the default";
-
-/// Most bytes of the contents of an array: bytes (0 to 67108864)
-pub(crate) const MAX_ARRAY: &str = "Most bytes of an array: 0 to 67108864, the default";
-
-/// Most containers open at once: containers (0 to 64)
-pub(crate) const MAX_DEPTH: &str = "Most containers open at once: 0 to 64, the default";
-
-/// Which indexes of file descriptors a body may have: rule = any below-count
-pub(crate) const FDS: &str = "Descriptor indexes: any, the default, or below-count";
+  dbus-wire handshake --side client < sent",
+};

@@ -10,6 +10,7 @@ mod command;
 mod command_line;
 mod copies;
 mod file_form;
+mod flag;
 mod help;
 pub mod laws;
 mod limits_named;

@@ -1,4 +1,0 @@
-use Rattle.cli_options.proofs.wire.check_command.Goals as goal
-
-pub returns : goal.returns
-returns c = c.with_keep_going.ensures _ c.bare.ensures

@@ -1,6 +1,0 @@
-use Rattle.cli_options.proofs.wire.show_command.Goals as goal
-
-pub returns : goal.returns
-returns c =
-    let timed = c.with_arg-timed.ensures _ _ c.flag.ensures c.bare-show.ensures in
-    c.with_window.ensures _ (c.with_arg.ensures _ _ c.flag-2.ensures timed)
