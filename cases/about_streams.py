@@ -1,11 +1,11 @@
-"""What is asked of the program `case_engines` on what cuts and reads streams, match rules, the handshake, runs of dbus-wire, and
-all of these over devices that fail; and hostile inputs."""
+"""What is asked of the program `case_engines` on what cuts and reads streams, match rules, addresses, the handshake, runs of
+dbus-wire, and all of these over devices that fail; and hostile inputs."""
 
 from devices import ask_copies, ask_device, ask_failing, ask_passing, ask_pieces, ask_reader
 from growths import ask_made
 from handshakes import ask_cuts, ask_dialogue, ask_handshake, asker_of_lines
 from read_cases import read_bytes
-from runs import ORDERS, ask_match, ask_printed, ask_rule, ask_stream, ask_tool
+from runs import ORDERS, ask_addresses, ask_match, ask_printed, ask_rule, ask_stream, ask_tool
 from streams import ask_message
 
 COMMANDS = ("show", "json", "list", "check", "count", "calls", "swap", "filter", "encode")
@@ -38,6 +38,7 @@ FILES = {
     "printed.txt": ask_printed,
     "rules.txt": ask_rule,
     "matches.txt": ask_match,
+    "addresses.txt": ask_addresses,
     "client_lines.txt": asker_of_lines("client"),
     "server_lines.txt": asker_of_lines("server"),
     "cut_lines.txt": ask_cuts,

@@ -108,10 +108,13 @@ def ask_name(case, _):
     yield question(kind, f"text {kind} {hexed(read_bytes(text))}", verdict)
 
 
-def ask_rule(case, _):
-    _, text, answer = case
-    wanted = answer if answer.startswith("refused") else f"accepted {hexed(read_bytes(answer.removeprefix('accepted ')))}"
-    yield question("rule", f"rule {hexed(read_bytes(text))}", wanted)
+def asker_of_texts(kind):
+    def ask_text(case, _):
+        _, text, answer = case
+        wanted = answer if answer.startswith("refused") else f"accepted {hexed(read_bytes(answer.removeprefix('accepted ')))}"
+        yield question(kind, f"{kind} {hexed(read_bytes(text))}", wanted)
+
+    return ask_text
 
 
 def ask_match(case, _):
@@ -133,8 +136,9 @@ FILES = {
     **{file: asker_of(file) for file in (*MESSAGES, VALUES)},
     "signatures.txt": ask_signature,
     "names.txt": ask_name,
-    "rules.txt": ask_rule,
+    "rules.txt": asker_of_texts("rule"),
     "matches.txt": ask_match,
+    "addresses.txt": asker_of_texts("address"),
     "client_lines.txt": asker_of_lines("client"),
     "server_lines.txt": asker_of_lines("server"),
 }

@@ -110,6 +110,14 @@ def ask_rule(case, _):
     yield from ask_run("filter", b"", ("filter", "--", text.decode()), STREAM_SIZES[:1], wanted)
 
 
+def ask_addresses(case, _):
+    _, text, answer = case
+    text = read_bytes(text)
+    word, _, told = answer.partition(" ")
+    wanted = " ".join(map(hexed, read_bytes(told).split(b";"))) if word == "accepted" else fault_of(answer)
+    yield Question("parse_addresses", f"addresses {hexed(text)}", wanted)
+
+
 def ask_match(case, _):
     _, rule, owners, little, big, answer = case
     rule = read_bytes(rule)

@@ -1,5 +1,6 @@
 //! `case_engines`: answers questions on texts, values, messages, streams of messages, match rules,
-//! the handshake and the program dbus-wire, of which `cases/run.py` has the right answers.
+//! addresses, the handshake and the program dbus-wire, of which `cases/run.py` has the right
+//! answers.
 //!
 //! Each line of its input is a question (`case_questions`), and each line that it prints the answer
 //! to one, in the words of what the calls of the libraries return. cases/README.md says which
@@ -10,6 +11,7 @@
 //! refused. A call that was refused memory is made again if it keeps anything from call to call.
 #![tactic(auto)]
 
+mod addresses;
 mod agreeing;
 mod asked;
 mod changes;

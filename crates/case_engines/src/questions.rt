@@ -1,5 +1,6 @@
 //! Which engine answers a question.
 
+use crate::addresses::say_addresses;
 use crate::changes::say_changed;
 use crate::composing::say_composed;
 use crate::ends::{say_end, say_handshake};
@@ -49,6 +50,8 @@ enum Kind {
     Rule,
     Matches,
     Found,
+    // The addresses that a text spells.
+    Addresses,
     // Runs of the program.
     Run,
     // Of a side of the handshake: what a line of it means, the line of a meaning, what is left of
@@ -109,6 +112,7 @@ const KINDS: &[(&str, Kind)] = &[
     ("rule", Kind::Rule),
     ("matches", Kind::Matches),
     ("found", Kind::Found),
+    ("addresses", Kind::Addresses),
     ("run", Kind::Run),
     ("client-line", Kind::Line(Side::Client)),
     ("server-line", Kind::Line(Side::Server)),
@@ -155,6 +159,7 @@ impl Answerer for Engines {
             Kind::Rule => say_rule(reply, memory, question),
             Kind::Matches => say_matches(reply, memory, question),
             Kind::Found => say_found(reply, memory, question),
+            Kind::Addresses => say_addresses(reply, memory, question),
             Kind::Run => say_runs(reply, memory, question),
             Kind::Line(side) => say_meaning(reply, memory, question, side),
             Kind::Written(side) => say_written(reply, memory, question, side),
