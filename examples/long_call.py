@@ -1,5 +1,5 @@
 #!/usr/bin/env python3
-"""long_call.py SOCKET: calls the service org.example.Load at the bus at a Unix socket by a message of over 1 MiB, and prints the name of the error that it
+"""long_call.py ADDRESS: calls the service org.example.Load at the bus by a message of over 1 MiB, and prints the name of the error that it
 gets. DBUS_WIRE_LIBRARY and PYTHONPATH are as for the module dbus_wire."""
 
 import os

@@ -95,10 +95,10 @@ sockets=$(mktemp -d) proxy=
 if command -v dbus-daemon > /dev/null; then
 	bus=$(dbus-daemon --session --fork --print-pid --address="unix:path=$sockets/bus")
 	trap 'kill "$bus" $proxy' EXIT
-	$run "$built/handshake" client "$sockets/bus"
+	$run "$built/handshake" client "unix:path=$sockets/none;unix:path=$sockets/bus"
 	# A client behind a proxy asks the bus, but not for what a rule of the proxy's denies.
 	"$CC" $sanitized -D_GNU_SOURCE -o "$built/proxy" "$here/c/proxy.c" -L"$built" -ldbus_wire
-	$run "$built/proxy" "$sockets/door" "$sockets/bus" "type='method_call',member='GetId'" & proxy=$!
+	$run "$built/proxy" "$sockets/door" "unix:path=$sockets/bus" "type='method_call',member='GetId'" & proxy=$!
 	while test ! -S "$sockets/door"; do sleep 0.1; done
 	if command -v dbus-send > /dev/null; then
 		ask="dbus-send --bus=unix:path=$sockets/door --print-reply --dest=org.freedesktop.DBus / org.freedesktop.DBus"
@@ -122,10 +122,10 @@ rm -rf "$sockets"
 try_echo() {
 	sockets=$(mktemp -d)
 	bus=$(dbus-daemon --session --fork --print-pid --address="unix:path=$sockets/bus")
-	"$@" "$sockets/bus" & echo=$!
+	"$@" "unix:path=$sockets/bus" & echo=$!
 	trap 'kill "$bus" "$echo"' EXIT
 	for _ in $(seq 100); do
-		if $run "$built/descriptors" call "$sockets/bus" "$here/test.sh" > "$built/said" 2> "$built/told"; then break; fi
+		if $run "$built/descriptors" call "unix:path=$sockets/bus" "$here/test.sh" > "$built/said" 2> "$built/told"; then break; fi
 		sleep 0.1
 	done
 	cmp "$here/test.sh" "$built/said"
@@ -151,7 +151,7 @@ try_load() {
 	shift
 	sockets=$(mktemp -d)
 	bus=$(dbus-daemon --session --fork --print-pid --address="unix:path=$sockets/bus")
-	"$@" "$sockets/bus" & service=$!
+	"$@" "unix:path=$sockets/bus" & service=$!
 	trap 'kill "$bus" "$service"' EXIT
 	ask="gdbus call --address unix:path=$sockets/bus --dest org.example.Load --object-path / --method org.example.Load"
 	for _ in $(seq 100); do
@@ -159,7 +159,7 @@ try_load() {
 		sleep 0.1
 	done
 	grep -qx "$form" "$built/said"
-	$between "$sockets/bus"
+	$between "unix:path=$sockets/bus"
 	must_fail $ask.Set 2> "$built/told"
 	grep -q 'UnknownMethod: try Get' "$built/told"
 	kill "$bus" "$service"

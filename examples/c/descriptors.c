@@ -1,19 +1,12 @@
 /* Passes Unix file descriptors over a bus. `descriptors serve BUS` is the service org.example.Echo
- * on the bus at the Unix socket BUS: it answers each call by the call's values and descriptors.
- * `descriptors call BUS FILE` calls it with a descriptor of the file, and writes what it reads from
- * the one that comes back.
+ * on the bus at the server addresses BUS: it answers each call by the call's values and
+ * descriptors. `descriptors call BUS FILE` calls it with a descriptor of the file, and writes what
+ * it reads from the one that comes back.
  *
  * A value of type 'h' is an index into the descriptors of its message. These come beside its first
  * bytes, by sendmsg and recvmsg, if both ends agreed to it in the handshake. */
-#include <dbus_wire.h>
-
+#include "connect.h"
 #include <fcntl.h>
-#include <stdio.h>
-#include <stdlib.h>
-#include <string.h>
-#include <sys/socket.h>
-#include <sys/un.h>
-#include <unistd.h>
 
 enum { MOST = 16 };
 
@@ -132,20 +125,15 @@ static struct dbus_wire_parts call(struct bus *bus, const char *name, const char
 
 /* Connects to the bus, shakes hands and says Hello. Of the handshake it reads a byte at a time: the
  * last line may have the first message behind it, with descriptors. */
-static void open_bus(struct bus *bus, const char *path) {
+static void open_bus(struct bus *bus, const char *addresses) {
     struct dbus_wire_mechanisms mechanisms = {DBUS_WIRE_EXTERNAL_AS_USER, (uint32_t)getuid(), 0, 1};
     struct dbus_wire_handshake client = {0};
     struct dbus_wire_handshake_step step;
-    struct sockaddr_un address = {0};
     uint8_t reply[DBUS_WIRE_REPLY_ROOM], byte;
     struct dbus_wire_parts hello;
     size_t length = 0;
     uint32_t answer;
-    address.sun_family = AF_UNIX;
-    if (strlen(path) >= sizeof address.sun_path) fail("the path is too long");
-    strcpy(address.sun_path, path);
-    bus->socket = socket(AF_UNIX, SOCK_STREAM, 0);
-    if (bus->socket < 0 || connect(bus->socket, (struct sockaddr *)&address, sizeof address) != 0) fail("connect");
+    if ((bus->socket = connect_to(addresses)) < 0) fail("no bus");
     if (dbus_wire_client_new(&mechanisms, NULL, 0, &client) != DBUS_WIRE_OK) fail("no client");
     if (dbus_wire_handshake_bound(&client, 6, 6) != DBUS_WIRE_OK) fail("no bounds");
     while ((answer = dbus_wire_handshake_take(&client, &byte, length, reply, sizeof reply, &step)) == DBUS_WIRE_PARTIAL) {

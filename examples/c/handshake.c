@@ -1,15 +1,8 @@
 /* Shakes hands as both ends do: `handshake pieces LENGTH` one end with the other in memory, whose
- * bytes come in pieces of LENGTH bytes; `handshake client PATH` with the bus at a Unix socket, to
- * which it then says Hello; `handshake server PATH` with a client that connects to a Unix socket
- * there, whose first message it then checks. */
-#include <dbus_wire.h>
-
-#include <stdio.h>
-#include <stdlib.h>
-#include <string.h>
-#include <sys/socket.h>
-#include <sys/un.h>
-#include <unistd.h>
+ * bytes come in pieces of LENGTH bytes; `handshake client BUS` with the bus at server addresses,
+ * to which it then says Hello; `handshake server PATH` with a client that connects to a Unix
+ * socket there, whose first message it then checks. */
+#include "connect.h"
 
 static const char guid[] = "0123456789abcdef0123456789ABCDEF";
 
@@ -155,12 +148,11 @@ static struct sockaddr_un address_of(const char *path) {
     return address;
 }
 
-static void be_client(const char *path) {
+static void be_client(const char *addresses) {
     struct dbus_wire_handshake client = {0};
     struct pipe in = {{0}, 0};
-    struct sockaddr_un address = address_of(path);
-    int peer = socket(AF_UNIX, SOCK_STREAM, 0);
-    if (peer < 0 || connect(peer, (struct sockaddr *)&address, sizeof address) != 0) fail("connect");
+    int peer = connect_to(addresses);
+    if (peer < 0) fail("no bus");
     make_client(&client, DBUS_WIRE_EXTERNAL_AS_USER, 0);
     shake(&client, peer, &in);
     print_guid(&client);
@@ -201,7 +193,7 @@ int main(int argc, char **argv) {
     } else if (argc == 3 && strcmp(argv[1], "server") == 0) {
         be_server(argv[2]);
     } else {
-        fail("handshake pieces LENGTH, client PATH or server PATH");
+        fail("handshake pieces LENGTH, client BUS or server PATH");
     }
     return 0;
 }

@@ -1,22 +1,15 @@
 /* Stands between clients and a bus: `proxy DOOR BUS RULE..` lets in clients of its own user at the
- * Unix socket DOOR, a process for each, and connects each to the bus at the Unix socket BUS. It is
- * a server to the client and a client to the bus in the handshake, and then passes messages on, in
- * both directions, each validated. What a client sends that one of the match rules matches does not
- * get through: a call is answered by the error org.freedesktop.DBus.Error.AccessDenied. Bytes that
- * are no message end the connection. Messages have at most 1 MiB, and no file descriptors, which
- * the handshake refuses. Writes block, so a peer that does not read stops the other one. Rules keep
- * no client out that wants in: a call needs no INTERFACE, and may have a unique name as its
- * DESTINATION. */
-#include <dbus_wire.h>
-
+ * Unix socket DOOR, a process for each, and connects each to the bus at the server addresses BUS.
+ * It is a server to the client and a client to the bus in the handshake, and then passes messages
+ * on, in both directions, each validated. What a client sends that one of the match rules matches
+ * does not get through: a call is answered by the error org.freedesktop.DBus.Error.AccessDenied.
+ * Bytes that are no message end the connection. Messages have at most 1 MiB, and no file
+ * descriptors, which the handshake refuses. Writes block, so a peer that does not read stops the
+ * other one. Rules keep no client out that wants in: a call needs no INTERFACE, and may have a
+ * unique name as its DESTINATION. */
+#include "connect.h"
 #include <poll.h>
 #include <signal.h>
-#include <stdio.h>
-#include <stdlib.h>
-#include <string.h>
-#include <sys/socket.h>
-#include <sys/un.h>
-#include <unistd.h>
 
 static const struct dbus_wire_limits limits = {1 << 20, UINT32_MAX, UINT32_MAX, DBUS_WIRE_FDS_ANY};
 static const char guid[] = "0123456789abcdef0123456789abcdef";
@@ -121,17 +114,15 @@ static struct sockaddr_un address_of(const char *path) {
 }
 
 /* Serves a client until it or the bus closes. */
-static void serve(int socket_of_client, const char *path) {
+static void serve(int socket_of_client, const char *addresses) {
     static struct peer client, bus;
     struct dbus_wire_handshake server = {0}, asking = {0};
     struct dbus_wire_mechanisms own_user = {DBUS_WIRE_EXTERNAL_AS_USER, (uint32_t)getuid(), 0, 0};
-    struct sockaddr_un address = address_of(path);
     struct ucred caller;
     socklen_t size = sizeof caller;
     client.socket = socket_of_client;
-    bus.socket = socket(AF_UNIX, SOCK_STREAM, 0);
     if (getsockopt(client.socket, SOL_SOCKET, SO_PEERCRED, &caller, &size) != 0 || caller.uid != getuid()) fail("another user");
-    if (bus.socket < 0 || connect(bus.socket, (struct sockaddr *)&address, sizeof address) != 0) fail("no bus");
+    if ((bus.socket = connect_to(addresses)) < 0) fail("no bus");
     if (dbus_wire_server_new(guid, strlen(guid), &own_user, &server) != DBUS_WIRE_OK) fail("no server");
     if (dbus_wire_handshake_bound(&server, 6, 6) != DBUS_WIRE_OK) fail("no bounds");
     if (dbus_wire_client_new(&own_user, NULL, 0, &asking) != DBUS_WIRE_OK) fail("no client");

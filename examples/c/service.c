@@ -1,11 +1,8 @@
-/* Is the service org.example.Load on the bus at a Unix socket, `service SOCKET`: its method Get
- * returns the load of this machine, and any other is an error. So is a call that is longer than its
- * room, which is passed over. It ends if a step fails. Of the handshake it reads a byte at a time,
- * since messages follow it. */
-#include <dbus_wire.h>
-#include <stdlib.h>
-#include <sys/socket.h>
-#include <sys/un.h>
+/* Is the service org.example.Load on a bus, `service "$DBUS_SESSION_BUS_ADDRESS"`: its method Get
+ * returns the load of this machine, and any other is an error. So is a call that is longer than
+ * its room, which is passed over. It ends if a step fails. Of the handshake it reads a byte at a
+ * time, since messages follow it. */
+#include "connect.h"
 #define BUS "org.freedesktop.DBus"
 #define TEXT dbus_wire_text_of
 #define PUT(call, ...) must(dbus_wire_put_##call(body, sizeof body, &spelled, __VA_ARGS__) == DBUS_WIRE_OK)
@@ -65,14 +62,11 @@ static void refuse(uint64_t length, uint32_t serial) {
 }
 
 int main(int count, char **words) {
-    struct sockaddr_un address = {.sun_family = AF_UNIX};
     struct dbus_wire_mechanisms mechanisms = {DBUS_WIRE_EXTERNAL_AS_REPORTED, 0, 0, 0};
     struct dbus_wire_handshake client = {0};
     struct dbus_wire_handshake_step step;
     struct dbus_wire_parts call;
-    must(count == 2 && strlen(words[1]) < sizeof address.sun_path && (bus = socket(AF_UNIX, SOCK_STREAM, 0)) >= 0);
-    strcpy(address.sun_path, words[1]);
-    must(connect(bus, (struct sockaddr *)&address, sizeof address) == 0);
+    must(count == 2 && (bus = connect_to(words[1])) >= 0);
     must(dbus_wire_client_new(&mechanisms, NULL, 0, &client) == DBUS_WIRE_OK && dbus_wire_handshake_bound(&client, 6, 6) == DBUS_WIRE_OK);
     for (uint32_t length = 0, found = DBUS_WIRE_PARTIAL; found == DBUS_WIRE_PARTIAL; length = 1) {
         receive(0, length);

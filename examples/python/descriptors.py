@@ -1,5 +1,5 @@
 #!/usr/bin/env python3
-"""Is the service org.example.Echo on the bus at a Unix socket, `descriptors.py SOCKET`: it answers
+"""Is the service org.example.Echo on the bus at an address, `descriptors.py ADDRESS`: it answers
 each call by the call's values and Unix file descriptors, of which a value of type `h` is an index.
 The descriptors come beside a message's first bytes."""
 

@@ -1,6 +1,6 @@
 #!/usr/bin/env python3
 """Stands between clients and a bus: `proxy.py DOOR BUS RULE..` lets in clients of its own user at
-the Unix socket DOOR, connects each to the bus at the Unix socket BUS, and passes messages on, in
+the Unix socket DOOR, connects each to the bus at the addresses BUS, and passes messages on, in
 both directions, each validated. What a client sends that one of the match rules matches does not
 get through: a call is answered by the error org.freedesktop.DBus.Error.AccessDenied. Bytes that are
 no message end the connection, and so does a message of over 1 MiB. Rules keep no client out that
@@ -13,7 +13,7 @@ import socketserver
 import struct
 import sys
 
-from dbus_wire import Bounds, Client, Limits, Rule, Server, error_to, messages
+from dbus_wire import Bounds, Client, Limits, Rule, Server, connect, error_to, messages
 
 DENIED = "org.freedesktop.DBus.Error.AccessDenied"
 LIMITS = Limits(message=1 << 20)
@@ -24,7 +24,6 @@ def shake_hands(client, bus):
     peer = client.getsockopt(socket.SOL_SOCKET, socket.SO_PEERCRED, 12)
     if (user := struct.unpack("3i", peer)[1]) != os.getuid():
         raise PermissionError(f"a client of the user {user}")
-    bus.connect(sys.argv[2])
     Client(user=user, bounds=Bounds(6, 6)).shake_hands(bus)
     Server(os.urandom(16).hex(), user, bounds=Bounds(6, 6)).shake_hands(client)
 
@@ -47,7 +46,7 @@ def pass_messages(client, bus):
 
 class Connection(socketserver.BaseRequestHandler):
     def handle(self):
-        with socket.socket(socket.AF_UNIX) as bus:
+        with connect(sys.argv[2]) as bus:
             shake_hands(self.request, bus)
             pass_messages(self.request, bus)
 

@@ -1,5 +1,5 @@
 #!/usr/bin/env python3
-"""Is the service org.example.Load on the bus at a Unix socket: Get returns this machine's load."""
+"""Is the service org.example.Load on the bus at an address: Get returns this machine's load."""
 
 import os
 import sys

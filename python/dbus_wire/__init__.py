@@ -22,6 +22,7 @@ examples/python has programs. All of it may be called from any thread; a thread 
 stack for a call. A message of any depth is read within Python's default limit on recursion.
 """
 
+from ._addresses import Address, BadAddress, connect, parse_addresses
 from ._building import build, error_to, rebuild, reply_to
 from ._checker import Checker
 from ._errors import BadJson, BadValue, HeaderField, NotAMessage, Refused, Truncated
@@ -38,6 +39,8 @@ from ._values import ObjectPath, Order, Signature, UnixFd, Variant
 
 __all__ = [
     "LIBRARY_VERSION",
+    "Address",
+    "BadAddress",
     "BadJson",
     "BadLine",
     "BadRule",
@@ -76,9 +79,11 @@ __all__ = [
     "byteswap",
     "check_text",
     "client_line",
+    "connect",
     "error_to",
     "explain",
     "messages",
+    "parse_addresses",
     "rebuild",
     "reply_to",
     "server_line",

@@ -12,6 +12,7 @@ from types import TracebackType
 from typing import NamedTuple
 
 from . import _library
+from ._addresses import connect
 from ._library import EXTERNAL_AS_REPORTED, EXTERNAL_AS_USER, GUID_LENGTH, NO_HANDSHAKE, NO_MEMORY, OK, REFUSED
 from ._library import REPLY_ROOM, Bytes, as_bytes, library
 from ._values import bool_of, text_of, uint32_of
@@ -175,12 +176,12 @@ class Client(_Handshake):
             raise ValueError("the trace has more than 255 bytes")
         self._keep(handle, bounds)
 
-    def connect(self, path: str) -> socket.socket:
-        """A connection to the Unix socket at this path, on which the client shook hands. Raises what
-        `shake_hands` raises; then the connection is closed."""
-        connection = socket.socket(socket.AF_UNIX)
+    def connect(self, addresses: str | Bytes) -> socket.socket:
+        """A connection to a bus by its server addresses, as that of DBUS_SESSION_BUS_ADDRESS, on
+        which the client shook hands. Raises what `dbus_wire.connect` and `shake_hands` raise; then
+        the connection is closed."""
+        connection = connect(addresses)
         try:
-            connection.connect(path)
             self.shake_hands(connection)
         except BaseException:
             connection.close()

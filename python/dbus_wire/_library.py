@@ -19,6 +19,7 @@ PARTIAL = 1
 REFUSED = 2
 NO_MEMORY = 3
 NO_ROOM = 4
+NO_VALUE = 5
 NO_CHECKER = 7
 NO_RULE = 8
 NO_HANDSHAKE = 9
@@ -146,11 +147,16 @@ class Watch(ctypes.Structure):
     _fields_ = [(name, c_uint32) for name in ("server", "unanswered", "started", "asked")]
 
 
+class Addresses(ctypes.Structure):
+    _fields_ = [("count", c_uint64), ("offset", c_uint64), ("reason", c_uint32), ("reserved", c_uint32)]
+
+
 # Of each call its result, and then its arguments. Python's bytes do not change and are never null,
 # so they are passed as they are.
 _MESSAGE = (c_char_p, c_size_t, POINTER(Limits))
 _ITEMS = (POINTER(FlatItem), c_size_t, POINTER(c_uint64), POINTER(Checked))
 _BODY = (c_char_p, c_size_t, POINTER(Writer))
+_ADDRESS = (c_char_p, c_size_t, c_uint64)
 _CALLS = {
     "version": (c_uint32,),
     "specification_limits": (None, POINTER(Limits)),
@@ -196,6 +202,10 @@ _CALLS = {
     "server_line": (c_uint32, c_char_p, c_size_t, POINTER(Line)),
     "watch_client": (c_uint32, POINTER(Watch), c_char_p, c_size_t, POINTER(Line)),
     "watch_server": (c_uint32, POINTER(Watch), c_char_p, c_size_t, POINTER(Line)),
+    "address_check": (c_uint32, c_char_p, c_size_t, POINTER(Addresses)),
+    "address_transport": (c_uint32, *_ADDRESS, c_char_p, c_size_t, POINTER(c_uint64)),
+    "address_value": (c_uint32, *_ADDRESS, c_char_p, c_size_t, c_char_p, c_size_t, POINTER(c_uint64)),
+    "address_reason_name": (c_size_t, c_uint32, c_char_p, c_size_t),
     "reason_name": (c_size_t, c_uint32, c_char_p, c_size_t),
 }
 

@@ -22,6 +22,7 @@ from read_cases import read_bytes, read_cases
 
 import dbus_wire
 from dbus_wire import (
+    BadAddress,
     BadLine,
     BadRule,
     Bounds,
@@ -53,8 +54,10 @@ from dbus_wire import (
     byteswap,
     check_text,
     client_line,
+    connect,
     explain,
     messages,
+    parse_addresses,
     rebuild,
     server_line,
     spell_body,
@@ -668,19 +671,48 @@ class Handshakes(unittest.TestCase):
 
     def test_connections(self):
         with tempfile.TemporaryDirectory() as folder, socket.socket(socket.AF_UNIX) as listening:
-            path = f"{folder}/bus"
-            self.assertRaises(FileNotFoundError, Client(user=7).connect, path)
+            path, address = f"{folder}/bus", f"unix:path={folder}/bus"
+            self.assertRaises(ConnectionError, Client(user=7).connect, address)
             listening.bind(path)
             listening.listen()
             for user, error in ((7, None), (8, ConnectionError)):
                 with ThreadPoolExecutor(1) as pool, Client(user=7) as client, Server(self.GUID, user) as server:
                     serving = pool.submit(lambda: self.serve_one(listening, server))
                     if error:
-                        self.assertRaises(error, client.connect, path)
+                        self.assertRaises(error, client.connect, address)
                     else:
-                        with client.connect(path) as connection:
+                        with client.connect(address) as connection:
                             connection.sendall(SESSION)
                     self.assertEqual(serving.result(20), b"" if error else SESSION)
+
+    def test_addresses(self):
+        first, second = parse_addresses("unix:path=/run/my%20bus,guid=" + self.GUID + ";tcp:host=%00%ff")
+        self.assertEqual((first.transport, first.value("path"), first.value("host")), ("unix", b"/run/my bus", None))
+        self.assertEqual((second.transport, second.value("host"), second.value("")), ("tcp", b"\0\xff", None))
+        for name, text, answer in read_cases(CASES / "addresses.txt"):
+            with self.subTest(name):
+                if answer.startswith("refused"):
+                    _, at, reason = answer.split()
+                    said = f"^addresses refused at {at}: {reason}$"
+                    self.assertRaisesRegex(BadAddress, said, parse_addresses, read_bytes(text))
+                else:
+                    self.assertEqual(len(parse_addresses(read_bytes(text))), read_bytes(answer[9:]).count(b";") + 1)
+
+    def test_connections_by_addresses(self):
+        with tempfile.TemporaryDirectory() as folder, mock.patch.dict(os.environ, XDG_RUNTIME_DIR=folder):
+            name = f"dbus_wire {os.getpid()}"
+            for path, address in (
+                (f"{folder}/bus", "unix:runtime=yes"),
+                (f"{folder}/my bus", f"tcp:host=x;unix:path={folder}/none;unix:path={folder}/my%20bus"),
+                (f"\0{name}", f"unix:abstract={name.replace(' ', '%20')}"),
+            ):
+                with socket.socket(socket.AF_UNIX) as listening:
+                    listening.bind(path)
+                    listening.listen()
+                    connect(address).close()
+            both = f"unix:path={folder}/bus,abstract=x"
+            for address in ("tcp:host=x", "unix:", "unix:runtime=no", both, "unix:path=/a%00b"):
+                self.assertRaises(ConnectionError, connect, address)
 
     def serve_one(self, listening, server):
         """What a client sends after its handshake."""

@@ -96,7 +96,7 @@ class AtABus(unittest.TestCase):
 
     def test_service(self):
         listening = self.listen()
-        self.example("service.py", self.bus)
+        self.example("service.py", f"unix:path={self.folder.name}/none;tcp:host=x;unix:path={self.bus}")
         service, _ = listening.accept()
         with service:
             service.settimeout(20)
@@ -113,7 +113,7 @@ class AtABus(unittest.TestCase):
 
     def test_descriptors(self):
         listening = self.listen()
-        self.example("descriptors.py", self.bus)
+        self.example("descriptors.py", f"unix:path={self.bus}")
         service, _ = listening.accept()
         with service:
             service.settimeout(20)
@@ -166,7 +166,7 @@ class AtABus(unittest.TestCase):
 
         answering = threading.Thread(target=answer)
         answering.start()
-        self.example("proxy.py", self.door, self.bus, "member='Secret'", "arg0='secret'")
+        self.example("proxy.py", self.door, f"unix:path={self.bus}", "member='Secret'", "arg0='secret'")
         with connected(self.door) as client:
             Client(user=os.getuid()).shake_hands(client)
             with client.makefile("rb") as file:
@@ -185,8 +185,8 @@ class AtABus(unittest.TestCase):
     def test_both_at_a_dbus_daemon(self):
         self.start("dbus-daemon", "--session", "--nofork", f"--address=unix:path={self.bus}")
         connected(self.bus).close()
-        self.example("service.py", self.bus)
-        self.example("proxy.py", self.door, self.bus, "member='GetId'")
+        self.example("service.py", f"unix:path={self.folder.name}/none;tcp:host=x;unix:path={self.bus}")
+        self.example("proxy.py", self.door, f"unix:path={self.bus}", "member='GetId'")
         with connected(self.door) as client:
             Client(user=os.getuid()).shake_hands(client)
             with client.makefile("rb") as file:

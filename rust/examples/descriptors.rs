@@ -1,4 +1,4 @@
-//! Is the service org.example.Echo on the bus at a Unix socket, the first argument: it answers each
+//! Is the service org.example.Echo on the bus at an address, the first argument: it answers each
 //! call by the call's values and Unix file descriptors, of which a value of type `h` is an index.
 //! These come beside a message's first bytes, by sendmsg and recvmsg.
 
@@ -11,7 +11,7 @@ use std::os::unix::net::UnixStream;
 use std::ptr;
 
 use dbus_wire::{
-    build, reply_to, wanted, Body, Bounds, Client, Descriptors, External, Kind, Limits, Message, Order, Parts, Status,
+    build, connect, reply_to, wanted, Body, Bounds, Client, Descriptors, External, Kind, Limits, Message, Order, Parts, Status,
 };
 
 // As the C library has them on Linux, on 64-bit processors.
@@ -119,7 +119,7 @@ fn call<'a>(serial: u32, member: &'a str) -> Parts<'a> {
 }
 
 fn main() -> Result<(), Box<dyn Error>> {
-    let bus = UnixStream::connect(std::env::args().nth(1).ok_or("usage: descriptors SOCKET")?)?;
+    let bus = connect(&std::env::args().nth(1).ok_or("usage: descriptors ADDRESS")?)?;
     let limits = Limits { descriptors: Descriptors::BelowCount, ..Limits::default() };
     shake_hands(&bus)?;
     send(&bus, &build(&call(1, "Hello"), &limits)?, &[])?;

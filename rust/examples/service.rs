@@ -1,11 +1,11 @@
-//! Is the service org.example.Load on the bus at a Unix socket: Get returns this machine's load.
+//! Is the service org.example.Load on the bus at an address: Get returns this machine's load.
 
-use std::{collections::HashMap, error::Error, fs, io::Write, os::unix::net::UnixStream};
+use std::{collections::HashMap, error::Error, fs, io::Write};
 
-use dbus_wire::{messages, Bounds, Client, External, Kind, Parts, Value};
+use dbus_wire::{connect, messages, Bounds, Client, External, Kind, Parts, Value};
 
 fn main() -> Result<(), Box<dyn Error>> {
-    let mut bus = UnixStream::connect(std::env::args().nth(1).ok_or("usage: service SOCKET")?)?;
+    let mut bus = connect(&std::env::args().nth(1).ok_or("usage: service ADDRESS")?)?;
     let mut client = Client::new(Some(External::AsReported), None)?;
     client.set_bounds(Bounds { rejections: 6, errors: 6 });
     client.shake_hands(&bus)?;

@@ -1,4 +1,4 @@
-//! Why bytes are no message, and why a text is no match rule.
+//! Why bytes are no message, why a text is no match rule, and why it is no server addresses.
 
 use std::error::Error;
 use std::fmt;
@@ -106,6 +106,19 @@ reasons! {
     NotUtf8 = 8, "the text is not UTF-8";
 }
 
+reasons! {
+    /// Why a text of server addresses is refused. Its text is a sentence in English without its full
+    /// stop.
+    AddressReason:
+    TooLong = 1, "the text has more than 4,096 bytes";
+    Transport = 2, "a byte of a transport, or the ':' after it, has to come";
+    Key = 3, "a byte of a key, or the '=' after it, has to come";
+    Value = 4, "a value has a byte that has to be escaped";
+    Escape = 5, "a hexadecimal digit has to come after '%'";
+    KeyTwice = 6, "an address has a key twice";
+    Guid = 7, "the value of guid is not 32 hexadecimal digits";
+}
+
 impl fmt::Display for Reason {
     fn fmt(&self, f: &mut fmt::Formatter<'_>) -> fmt::Result {
         f.write_str(self.sentence())?;
@@ -122,6 +135,16 @@ impl fmt::Display for RuleReason {
         f.write_str(self.sentence())?;
         match self {
             RuleReason::Other(number) => write!(f, ": {number}"),
+            _ => Ok(()),
+        }
+    }
+}
+
+impl fmt::Display for AddressReason {
+    fn fmt(&self, f: &mut fmt::Formatter<'_>) -> fmt::Result {
+        f.write_str(self.sentence())?;
+        match self {
+            AddressReason::Other(number) => write!(f, ": {number}"),
             _ => Ok(()),
         }
     }
@@ -181,7 +204,7 @@ impl Error for ParseError {}
 
 #[cfg(test)]
 mod tests {
-    use super::{Reason, RuleReason};
+    use super::{AddressReason, Reason, RuleReason};
     use crate::sys;
 
     const HEADER: &str = include_str!("../include/dbus_wire.h");
@@ -227,5 +250,18 @@ mod tests {
         }
         assert_eq!(sentences.len(), sys::DBUS_WIRE_RULE_REASON_NOT_UTF8 as usize + 1);
         assert_eq!((name(0), RuleReason::Other(0).sentence()), (String::new(), sentences[0]));
+    }
+
+    #[test]
+    fn reasons_of_addresses_are_the_librarys_and_the_headers() {
+        let (sentences, name) =
+            (sentences("dbus_wire_address_reason_text"), |number| name(sys::dbus_wire_address_reason_name, number));
+        for number in 1..=sys::DBUS_WIRE_ADDRESS_REASON_GUID {
+            let reason = AddressReason::new(number, 0);
+            assert_eq!((reason.number(), format!("{reason:?}")), (number, name(number)));
+            assert_eq!(reason.sentence(), sentences[number as usize]);
+        }
+        assert_eq!(sentences.len(), sys::DBUS_WIRE_ADDRESS_REASON_GUID as usize + 1);
+        assert_eq!((name(0), AddressReason::Other(0).sentence()), (String::new(), sentences[0]));
     }
 }

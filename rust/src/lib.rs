@@ -37,6 +37,7 @@
 //!   owns the names that they ask for. Threads ask [`SharedRules`] at the same time.
 //! * [`Server`] and [`Client`] are the ends of the authentication handshake, and [`client_line`]
 //!   and [`server_line`] give the lines of one between others, which a [`Watch`] passes on.
+//! * [`parse_addresses`] reads server addresses, and [`connect`] connects to a bus by them.
 //! * [`Limits`] are those that a message has to keep, and a [`Fault`] says where and why bytes are
 //!   no message; [`explain`] says it for a reader, with the name of the place and the rule,
 //!   and [`whole_parts`] gives the header fields and the values of the body before the fault.
@@ -55,6 +56,7 @@
 //!
 //! [D-Bus Specification]: https://dbus.freedesktop.org/doc/dbus-specification.html
 
+mod address;
 mod bad_value;
 mod body;
 mod build;
@@ -76,13 +78,14 @@ mod typed;
 mod value;
 mod watch;
 
+pub use address::{connect, parse_addresses, Address, AddressFault};
 pub use bad_value::BadValue;
 pub use body::{Body, TooLong};
 pub use build::{build, rebuild, reply_to, BuildError, Parts};
 pub use check::{check, wanted, Answer, Order};
 pub use checker::{Checker, OutOfMemory, Taken};
 pub use explain::{explain, whole_parts, Explanation, InputPlace, StatedText};
-pub use fault::{Fault, ParseError, Reason, RuleReason};
+pub use fault::{AddressReason, Fault, ParseError, Reason, RuleReason};
 pub use handshake::{Bounds, Client, External, HandshakeError, Server, Status, Step};
 pub use json::LinePlace;
 pub use limits::{Descriptors, Limits};

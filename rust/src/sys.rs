@@ -120,6 +120,14 @@ pub const DBUS_WIRE_RULE_REASON_OPEN_QUOTE: u32 = 6;
 pub const DBUS_WIRE_RULE_REASON_BAD_VALUE: u32 = 7;
 pub const DBUS_WIRE_RULE_REASON_NOT_UTF8: u32 = 8;
 
+pub const DBUS_WIRE_ADDRESS_REASON_TOO_LONG: u32 = 1;
+pub const DBUS_WIRE_ADDRESS_REASON_TRANSPORT: u32 = 2;
+pub const DBUS_WIRE_ADDRESS_REASON_KEY: u32 = 3;
+pub const DBUS_WIRE_ADDRESS_REASON_VALUE: u32 = 4;
+pub const DBUS_WIRE_ADDRESS_REASON_ESCAPE: u32 = 5;
+pub const DBUS_WIRE_ADDRESS_REASON_KEY_TWICE: u32 = 6;
+pub const DBUS_WIRE_ADDRESS_REASON_GUID: u32 = 7;
+
 pub const DBUS_WIRE_EXTERNAL_AS_USER: u32 = 1;
 pub const DBUS_WIRE_EXTERNAL_AS_REPORTED: u32 = 2;
 
@@ -357,6 +365,15 @@ pub struct dbus_wire_line {
     pub text: dbus_wire_text,
 }
 
+#[repr(C)]
+#[derive(Clone, Copy, Debug, Default)]
+pub struct dbus_wire_addresses {
+    pub count: u64,
+    pub offset: u64,
+    pub reason: u32,
+    pub reserved: u32,
+}
+
 const _: () = assert!(size_of::<dbus_wire_limits>() == 16);
 const _: () = assert!(size_of::<dbus_wire_checked>() == 32);
 const _: () = assert!(size_of::<dbus_wire_text>() == 24);
@@ -381,6 +398,7 @@ const _: () = assert!(size_of::<dbus_wire_handshake>() == 8);
 const _: () = assert!(size_of::<dbus_wire_handshake_step>() == 16);
 const _: () = assert!(size_of::<dbus_wire_watch>() == 16);
 const _: () = assert!(size_of::<dbus_wire_line>() == 72);
+const _: () = assert!(size_of::<dbus_wire_addresses>() == 24);
 
 extern "C" {
     pub fn dbus_wire_version() -> u32;
@@ -593,5 +611,25 @@ extern "C" {
     pub fn dbus_wire_server_line(bytes: *const u8, length: usize, out: *mut dbus_wire_line) -> u32;
     pub fn dbus_wire_watch_client(watch: *mut dbus_wire_watch, bytes: *const u8, length: usize, out: *mut dbus_wire_line) -> u32;
     pub fn dbus_wire_watch_server(watch: *mut dbus_wire_watch, bytes: *const u8, length: usize, out: *mut dbus_wire_line) -> u32;
+    pub fn dbus_wire_address_check(text: *const u8, length: usize, out: *mut dbus_wire_addresses) -> u32;
+    pub fn dbus_wire_address_transport(
+        text: *const u8,
+        length: usize,
+        number: u64,
+        out: *mut u8,
+        room: usize,
+        count: *mut u64,
+    ) -> u32;
+    pub fn dbus_wire_address_value(
+        text: *const u8,
+        length: usize,
+        number: u64,
+        key: *const u8,
+        key_length: usize,
+        out: *mut u8,
+        room: usize,
+        count: *mut u64,
+    ) -> u32;
+    pub fn dbus_wire_address_reason_name(reason: u32, out: *mut u8, room: usize) -> usize;
     pub fn dbus_wire_reason_name(reason: u32, out: *mut u8, room: usize) -> usize;
 }

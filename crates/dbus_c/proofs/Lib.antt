@@ -10,3 +10,5 @@ pub mod WatchTelling
 mod FaultsTold
 mod Filled
 mod LinesRead
+mod RoomBytes
+mod ReadAddresses

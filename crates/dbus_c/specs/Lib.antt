@@ -14,3 +14,4 @@ pub mod JsonLines
 pub mod JsonReasons
 pub mod LinesRead
 pub mod Written
+pub mod Addresses

@@ -1,5 +1,6 @@
 //! The wire format for C: calls that a static library exports, over numbers and the caller's bytes.
-//! D-Bus Specification, "Message Protocol", "Match Rules" and "Authentication Protocol".
+//! D-Bus Specification, "Message Protocol", "Match Rules", "Authentication Protocol" and
+//! "Server Addresses".
 //!
 //! [`dbus_wire_check`] checks bytes, [`dbus_wire_wanted`] returns how many to read,
 //! [`dbus_wire_parts_of`] gives a message's parts, and [`dbus_wire_swap`] byteswaps.
@@ -15,6 +16,7 @@
 //! [`dbus_wire_server_new`] and [`dbus_wire_client_new`] make an end of a handshake;
 //! [`dbus_wire_client_line`] and [`dbus_wire_server_line`] give the lines of one between others, of
 //! which [`dbus_wire_watch_client`] and [`dbus_wire_watch_server`] say what to pass on;
+//! [`dbus_wire_address_check`] reads server addresses;
 //! [`dbus_wire_build`] builds a message of a draft, whose body [`dbus_wire_put_number`] and its
 //! like spell, [`dbus_wire_rebuild`] changes one, and [`dbus_wire_reply_to`] replies to one.
 //!
@@ -22,6 +24,8 @@
 //! `examples/c` has callers.
 #![tactic(auto)]
 
+mod address_reasons;
+mod addresses;
 mod answers;
 mod building;
 mod checkers;
@@ -51,6 +55,12 @@ mod whole_parts;
 mod writers;
 mod written;
 
+pub use address_reasons::{
+    address_names_are_texts, address_reason_number, dbus_wire_address_reason_name,
+};
+pub use addresses::{
+    AddressesTold, dbus_wire_address_check, dbus_wire_address_transport, dbus_wire_address_value,
+};
 pub use answers::{
     NO_CHECKER, NO_HANDSHAKE, NO_KIND, NO_MEMORY, NO_ROOM, NO_RULE, NO_VALUE, PARTIAL, REFUSED,
     SHARED, WAITS, WHOLE,

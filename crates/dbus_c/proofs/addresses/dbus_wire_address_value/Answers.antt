@@ -1,0 +1,23 @@
+use Rattle.std.proofs.Common.{Option, option_map, refl, sym, ap, ◌∙◌}
+use Rattle.dbus_address.specs.Views.{addresses_of, bytes_of}
+use Rattle.dbus_address.specs.declared.reading.ValueBytes.{ValueBytes}
+use Rattle.dbus_c.proofs.ReadAddresses.{is_refused, is_taken}
+use Rattle.dbus_c.proofs.addresses.dbus_wire_address_value.Goals as goal
+use Rattle.dbus_c.specs.Addresses.{found, missing, refused}
+
+pub returns-in-Some : goal.returns-in-Some
+returns-in-Some c =
+    found (addresses_of c.in-Ok.addresses) (bytes_of c.in-Some.value) (is_taken _ _ _ c.parse_addresses.ensures c.in-Ok.is)
+    (sym c.value_in.ensures ∙ ap (λ (v : Option ValueBytes). option_map bytes_of v) c.in-Some.is)
+    c.write_value.ensures
+
+pub returns-in-None : goal.returns-in-None
+returns-in-None c =
+    missing (addresses_of c.in-Ok.addresses) (is_taken _ _ _ c.parse_addresses.ensures c.in-Ok.is)
+    (sym c.value_in.ensures ∙ ap (λ (v : Option ValueBytes). option_map bytes_of v) c.in-None.is)
+    refl refl refl
+
+pub returns-in-Err : goal.returns-in-Err
+returns-in-Err c =
+    let fault = c.in-Err.field-0 in
+    refused fault.reason fault.at (is_refused _ _ _ c.parse_addresses.ensures c.in-Err.is) refl refl refl
