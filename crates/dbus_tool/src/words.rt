@@ -2,7 +2,7 @@
 ghost use Rattle.std.specs.Prelude.{◌≡◌, ◌&&◌, map, string_bytes};
 ghost use Rattle.cli_report.specs.Devices.{writing};
 ghost use Rattle.dbus_tool.specs.Handshaking.{Shows, TakesHandshake, TellsHandshake, Lists, ahead};
-ghost use Rattle.dbus_tool.specs.Words.{DoesCalls, DoesTask, Notes, RefusesRule, RunsWords, ShowsText, calls_wanted, encoding_wanted, table_form};
+ghost use Rattle.dbus_tool.specs.Words.{Does, DoesCalls, DoesTask, Notes, RefusesRule, RunsWords, ShowsText, calls_wanted, encoding_wanted, table_form};
 
 use crate::lines::handshake_line;
 use crate::listing::write_lines;
@@ -77,7 +77,22 @@ pub fn run_words<R: Source, W: Sink, E: Sink>(
         (writing E.held E.failures second.old second.new)
         (map string_bytes words.now) result }
 {
-    match command_of(alloc, words) {
+    run_asked(alloc, command_of(alloc, words), reader, first, second)
+}
+
+/// Does what [`run_words`] does for words of which [`command_of`] returned this.
+pub fn run_asked<R: Source, W: Sink, E: Sink>(
+    alloc: Global,
+    answer: Result<Asked, UsageFault>,
+    reader: &mut ReadAhead<R>,
+    first: &mut W,
+    second: &mut E,
+) -> ExitStatus
+    ensures { Does R.left R.calls R.failures R.packets R.packet reader.old reader.new
+        (writing W.held W.failures first.old first.new)
+        (writing E.held E.failures second.old second.new) answer result }
+{
+    match answer {
         Ok(Asked::Messages(command, settings)) => {
             match note_owners(command.lacks_owner(), settings, second) {
                 Ok(()) => do_task(alloc, Task::Run(command), settings, reader, first, second),

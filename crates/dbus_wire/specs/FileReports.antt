@@ -1,9 +1,9 @@
 -- What the program says of a file that holds the messages, as pcap or pcapng: how many packets it
 -- passed over since they were cut, and the fault of the file, if it has one.
-use Rattle.std.specs.Prelude.{◌≡◌, ℕ, zero, suc, ◌⊎◌, ◌++◌, ◌==◌, if◌then◌else◌, ◌||◌, nat_eq, Bool, false, List, [], Option, Some, None, Result, Ok, Err, Vec, String, codes, decimal, drop, string_bytes}
-use Rattle.std.specs.List.{list_any, starts_with}
-use Rattle.std.specs.Str.{bytes_eq}
-use Rattle.std.specs.declared.alloc.Global.{Global}
+use Rattle.std.specs.Prelude.{◌≡◌, ℕ, zero, suc, ◌⊎◌, ◌++◌, ◌==◌, if◌then◌else◌, Bool, true, false, List, [], Option, Some, None, Result, Ok, Err, codes, decimal}
+use Rattle.cli_options.specs.declared.asked.Asked.{Asked}
+use Rattle.cli_options.specs.declared.asked.Asked.TheVariants.{Messages, Count, List as Listing, Calls, Encode}
+use Rattle.cli_options.specs.declared.usage_fault.UsageFault.{UsageFault}
 use Rattle.cli_report.specs.declared.ending.Cause.TheVariants as cause
 use Rattle.cli_report.specs.declared.ending.ExitStatus.{ExitStatus}
 use Rattle.cli_report.specs.declared.ending.ExitStatus.TheVariants as status
@@ -11,24 +11,18 @@ use Rattle.dbus_capture.specs.CaptureTexts.{capture_reason_text}
 use Rattle.dbus_capture.specs.declared.fault.CaptureFault.{CaptureFault}
 use Rattle.dbus_tool.specs.Handshaking.{Shows, StopsBy}
 
--- one of the words asks to keep going: it does, or begins as `--resync` and `--resync-window` do
-abbrev pub keep_going : List (String Global) → Bool
-keep_going words = list_any (λ w. bytes_eq (string_bytes w) (codes "--keep-going") || starts_with nat_eq (string_bytes w) (codes "--resync")) words
+-- standard input is lines: the words ask for `encode`
+abbrev pub takes_lines : Result Asked UsageFault → Bool
+takes_lines (Ok (Encode wanted)) = true
+takes_lines answer = false
 
--- packets that were cut are passed over: the words are there, and those after the program's name
--- ask for it
-abbrev pub passes_cut : {A : Type 0} → Result (Vec (String Global) Global) A → Bool
-passes_cut (Ok words) = keep_going (drop 1 words.items)
-passes_cut (Err error) = false
-
--- one of the words is the command that reads lines, which no other command takes
-abbrev pub reads_lines : List (String Global) → Bool
-reads_lines words = list_any (λ w. bytes_eq (string_bytes w) (codes "encode")) words
-
--- standard input is lines: the words are there, and those after the program's name say so
-abbrev pub takes_lines : {A : Type 0} → Result (Vec (String Global) Global) A → Bool
-takes_lines (Ok words) = reads_lines (drop 1 words.items)
-takes_lines (Err error) = false
+-- packets that were cut are passed over: they ask for a command over messages that keeps going
+abbrev pub passes_cut : Result Asked UsageFault → Bool
+passes_cut (Ok (Messages command settings)) = settings.keeps_going
+passes_cut (Ok (Count settings)) = settings.keeps_going
+passes_cut (Ok (Listing settings wanted)) = settings.keeps_going
+passes_cut (Ok (Calls settings wanted)) = settings.keeps_going
+passes_cut answer = false
 
 -- how many packets were passed over
 abbrev pub cut_line : ℕ → List ℕ

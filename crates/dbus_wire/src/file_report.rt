@@ -1,6 +1,6 @@
 //! What is said of the file that holds the messages.
-ghost use Rattle.std.specs.Prelude.{◌≡◌, IfOk, drop, string_bytes};
-ghost use Rattle.dbus_wire.specs.FileReports.{TellsFile, TellsLines, keep_going, reads_lines, file_text, cut_line};
+ghost use Rattle.std.specs.Prelude.{◌≡◌, IfOk, string_bytes};
+ghost use Rattle.dbus_wire.specs.FileReports.{TellsFile, TellsLines, cut_line, file_text};
 
 use crate::tell;
 use cli_report::{Cause, give_up};
@@ -8,31 +8,6 @@ use dbus_capture::CaptureFault;
 use dbus_stream::Sink;
 use dbus_tool::ExitStatus;
 use std::alloc::{AllocError, Global};
-
-// The words after the first, which is the program's name.
-pub(crate) fn after_name(words: &[String]) -> &[String]
-    ensures { result.now ≡ drop 1 words.now }
-{
-    match words {
-        [_name, rest @ ..] => rest,
-        [] => words,
-    }
-}
-
-// Whether one of the words asks to keep going, so that packets that were cut are passed over.
-pub(crate) fn keep_going(words: &[String]) -> bool
-    ensures { result ≡ keep_going words.now }
-{
-    words.iter().any(|word| word.as_str() == "--keep-going"
-        || word.as_bytes().starts_with(b"--resync"))
-}
-
-// Whether one of the words is `encode`, which reads lines. No other command takes that word.
-pub(crate) fn reads_lines(words: &[String]) -> bool
-    ensures { result ≡ reads_lines words.now }
-{
-    words.iter().any(|word| word.as_str() == "encode")
-}
 
 // After a run that read all that the file gives, writes how many packets were passed over since
 // they were cut, if any were, and why no more can be read of it, if it has a fault: the input is

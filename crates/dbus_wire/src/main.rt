@@ -13,7 +13,9 @@
 //! made, or memory ran out.
 #![tactic(auto)]
 
-ghost use Rattle.std.specs.Prelude.{◌≡◌, map, string_bytes, IfErr, IfOk};
+ghost use Rattle.std.specs.Prelude.{◌≡◌, map, string_bytes, IfOk};
+ghost use Rattle.cli_options.specs.Named.{IsNamedBy};
+ghost use Rattle.cli_options.specs.Told.{TellsFault};
 ghost use Rattle.std.specs.IoError.{error_kind};
 ghost use Rattle.cli_report.specs.Devices.{writing};
 ghost use Rattle.dbus_tool.specs.Handshaking.{Shows};
@@ -25,27 +27,26 @@ mod file_report;
 
 use dbus_capture::Capture;
 use dbus_stream::{FromRead, FromWrite, Sink, Source, WrittenOnly, write_all};
-use dbus_tool::{ExitStatus, ReadAhead, run_words};
-use file_report::{after_name, keep_going, reads_lines, tell_file};
+use dbus_tool::{Asked, ExitStatus, ReadAhead, UsageFault, command_of, run_asked};
+use file_report::tell_file;
 use std::alloc::Global;
 use std::io::ErrorKind;
 use std::process::ExitCode;
 use std::{env, io};
 
 fn main(rt: HostRuntime) -> ExitCode {
-    let words = words_of(&rt);
     let mut first = FromWrite::new(rt.stdout());
     let mut second = FromWrite::new(rt.stderr());
-    if takes_lines(&words) {
-        let mut reader = ReadAhead::new(FromRead::new(rt.stdin()));
-        let status = run(rt.alloc(), words, &mut reader, &mut first, &mut second);
-        return ExitCode::from(status.code());
-    }
-    let mut capture = Capture::new(FromRead::new(rt.stdin()), passes_cut(&words));
-    let mut reader = ReadAhead::new(&mut capture);
-    let status = run(rt.alloc(), words, &mut reader, &mut first, &mut second);
-    let (cut, fault) = (capture.cut_packets(), capture.fault());
-    let status = tell_file(rt.alloc(), cut, fault, status, &mut second);
+    let status = match words_of(&rt) {
+        Ok(words) => run(
+            rt.alloc(),
+            words.as_slice(),
+            FromRead::new(rt.stdin()),
+            &mut first,
+            &mut second,
+        ),
+        Err(error) => tell_no_words(error.kind(), &mut second),
+    };
     ExitCode::from(status.code())
 }
 
@@ -54,45 +55,65 @@ fn words_of(rt: &HostRuntime) -> io::Result<Vec<String>> {
     Ok(env::args(rt)?.collect(rt.alloc())?)
 }
 
-// Whether packets that were cut are passed over: if a word asks to keep going.
-fn passes_cut(words: &io::Result<Vec<String>>) -> bool
-    ensures { result ≡ passes_cut words.now }
-{
-    match words {
-        Ok(words) => keep_going(after_name(words.as_slice())),
-        Err(_) => false,
-    }
-}
-
-// Whether standard input is lines: no file of packets, also if its first bytes are those of one.
-fn takes_lines(words: &io::Result<Vec<String>>) -> bool
-    ensures { result ≡ takes_lines words.now }
-{
-    match words {
-        Ok(words) => reads_lines(after_name(words.as_slice())),
-        Err(_) => false,
-    }
-}
-
-// Does what the words say, or says why they are not there.
-fn run<R: Source, W: Sink, E: Sink>(
+// Does what the words ask for with an input, of which the packets are read if it is a file of them,
+// and says then what is wrong with the file; but `encode` reads lines, also if they begin as one.
+fn run<R: Source + Drop, W: Sink, E: Sink>(
     alloc: Global,
-    words: io::Result<Vec<String>>,
+    words: &[String],
+    input: R,
+    first: &mut W,
+    second: &mut E,
+) -> ExitStatus {
+    let asked = command_of(alloc, words);
+    if takes_lines(&asked) {
+        let mut reader = ReadAhead::new(input);
+        return run_on(alloc, words, asked, &mut reader, first, second);
+    }
+    let mut capture = Capture::new(input, passes_cut(&asked));
+    let mut reader = ReadAhead::new(&mut capture);
+    let status = run_on(alloc, words, asked, &mut reader, first, second);
+    let (cut, fault) = (capture.cut_packets(), capture.fault());
+    tell_file(alloc, cut, fault, status, second)
+}
+
+// Does what these words ask for, as they were read.
+fn run_on<R: Source, W: Sink, E: Sink>(
+    alloc: Global,
+    _words: &[String],
+    asked: Result<Asked, UsageFault>,
     reader: &mut ReadAhead<R>,
     first: &mut W,
     second: &mut E,
 ) -> ExitStatus
-    ensures runs { IfOk words (λ said. RunsWords R.left R.calls R.failures R.packets
-        R.packet reader.old reader.new
+    requires named { IfOk asked (IsNamedBy (map string_bytes _words.now)) }
+    requires faults { TellsFault (map string_bytes _words.now) asked }
+    ensures { RunsWords R.left R.calls R.failures R.packets R.packet reader.old reader.new
         (writing W.held W.failures first.old first.new)
         (writing E.held E.failures second.old second.new)
-        (map string_bytes said.items) result) }
-    ensures tells { IfErr words (λ error. (reader.new ≡ reader.old) × (first.new ≡ first.old) ×
-        TellsNoWords E.held E.failures second.old second.new (error_kind error) result) }
+        (map string_bytes _words.now) result }
 {
-    match words {
-        Ok(words) => run_words(alloc, words.as_slice(), reader, first, second),
-        Err(error) => tell_no_words(error.kind(), second),
+    run_asked(alloc, asked, reader, first, second)
+}
+
+// Whether standard input is lines: no file of packets, also if its first bytes are those of one.
+fn takes_lines(asked: &Result<Asked, UsageFault>) -> bool
+    ensures { result ≡ takes_lines asked.now }
+{
+    matches!(asked, Ok(Asked::Encode(_)))
+}
+
+// Whether packets that were cut are passed over: if the command keeps going.
+fn passes_cut(asked: &Result<Asked, UsageFault>) -> bool
+    ensures { result ≡ passes_cut asked.now }
+{
+    match asked {
+        Ok(
+            Asked::Messages(_, settings)
+            | Asked::Count(settings)
+            | Asked::List(settings, _)
+            | Asked::Calls(settings, _),
+        ) => settings.keeps_going,
+        Ok(Asked::Encode(_) | Asked::Handshake(_)) | Err(_) => false,
     }
 }
 
