@@ -28,7 +28,8 @@
 # make crate       packs the crate for Rust, and builds what it packed, in out/; CARGO_PACKAGE_FLAGS=--allow-dirty if not all is committed
 # make test-crate  runs the tests that are packed with it, from a folder of their own
 # make test-completions loads the completions in bash, zsh and fish, and compares what each completes with the texts of help
-# make page        proves and builds the module of the page for browsers, and puts the page together in out/dbus-wire.html, which opens from the disk
+# make page        proves and builds the module of the page for browsers, and puts the page together in out/dbus-wire.html, which opens from the disk,
+#                  and in docs/index.html, which git ignores, so that to host the folder is to publish it
 # make test-page   compares what the page gives of the samples and cases with what dbus-wire writes: by its module in Node, of version 20 at least, and by
 #                  the page in a headless Chromium, of version 133 at least, if there is one; BROWSER names another
 # make test-memory runs dbus-wire failing each of its allocations in turn
@@ -196,6 +197,7 @@ page: kit
 	web/module.py $(MODULE)
 	packaging/notices.py $(PAGE_NOTICES) dbus_page
 	web/build.py $(MODULE) $(PAGE_NOTICES) $(PAGE)
+	cp $(PAGE) docs/index.html
 
 test-page: build page
 	web/test.py $(PROGRAM) $(MODULE) $(PAGE)

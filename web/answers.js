@@ -4,18 +4,18 @@
 // is still an experiment.
 
 const fs = require("node:fs");
-const { Reader, answersOf, entries } = require("./reader.js");
+const { Reader, entries } = require("./reader.js");
 const { readRule, matchesRule } = require("./rule.js");
 const { handshakeLength } = require("./side.js");
-const { Tables } = require("./tables.js");
+const { Rows, answersOf } = require("./tables.js");
 
 const compiled = new WebAssembly.Module(fs.readFileSync(process.argv[2]));
 
 // The numbers of the messages that match, or why the rule is none.
-function matching(reader, text) {
+function matching(rows, text) {
   try {
     const pairs = readRule(text);
-    return [...entries(reader)].filter((it) => it.isWhole && matchesRule(pairs, reader.json(it.number, it.offset, it.length))).map((it) => it.number);
+    return [...Array(rows.count).keys()].filter((it) => rows.at(it).isWhole && matchesRule(pairs, rows.json(it))).map((it) => it + 1);
   } catch (fault) {
     return fault.message;
   }
@@ -26,8 +26,11 @@ function answer(data, rule) {
   if (skipped === null) {
     return null;
   }
-  const reader = new Reader(new WebAssembly.Instance(compiled), data.subarray(skipped));
-  return { ...answersOf(reader, new Tables(reader)), matching: rule === undefined ? null : matching(reader, rule) };
+  const reader = new Reader(compiled, data.subarray(skipped)), rows = new Rows(reader);
+  for (const entry of entries(reader)) {
+    rows.learn(rows.add(entry));
+  }
+  return { ...answersOf(reader, rows), matching: rule === undefined ? null : matching(rows, rule) };
 }
 
 for (const line of fs.readFileSync(0, "latin1").split("\n").slice(0, -1)) {

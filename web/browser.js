@@ -78,12 +78,12 @@ class Browser {
     if (await this.value("find('count').textContent === ''")) {
       return null;
     }
-    const answers = JSON.parse(await this.value(`JSON.stringify({ ...answersOf(state.reader, new Tables(state.reader)), seen: ["n", "End"].map((key) => {
+    const answers = JSON.parse(await this.value(`JSON.stringify({ ...answersOf(state.reader, state.rows), seen: ["n", "End"].map((key) => {
       find("list").dispatchEvent(new KeyboardEvent("keydown", { key, bubbles: true }));
       const row = find(\`row-\${state.active}\`);
       return row ? [[...row.children].map((cell) => cell.textContent), find("details").querySelector("pre").textContent, find("details").querySelector(".line").textContent] : null;
     }) })`));
-    return { ...answers, ...(await this.shownBy("type='method_call'", "DBus")) };
+    return { ...answers, ...(await this.shownBy("type='method_call'", "DBus")), chosen: await this.chosen() };
   }
 
   // The numbers of the messages that are shown by a match rule and a word; what is saved of them; and their command.
@@ -91,10 +91,24 @@ class Browser {
     return this.value(`(async () => {
       [find("rule").value, find("words").value] = ${JSON.stringify([rule, word])};
       await filter();
-      const calls = state.shown.map((it) => state.rows[it]).filter((it) => it.isWhole).map((it) => it.number);
+      const calls = state.shown.map((it) => state.rows.at(it)).filter((it) => it.isWhole).map((it) => it.number);
       const shown = { calls, saved: [...new Uint8Array(await pcap().arrayBuffer())], command: command() };
       find("rule").value = find("words").value = "";
       return shown;
+    })()`);
+  }
+
+  // The numbers of the calls that each choice shows, by the words of `calls`, and the table of members.
+  async chosen() {
+    return this.value(`(async () => {
+      const chosen = {};
+      for (const choice of [...Object.keys(CALLS), ""]) {
+        find("only").value = choice;
+        await filter();
+        chosen[CALLS[choice] ?? "all"] = state.shown.map((it) => it + 1);
+      }
+      await members();
+      return { ...chosen, all: undefined, members: find("details").querySelector("pre").textContent };
     })()`);
   }
 }

@@ -2,9 +2,10 @@
 
 const ROW_HEIGHT = 26, NARROW_ROW_HEIGHT = 48;
 const MOST_LIST_HEIGHT = 8e6;
-const TURN_MILLISECONDS = 24;
+const TURN_MILLISECONDS = 80;
 const HEX_BYTES = 16, HEX_LINES = 48;
-const MOST_LIFELINES = 8, LIFELINE_GAP = 24;
+const MOST_LIFELINES = 8, LIFELINE_GAP = 24, MOST_SAMPLED = 5000;
+const NANOSECONDS = 1_000_000_000n;
 // As many cells as the line of a row has at least, and the width of one.
 const LEAST_CELLS = 100, CELL_WIDTH = 8.5;
 const COLUMNS = ["number", "time", "sender", "destination", "arrow", "info", "size"];
@@ -12,33 +13,32 @@ const COLUMNS = ["number", "time", "sender", "destination", "arrow", "info", "si
 const PARTS = /^ *(?<number>\d+) ((?<time>\S+:\S+) )? *(?<size>\d+) (?<sender>\S+) +> (?<destination>\S+) +(?<info>.+)/s;
 
 const find = (id) => document.getElementById(id);
-const state = { module: null, reader: null, name: "", side: "", rows: [], shown: [], words: [], rule: null, skipped: 0, active: -1, run: 0, isReading: false, texts: new Map(), peers: new Map(), lifelines: [], tables: null };
+const state = { module: null, reader: null, rows: null, shown: [], active: -1, run: 0, isReading: false, lifelines: [] };
 
 // ---- Reading
 
+// A file that begins as gzip does is unpacked first.
 async function readFile(file) {
-  readBytes(new Uint8Array(await file.arrayBuffer()), file.name);
+  const [first, second] = new Uint8Array(await file.slice(0, 2).arrayBuffer());
+  const isGzip = first === 0x1f && second === 0x8b;
+  const body = isGzip ? new Response(file.stream().pipeThrough(new DecompressionStream("gzip"))) : file;
+  const notRead = (error) => tell(`${file.name} was not read: ${error.message}`);
+  await body.arrayBuffer().then((it) => readBytes(new Uint8Array(it), file.name, isGzip), notRead);
 }
 
-async function readBytes(bytes, name) {
+async function readBytes(bytes, name, isGzip = false) {
   const run = (state.run += 1);
   state.isReading = true;
-  tell(`Reading ${name} …`);
   try {
-    const skipped = handshakeLength(bytes);
-    if (skipped === null) {
-      throw new Error("it begins as one side of a connection, but its handshake is at fault");
-    }
-    const instance = await WebAssembly.instantiate(state.module);
-    if (run !== state.run) {
-      return;
-    }
-    const reader = new Reader(instance, bytes.subarray(skipped));
-    const side = skipped === 0 ? "" : bytes[0] === 0 ? "client" : "server";
-    Object.assign(state, { reader, name, side, skipped, rows: [], shown: [], active: -1, texts: new Map(), peers: new Map(), lifelines: [], tables: new Tables(reader) });
-    find("details").replaceChildren();
-    draw();
-    await inTurns(run, entries(reader), (entry) => addRow(entry));
+    openInput(bytes, name);
+    state.isGzip = isGzip;
+    const { reader, rows } = state;
+    const far = (what, part, all) => tell(`${what} ${name}: ${percent(part, all)}, ${rows.count} messages`);
+    const show = (entry) => state.shown.push(rows.add(entry));
+    await inTurns(run, entries(reader), show, (it) => far("Reading", it.offset + it.length, reader.length));
+    // The list is there; then its lines get what other messages tell.
+    const learn = (row) => rows.learn(row);
+    await inTurns(run, Array(rows.count).keys(), learn, (row) => far("Joining calls and replies of", row, rows.count));
   } catch (error) {
     state.isReading = run !== state.run;
     tell(`${name} was not read: ${error.message}`);
@@ -53,12 +53,29 @@ async function readBytes(bytes, name) {
   }
 }
 
-// Hands each item on, and lets the page be drawn between. It stops once another run has begun.
-async function inTurns(run, items, take) {
+// The bytes are let go once the module has them.
+function openInput(bytes, name) {
+  const skipped = handshakeLength(bytes);
+  if (skipped === null) {
+    throw new Error("it begins as one side of a connection, but its handshake is at fault");
+  }
+  const side = skipped === 0 ? "" : bytes[0] === 0 ? "client" : "server";
+  const reader = new Reader(state.module, bytes.subarray(skipped));
+  bytes.buffer.transfer?.(0);
+  Object.assign(state, { reader, name, side, skipped, rows: new Rows(reader), shown: [], active: -1, lifelines: [] });
+  find("details").replaceChildren();
+  draw();
+}
+
+const percent = (part, all) => `${Math.floor((100 * part) / all)} %`;
+
+// Hands each item on, and between them tells how far it is and draws. It stops once another run has begun.
+async function inTurns(run, items, take, tellItem) {
   let end = performance.now() + TURN_MILLISECONDS;
   for (const item of items) {
     take(item);
     if (performance.now() > end) {
+      tellItem(item);
       draw();
       await new Promise((resume) => setTimeout(resume));
       if (run !== state.run) {
@@ -71,108 +88,69 @@ async function inTurns(run, items, take) {
   return true;
 }
 
-function addRow(entry) {
-  const row = entry.isWhole ? messageRow(entry) : refusedRow(entry);
-  row.index = state.rows.length;
-  state.rows.push(row);
-  state.shown.push(row.index);
-}
-
-// Texts that come often are kept once.
-function kept(text) {
-  if (!state.texts.has(text)) {
-    state.texts.set(text, text);
-  }
-  return state.texts.get(text);
-}
-
-// A bus name, with how often it comes.
-function peer(name) {
-  if (name) {
-    state.peers.set(name, (state.peers.get(name) ?? 0) + 1);
-  }
-  return kept(name);
-}
-
-function lineOf(row) {
-  return state.reader.json(row.number, row.offset, row.length);
-}
-
-function messageRow(entry) {
-  const said = JSON.parse(lineOf(entry));
-  const row = {
-    ...entry,
-    kind: kept(String(said.type)),
-    sender: peer(said.sender ?? ""),
-    destination: peer(said.destination ?? ""),
-    time: said.time ?? "",
-    reply: null,
-    call: null,
-    beside: state.tables.take(entry, said),
-  };
-  if (row.beside.call) {
-    // Joins a reply to the call that it answers. The messages and refusals are counted from 1, and each has a row.
-    row.call = row.beside.call.number - 1;
-    state.rows[row.call].reply = row.number - 1;
-  }
-  return row;
-}
-
-function refusedRow(entry) {
-  const kind = entry.isPartial ? "cut off" : "refused";
-  return { ...entry, kind, sender: "", destination: "", time: "", reply: null, call: null };
-}
-
 // What dbus-wire writes of a row: the line of `list` of so many cells, or that of a refusal.
-function listed(row, cells = 0) {
+function listed(row, said, cells = 0) {
   if (row.isWhole) {
-    return state.reader.line(row.number, row.offset, row.length, row.beside, cells).slice(0, -1);
+    return state.rows.line(row.index, said, cells).slice(0, -1);
   }
-  const { number, offset, at } = row;
-  return `refused at ${offset + at}: ${state.reader.reason(offset)} in message ${number} at ${offset}`;
+  const { number, offset } = row, at = offset + state.reader.next(offset).at;
+  return `refused at ${at}: ${state.reader.reason(offset)} in message ${number} at ${offset}`;
 }
 
 function tellEnd(name) {
-  const bad = state.rows.filter((it) => !it.isWhole).length;
+  const { bad, count } = state.rows;
   const fault = state.reader.fileFault;
-  const parts = [`${name}: ${state.rows.length - bad} messages, ${state.reader.length} bytes`];
-  if (state.skipped) {
-    parts.push(`after a handshake of ${state.skipped} bytes`);
-  }
-  if (bad) {
-    parts.push(`${bad} refused or cut off`);
-  }
-  if (fault !== null) {
-    parts.push(`the capture file is at fault at byte ${fault}`);
-  }
-  if (state.rows.length === 0) {
-    parts.push("to record some, run dbus-monitor --session --pcap > FILE, and end it by Ctrl+C");
-  }
-  tell(parts.join("; "));
+  const parts = [
+    `${name}: ${count - bad} messages, ${state.reader.length} bytes`,
+    state.skipped && `after a handshake of ${state.skipped} bytes`,
+    bad && `${bad} refused or cut off, ${state.rows.passed} bytes passed over`,
+    fault !== null && `the capture file is at fault at byte ${fault}`,
+    count === 0 && "to record some, run dbus-monitor --session --pcap > FILE, and end it by Ctrl+C",
+  ];
+  tell(parts.filter((it) => it).join("; "));
 }
 
 // ---- Filtering
 
-// Of a message, all words have to be in its line of JSON, and the rule has to match it; of what is refused, all words in its explanation.
+// Which rows each choice shows, if the words and the rule select them, or one that they select is their call or reply.
+const CHOICES = {
+  "": () => true,
+  pairs: () => true,
+  slow: (it) => it.isCall && took(it) > 0n,
+  open: ({ isCall, pair }) => isCall && pair < 0,
+  errors: ({ isCall, pair }) => isCall && pair >= 0 && state.rows.at(pair).isError,
+};
+// How `calls` names them.
+const CALLS = { slow: "--slower 0", open: "--unanswered", errors: "--errors" };
+
+// All words have to be in the line of JSON of a message, and the rule has to match it; or in an explanation.
 async function filter() {
   readFilters();
   if (state.isReading) {
     // All of it is filtered once it is read.
     return;
   }
-  const run = (state.run += 1);
-  const rows = state.rows;
+  const run = (state.run += 1), count = countRows(), only = find("only").value;
   state.shown = [];
   state.active = -1;
-  const isDone = await inTurns(run, rows, (row) => {
-    if (isWanted(row)) {
-      state.shown.push(row.index);
+  const isDone = await inTurns(run, Array(count).keys(), (row) => {
+    const it = state.rows.at(row);
+    if (CHOICES[only](it) && (isWanted(row) || (only === "pairs" && it.pair >= 0 && isWanted(it.pair)))) {
+      state.shown.push(row);
     }
-  });
+  }, (row) => tellShown(`, ${percent(row, count)} looked at`));
+  if (isDone && only === "slow") {
+    const times = new Map(state.shown.map((it) => [it, Number(took(state.rows.at(it)))]));
+    state.shown.sort((a, b) => times.get(b) - times.get(a));
+    draw();
+  }
   if (isDone) {
-    find("count").textContent = `${state.shown.length} of ${rows.length} shown`;
+    tellShown("");
   }
 }
+
+const countRows = () => state.rows?.count ?? 0;
+const tellShown = (more) => (find("count").textContent = `${state.shown.length} of ${countRows()} shown${more}`);
 
 // A rule that is at fault is told, and selects nothing out.
 function readFilters() {
@@ -191,39 +169,30 @@ function isWanted(row) {
   if (state.words.length === 0 && !state.rule?.length) {
     return true;
   }
-  const line = textOf(row), text = line.toLowerCase();
-  return state.words.every((it) => text.includes(it)) && (!row.isWhole || !state.rule || matchesRule(state.rule, line));
+  const line = textOf(row), text = state.words.length ? line.toLowerCase() : "";
+  const isMatch = () => !state.rule || !state.rows.at(row).isWhole || matchesRule(state.rule, line);
+  return state.words.every((it) => text.includes(it)) && isMatch();
 }
 
 function textOf(row) {
-  return row.isWhole ? lineOf(row) : state.reader.explain(row.number, row.offset);
+  const { isWhole, offset } = state.rows.at(row);
+  return isWhole ? state.rows.json(row) : state.reader.explain(row + 1, offset);
 }
 
 // ---- The list
 
 // On a narrow screen a row has two lines.
-function rowHeight() {
-  return matchMedia("(max-width: 40em)").matches ? NARROW_ROW_HEIGHT : ROW_HEIGHT;
-}
+const rowHeight = () => (matchMedia("(max-width: 40em)").matches ? NARROW_ROW_HEIGHT : ROW_HEIGHT);
 
 // The browser bounds the height of an element, so that many rows share it.
-function listHeight() {
-  return Math.min(state.shown.length * rowHeight(), MOST_LIST_HEIGHT);
-}
+const listHeight = () => Math.min(state.shown.length * rowHeight(), MOST_LIST_HEIGHT);
 
 // How much of the list is seen below its head.
-function viewHeight() {
-  return Math.max(0, find("list").clientHeight - find("head").offsetHeight);
-}
-
-function wholeRows() {
-  return Math.max(1, Math.floor(viewHeight() / rowHeight()));
-}
+const viewHeight = () => Math.max(0, find("list").clientHeight - find("head").offsetHeight);
+const wholeRows = () => Math.max(1, Math.floor(viewHeight() / rowHeight()));
 
 // The last row that may be the first one that is seen.
-function lastTop() {
-  return Math.max(0, state.shown.length - wholeRows());
-}
+const lastTop = () => Math.max(0, state.shown.length - wholeRows());
 
 function firstRow() {
   const way = listHeight() - viewHeight();
@@ -233,7 +202,7 @@ function firstRow() {
 function draw() {
   const list = find("list"), first = firstRow();
   find("space").style.height = `${listHeight()}px`;
-  const rows = state.shown.slice(first, first + wholeRows() + 1).map((index, at) => rowElement(state.rows[index], first + at));
+  const rows = state.shown.slice(first, first + wholeRows() + 1).map((row, at) => rowElement(seenOf(row), first + at));
   const top = Math.min(list.scrollTop, Math.max(0, listHeight() - rows.length * rowHeight()));
   find("seen").style.transform = `translateY(${top}px)`;
   find("seen").replaceChildren(...rows);
@@ -249,6 +218,16 @@ function element(tag, text, attributes = {}, made = document.createElement(tag))
   return made;
 }
 
+// What is read of a row when it is seen.
+function seenOf(index) {
+  const row = state.rows.at(index);
+  if (!row.isWhole) {
+    return { ...row, kind: row.isPartial ? "cut off" : "refused" };
+  }
+  const said = state.rows.said(index);
+  return { ...row, said, kind: said.type, time: said.time, sender: said.sender, destination: said.destination };
+}
+
 // What the cells of a row have. The diagram has a line for the names that come most, and others are told.
 function cellsOf(row) {
   if (!row.isWhole) {
@@ -256,10 +235,11 @@ function cellsOf(row) {
   }
   const width = Math.max(LEAST_CELLS, Math.floor(find("list").clientWidth / CELL_WIDTH));
   // Long names leave no room for the rest.
-  const parts = (PARTS.exec(listed(row, width)) ?? PARTS.exec(listed(row))).groups;
+  const parts = (PARTS.exec(listed(row, row.said, width)) ?? PARTS.exec(listed(row, row.said))).groups;
   const isDrawn = [row.sender, row.destination].every((it) => !it || state.lifelines.includes(it));
   const names = find("diagram").checked && !isDrawn ? `${parts.sender} > ${parts.destination} ` : "";
-  return { ...parts, info: names + parts.info };
+  const time = find("only").value && row.isCall ? took(row) : null;
+  return { ...parts, info: `${time === null ? "" : `${milliseconds(time)} ms  `}${names}${parts.info}` };
 }
 
 function rowElement(row, place) {
@@ -283,7 +263,7 @@ function choose(place) {
   state.active = place;
   scrollTo(place);
   draw();
-  openRow(state.rows[state.shown[place]]);
+  openRow(state.shown[place]);
 }
 
 function scrollTo(place) {
@@ -316,46 +296,88 @@ function pressKey(event) {
 function pressAnyKey(event) {
   if (event.key === "Escape") {
     find("list").focus();
-  } else if (event.key === "n") {
-    choose(state.active + 1);
-  } else if (event.key === "N") {
-    choose(state.active - 1);
+  } else if (event.key === "n" || event.key === "N") {
+    choose(state.active + (event.key === "n" ? 1 : -1));
+  }
+}
+
+// ---- Members
+
+// With three digits behind the point, as `calls` has them.
+const milliseconds = (time) => {
+  const digits = String((time < 0n ? -time : time) / 1000n).padStart(4, "0");
+  return `${time < 0n ? "-" : ""}${digits.slice(0, -3)}.${digits.slice(-3)}`;
+};
+
+// The table of `calls --members` of the calls shown.
+async function members() {
+  const sums = new Map(), calls = state.shown.map((it) => state.rows.at(it)).filter((it) => it.isCall || it.isUnwanted);
+  const isDone = await inTurns(state.run, calls, (row) => {
+    const said = state.rows.said(row.index), name = said.interface ? `${said.interface}.${said.member}` : said.member;
+    const sum = sums.get(name) ?? { name, calls: 0, replies: 0, errors: 0, open: 0, unwanted: 0, times: [] };
+    const answered = row.pair < 0 ? "open" : state.rows.at(row.pair).isError ? "errors" : "replies";
+    const time = answered === "replies" ? took(row) : null;
+    sum.calls += 1;
+    sum[row.isUnwanted ? "unwanted" : answered] += 1;
+    sum.times.push(...(time === null ? [] : [time > 0n ? time : 0n]));
+    sums.set(name, sum);
+  }, () => tell("Counting the calls …"));
+  if (isDone && state.rows) {
+    const sum = (times) => times.reduce((a, b) => a + b, 0n), compare = (a, b) => Number(a > b) - Number(a < b);
+    const rows = [...sums.values()].map((it) => ({ ...it, total: sum(it.times) }));
+    rows.sort((a, b) => compare(b.total, a.total) || b.calls - a.calls || compare(a.name, b.name));
+    const lines = rows.map(({ name, calls, replies, errors, open, total, times }) => {
+      const each = [["total", total], ["mean", total / BigInt(times.length || 1)], ["longest", times.sort(compare).at(-1)]];
+      const lasted = times.length ? each.map(([word, it]) => `${milliseconds(it)} ms ${word} `).join("") : "";
+      return `${calls} calls ${replies} replies ${errors} errors ${open} no reply ${lasted}${name}\n`;
+    });
+    const title = element("h2", "Calls shown, by member");
+    find("details").replaceChildren(title, element("pre", lines.join(""), { tabindex: 0 }));
+    tellEnd(state.name);
   }
 }
 
 // ---- Taking away what is shown
 
-// The command that writes the messages shown as JSON.
+// The command that writes the messages shown as JSON, or lists the calls.
 function command() {
   const quoted = (text) => `'${text.replaceAll("'", "'\\''")}'`;
   const rule = state.rule?.length ? quoted(find("rule").value) : "";
-  const goesOn = state.rows.some((it) => !it.isWhole) ? " --keep-going" : "";
+  const goesOn = state.rows.bad ? (state.reader.isRaw ? " --resync" : " --keep-going") : "";
   const side = state.side ? ` --handshake ${state.side}` : "";
-  const words = state.words.map((it) => ` | grep -iF -e ${quoted(it)}`).join("");
-  const [first, then] = rule ? [`filter ${rule}`, " | dbus-wire json"] : ["json", ""];
-  return `dbus-wire ${first}${goesOn}${side} < ${quoted(state.name)}${then}${words}`;
+  const words = state.words.map((it) => ` | grep -iF -e ${quoted(it)}`).join(""), only = find("only").value;
+  if (only === "pairs" || (only && (rule || words))) {
+    return "# no command of dbus-wire selects these";
+  }
+  const [first, then] = only ? [`calls ${CALLS[only]}`, ""] : rule ? [`filter ${rule}`, " | dbus-wire json"] : ["json", ""];
+  const [from, to] = state.isGzip ? [`gzip -dc < ${quoted(state.name)} | `, ""] : ["", ` < ${quoted(state.name)}`];
+  return `${from}dbus-wire ${first}${goesOn}${side}${to}${then}${words}`;
 }
 
 // The messages shown as a pcap file, with times in nanoseconds: 0 of those that have none.
 function pcap() {
   const parts = [Uint32Array.of(0xa1b23c4d, 0x00040002, 0, 0, 0x08000000, 231)];
-  for (const row of state.shown.map((it) => state.rows[it]).filter((it) => it.isWhole)) {
-    const [seconds, nanoseconds] = row.time ? row.time.split(".") : [0, 0];
-    const bytes = state.reader.part(row.offset, row.offset + row.length);
-    parts.push(Uint32Array.of(seconds, nanoseconds, bytes.length, bytes.length), bytes);
+  for (const { index, offset, length } of state.shown.map((it) => state.rows.at(it)).filter((it) => it.isWhole)) {
+    const time = state.rows.time(index) ?? 0n;
+    const head = [Number(time / NANOSECONDS), Number(time % NANOSECONDS), length, length];
+    parts.push(Uint32Array.from(head), state.reader.part(offset, offset + length));
   }
   return new Blob(parts);
 }
 
 const save = () => element("a", "", { href: URL.createObjectURL(pcap()), download: "shown.pcap" }).click();
 
-function copyButton(title, text) {
+function buttonOf(title, press) {
   const button = element("button", title, { type: "button" });
-  button.addEventListener("click", async () => {
+  button.addEventListener("click", () => press(button));
+  return button;
+}
+
+function copyButton(title, text) {
+  return buttonOf(title, async (button) => {
     const said = await navigator.clipboard.writeText(text()).then(() => "done", (error) => error.message);
     button.textContent = `${title}: ${said}`;
   });
-  return button;
 }
 
 // ---- The diagram
@@ -370,19 +392,24 @@ function showDiagram() {
   draw();
 }
 
-// The names that come most have a line each. What has no destination goes to everyone, at the right.
+// The names that come most, in a sample, have a line each. What has no destination goes to everyone, at the right.
 function lifelines() {
-  const names = [...state.peers].sort((a, b) => b[1] - a[1]).slice(0, MOST_LIFELINES);
+  const peers = new Map(), step = Math.ceil(state.rows.count / MOST_SAMPLED);
+  for (let row = 0; row < state.rows.count; row += step) {
+    const { sender, destination } = seenOf(row);
+    [sender, destination].filter((it) => it).forEach((it) => peers.set(it, (peers.get(it) ?? 0) + 1));
+  }
+  const names = [...peers].sort((a, b) => b[1] - a[1]).slice(0, MOST_LIFELINES);
   return names.map(([name]) => name).sort();
 }
 
-function shape(tag, attributes, text = "") {
-  return element(tag, text, attributes, document.createElementNS("http://www.w3.org/2000/svg", tag));
-}
+const SVG = "http://www.w3.org/2000/svg";
+const shape = (tag, attributes, text = "") => element(tag, text, attributes, document.createElementNS(SVG, tag));
 
 function arrowElement(row) {
   const names = state.lifelines, gap = LIFELINE_GAP, middle = ROW_HEIGHT / 2, all = (MOST_LIFELINES + 1) * gap;
-  const picture = shape("svg", { width: all + gap, height: ROW_HEIGHT, role: "img", "aria-label": arrowLabel(row) });
+  const label = row.isWhole ? `from ${row.sender || "no one named"} to ${row.destination || "everyone"}` : "no message";
+  const picture = shape("svg", { width: all + gap, height: ROW_HEIGHT, role: "img", "aria-label": label });
   names.forEach((name, at) => {
     const line = shape("line", { x1: (at + 1) * gap, x2: (at + 1) * gap, y1: 0, y2: ROW_HEIGHT, class: "lifeline" });
     line.append(shape("title", {}, name));
@@ -398,20 +425,18 @@ function arrowElement(row) {
   return picture;
 }
 
-function arrowLabel(row) {
-  return row.isWhole ? `from ${row.sender || "no one named"} to ${row.destination || "everyone"}` : "no message";
-}
-
 // ---- The details
 
-function openRow(row) {
+function openRow(index) {
+  const row = seenOf(index), { reader } = state, at = row.isWhole ? -1 : reader.next(row.offset).at;
   const title = row.isWhole ? `Message ${row.number}` : `No message: number ${row.number}, ${row.kind}`;
   const where = `${row.isWhole ? `${row.length} bytes` : "refused"} at offset ${row.offset}${row.time ? `, captured ${fullTime(row.time)}` : ""}`;
-  const parts = [element("h2", title), element("p", where), element("p", listed(row), { class: "line" }), ...joined(row)];
-  parts.push(...(row.isWhole ? [copyButton("Copy as JSON", () => lineOf(row))] : []));
-  parts.push(element("h3", row.isWhole ? "Values" : "Why"), element("pre", row.isWhole ? pretty(lineOf(row)) : textOf(row), { tabindex: 0 }));
-  const end = row.isWhole ? row.length : Math.max(row.length, row.at + HEX_BYTES * 4);
-  parts.push(element("h3", "Bytes"), hexElement(row, end));
+  const line = element("p", listed(row, row.said), { class: "line" }), text = textOf(index);
+  const parts = [element("h2", title), element("p", where), line, ...joined(row)];
+  parts.push(...(row.isWhole ? [copyButton("Copy as JSON", () => text)] : []));
+  parts.push(element("h3", row.isWhole ? "Values" : "Why"), element("pre", row.isWhole ? pretty(text) : text, { tabindex: 0 }));
+  const end = row.isWhole ? row.length : Math.max(row.length, at + HEX_BYTES * 4);
+  parts.push(element("h3", "Bytes"), hexElement(row.offset, end, at));
   find("details").replaceChildren(...parts);
 }
 
@@ -421,30 +446,25 @@ function fullTime(time) {
   return `${new Date(Number(seconds) * 1000).toISOString().slice(0, 19).replace("T", " ")}.${fraction} UTC`;
 }
 
-// Nanoseconds between two times, as milliseconds.
-function wait(from, to) {
-  const count = (it) => BigInt(it.replace(".", ""));
-  return from && to ? `, ${Number(count(to) - count(from)) / 1e6} ms` : "";
+// Nanoseconds from a call to its reply, or null.
+function took({ index, pair }) {
+  const [from, to] = [Math.min(index, pair), Math.max(index, pair)].map((it) => (pair < 0 ? null : state.rows.time(it)));
+  return from === null || to === null ? null : to - from;
 }
 
 function joined(row) {
-  const other = row.reply ?? row.call;
-  if (other === null) {
+  const { index, pair } = row, time = took(row);
+  if (pair < 0) {
     return [];
   }
-  const there = state.rows[other];
-  const time = row.reply === null ? wait(there.time, row.time) : wait(row.time, there.time);
-  const button = element("button", `${row.reply === null ? "To the call" : "To the reply"}, message ${there.number}${time}`, { type: "button" });
-  button.addEventListener("click", () => {
-    const place = state.shown.indexOf(other);
-    if (place < 0) {
-      openRow(there);
-    } else {
-      choose(place);
-    }
+  const lasted = time === null ? "" : `, ${Number(time) / 1e6} ms`;
+  const title = `To the ${pair < index ? "call" : "reply"}, message ${pair + 1}${lasted}`;
+  return [buttonOf(title, () => {
+    const place = state.shown.indexOf(pair);
+    choose(place);
+    openRow(pair);
     find("details").focus();
-  });
-  return [button];
+  })];
 }
 
 // JSON on several lines. Numbers stay as they are written, since some are above 2^53.
@@ -452,40 +472,32 @@ function pretty(line) {
   let depth = 0;
   const broken = () => `\n${"  ".repeat(depth)}`;
   return line.trimEnd().replace(/"(?:[^"\\]|\\.)*"|\[\]|[[{]|[\]}]|,|:/g, (token) => {
-    if (token === "[" || token === "{") {
-      depth += 1;
-      return token + broken();
-    }
-    if (token === "]" || token === "}") {
-      depth -= 1;
-      return broken() + token;
-    }
-    return token === "," ? token + broken() : token === ":" ? ": " : token;
+    depth += { "[": 1, "{": 1, "]": -1, "}": -1 }[token] ?? 0;
+    const isEnd = "]}".includes(token), isStart = "[{,".includes(token);
+    return isEnd ? broken() + token : isStart ? token + broken() : token === ":" ? ": " : token;
   });
 }
 
 // The bytes from a line before the place of a fault on, or from the first.
-function hexElement(row, end) {
-  const box = element("pre", "", { tabindex: 0, "aria-label": row.isWhole ? "bytes of the message" : `bytes, the fault is at byte ${row.at}` });
-  const fault = row.isWhole ? -1 : row.at;
+function hexElement(offset, end, fault) {
+  const label = fault < 0 ? "bytes of the message" : `bytes, the fault is at byte ${fault}`;
+  const box = element("pre", "", { tabindex: 0, "aria-label": label });
   let next = Math.max(0, Math.floor((fault - 8 * HEX_BYTES) / HEX_BYTES) * HEX_BYTES);
-  const more = element("button", "More bytes", { type: "button" });
-  const extend = () => {
-    more.remove();
+  const extend = (more) => {
+    more?.remove();
     for (const last = Math.min(end, next + HEX_LINES * HEX_BYTES); next < last; next += HEX_BYTES) {
-      box.append(...hexLine(row, next, Math.min(end, next + HEX_BYTES), fault));
+      box.append(...hexLine(offset, next, Math.min(end, next + HEX_BYTES), fault));
     }
-    if (next < end && row.offset + next < state.reader.length) {
-      box.append(more);
+    if (next < end && offset + next < state.reader.length) {
+      box.append(buttonOf("More bytes", extend));
     }
   };
-  more.addEventListener("click", extend);
   extend();
   return box;
 }
 
-function hexLine(row, start, end, fault) {
-  const bytes = state.reader.part(row.offset + start, row.offset + end);
+function hexLine(offset, start, end, fault) {
+  const bytes = state.reader.part(offset + start, offset + end);
   const parts = [document.createTextNode(`${start.toString(16).padStart(8, "0")} `)];
   const marked = start <= fault && fault < start + HEX_BYTES ? fault - start : -1;
   for (let at = 0; at < HEX_BYTES; at += 1) {
@@ -498,9 +510,7 @@ function hexLine(row, start, end, fault) {
 
 // ---- The page
 
-function tell(text) {
-  find("status").textContent = text;
-}
+const tell = (text) => (find("status").textContent = text);
 
 function readHex() {
   const digits = find("hex").value.replace(/0x|[\s,:]/gi, "");
@@ -511,21 +521,10 @@ function readHex() {
   readBytes(Uint8Array.from(digits.match(/../g), (it) => parseInt(it, 16)), "pasted bytes");
 }
 
-function takeDrop(event) {
-  event.preventDefault();
-  const file = event.dataTransfer.files[0];
-  if (file) {
-    readFile(file);
-  }
-}
-
 const bytesOf = (base64) => Uint8Array.from(atob(base64), (it) => it.charCodeAt(0));
 
 let typed = 0;
-function typeFilter() {
-  clearTimeout(typed);
-  typed = setTimeout(filter, 200);
-}
+const typeFilter = () => [clearTimeout(typed), (typed = setTimeout(filter, 200))];
 
 async function begin() {
   try {
@@ -534,10 +533,13 @@ async function begin() {
     tell(`This browser does not run WebAssembly with memory of 64 bits: ${error.message}`);
     return;
   }
-  find("file").addEventListener("change", (event) => event.target.files[0] && readFile(event.target.files[0]));
+  const take = ({ files }) => files[0] && readFile(files[0]);
+  find("file").addEventListener("change", (event) => take(event.target));
   find("read-hex").addEventListener("click", readHex);
   find("words").addEventListener("input", typeFilter);
   find("rule").addEventListener("input", typeFilter);
+  find("only").addEventListener("change", filter);
+  find("members").addEventListener("click", members);
   find("diagram").addEventListener("change", showDiagram);
   find("list").addEventListener("scroll", draw);
   find("list").addEventListener("keydown", pressKey);
@@ -546,7 +548,7 @@ async function begin() {
   find("save").addEventListener("click", save);
   find("save").before(copyButton("Copy command", command));
   document.addEventListener("dragover", (event) => event.preventDefault());
-  document.addEventListener("drop", takeDrop);
+  document.addEventListener("drop", (event) => [event.preventDefault(), take(event.dataTransfer)]);
   new ResizeObserver(draw).observe(find("list"));
   tell("Ready. Nothing leaves this page.");
 }

@@ -1,27 +1,44 @@
 "use strict";
-// Calls the module of WebAssembly that reads captures: crates/dbus_page says what each call promises. Here are only addresses and numbers.
+// Calls the module of WebAssembly that reads captures. crates/dbus_page says what each call promises.
 
-const WHOLE = 0, PARTIAL = 1, NO_ROOM = 3;
+const WHOLE = 0, PARTIAL = 1, REFUSED = 2, NO_ROOM = 3;
+const LITTLE = 108, BIG = 66;
 const PAGE_BYTES = 65536;
-// The bytes of `Unpacked`, `Next`, `PagePlace`, a count, `PageBeside`, `PageEvent` and a call's member with two names, one after another; and of a `PagePart`.
-const UNPACKED = 0, NEXT = 32, PLACE = 48, COUNT = 80, BESIDE = 88, EVENT = 144, TEXTS = 216, TOLD_BYTES = 1024, PART_BYTES = 24;
+// What `--resync` goes by: how many bytes are searched behind a refused message, and looked at for each.
+const WINDOW = 1_048_576, EFFORT = 16;
+const MOST_FIELDS = 2 ** 26, MOST_BYTES = 2 ** 27, FRONT_BYTES = 16;
+// The structs of calls, one after another, and a line's texts; and the bytes of a `PagePart`.
+const UNPACKED = 0, NEXT = 32, PLACE = 48, COUNT = 80, BESIDE = 88, EVENT = 144, EVENT_WORDS = 18, TEXTS = 216;
+const TOLD_BYTES = 1024, PART_BYTES = 24;
 const FIRST_TEXT_BYTES = 65536;
 const ENCODER = new TextEncoder(), DECODER = new TextDecoder("utf-8", { ignoreBOM: true });
 
-// One input, in the memory of an instance of its own.
+// One input, in the memory of an instance of its own. It is unpacked in that of another, which is let go.
 class Reader {
-  constructor(instance, file) {
+  constructor(compiled, file) {
+    // What one read of 65,536 bytes gives of a packet is a part. A packet takes 17 bytes of the file at least.
+    const parts = Math.floor(file.length / 17) + Math.ceil(file.length / PAGE_BYTES) + 2;
+    this.begin(compiled, parts, file.length + 1, file.length);
+    const filled = this.unpack(parts, file);
+    this.begin(compiled, this.partCount, this.length, FIRST_TEXT_BYTES);
+    this.bytes.set(filled.parts, this.parts);
+    this.bytes.set(filled.data, this.data);
+    // A file of packets has more than their bytes. How many bytes were looked at to go on.
+    this.isRaw = this.length === file.length;
+    this.looked = 0;
+  }
+
+  // Takes an instance, with room for so many parts, and bytes of messages and of a text.
+  begin(compiled, parts, data, text) {
+    const instance = new WebAssembly.Instance(compiled);
     this.calls = instance.exports;
     this.memory = instance.exports.memory;
     // The module's own data and stack end here, and it never asks for more.
     this.told = this.memory.buffer.byteLength;
-    // A part is what one read gives of a packet. A packet with bytes takes 17 of the file at least, and the file is read 65,536 bytes at a time.
-    this.partsRoom = Math.floor(file.length / 17) + Math.ceil(file.length / PAGE_BYTES) + 2;
     this.parts = this.told + TOLD_BYTES;
-    this.data = this.parts + this.partsRoom * PART_BYTES;
-    this.text = this.data + file.length + 8;
-    this.reach(this.text + Math.max(file.length, FIRST_TEXT_BYTES));
-    this.unpack(file);
+    this.data = this.parts + parts * PART_BYTES;
+    this.text = this.data + Math.ceil(data / 8) * 8;
+    this.reach(this.text + text);
   }
 
   // Lets the memory reach so far.
@@ -34,15 +51,24 @@ class Reader {
     this.view = new DataView(this.memory.buffer);
   }
 
+  // Places as the module takes them.
+  toldAt(place) {
+    return BigInt(this.told + place);
+  }
+
+  input(offset, length) {
+    return slice(this.data + offset, length);
+  }
+
   number(place) {
     return Number(this.view.getBigUint64(this.told + place, true));
   }
 
-  // Takes the messages' bytes out of the file. The text comes over the file, which is not read again.
-  unpack(file) {
+  // Takes the messages' bytes out of the file, and returns them and their parts.
+  unpack(partsRoom, file) {
     this.bytes.set(file, this.text);
-    const answer = this.calls.dbus_page_unpack(
-      ...slice(this.text, file.length), ...slice(this.data, file.length + 1), ...slice(this.parts, this.partsRoom), BigInt(this.told + UNPACKED));
+    const room = [...slice(this.data, file.length + 1), ...slice(this.parts, partsRoom), this.toldAt(UNPACKED)];
+    const answer = this.calls.dbus_page_unpack(...slice(this.text, file.length), ...room);
     if (answer !== WHOLE) {
       throw new Error("the file has more parts than there is room for");
     }
@@ -50,6 +76,8 @@ class Reader {
     this.partCount = this.number(UNPACKED + 8);
     // The fault of a pcap or pcapng file, by its place in it.
     this.fileFault = this.number(UNPACKED + 24) ? this.number(UNPACKED + 16) : null;
+    const part = (start, length) => this.bytes.subarray(start, start + length);
+    return { parts: part(this.parts, this.partCount * PART_BYTES), data: part(this.data, this.length) };
   }
 
   // The time of the packet that the byte at the offset is of, in nanoseconds, or null.
@@ -67,10 +95,56 @@ class Reader {
     return high > low && this.view.getBigUint64(part + 16, true) ? this.view.getBigUint64(part + 8, true) : null;
   }
 
-  // What begins at the offset: a message of this length; or a fault, or the end of the input within a message, at this place in it.
-  next(offset) {
-    const answer = this.calls.dbus_page_next(...slice(this.data + offset, this.length - offset), BigInt(this.told + NEXT));
+  // What begins at the offset of what ends there: a message of this length; or a fault, or the end, at a place.
+  next(offset, end = this.length) {
+    const answer = this.calls.dbus_page_next(...this.input(offset, end - offset), this.toldAt(NEXT));
     return { answer, length: this.number(NEXT), at: this.number(NEXT + 8) };
+  }
+
+  // Whether the byte may be a message's first one.
+  isOrder(offset) {
+    return this.bytes[this.data + offset] === LITTLE || this.bytes[this.data + offset] === BIG;
+  }
+
+  // The size that 16 bytes state, whatever else they say, or 0.
+  stated(offset) {
+    if (offset + FRONT_BYTES > this.length || !this.isOrder(offset)) {
+      return 0;
+    }
+    const start = this.data + offset, isLittle = this.bytes[start] === LITTLE;
+    const [fields, body] = [12, 4].map((it) => this.view.getUint32(start + it, isLittle));
+    const size = FRONT_BYTES + Math.ceil(fields / 8) * 8 + body;
+    return fields > MOST_FIELDS || size > MOST_BYTES ? 0 : size;
+  }
+
+  // Where messages begin again behind a refused one, or null: in a capture by its size, else as `--resync` does.
+  goOn(offset, at) {
+    const stated = this.stated(offset), behind = offset + stated, isThere = stated > 0 && behind <= this.length;
+    if (!this.isRaw) {
+      return isThere ? behind : null;
+    }
+    const most = Math.max(0, EFFORT * WINDOW - Math.max(0, this.looked + at - EFFORT * offset));
+    const { found, looked } = this.seek(offset, Math.min(this.length, offset + WINDOW), behind, most);
+    this.looked = Math.min(this.looked + at + looked, Math.max(this.looked, EFFORT * (offset + WINDOW)));
+    return found ?? (stated > WINDOW && isThere ? behind : null);
+  }
+
+  // The same within an effort: where the size leads, if messages go on there, or else at the first one.
+  seek(offset, end, behind, most) {
+    let looked = 0, isLed = behind > offset && behind <= end;
+    for (let at = isLed ? behind : offset; isLed || at < end; at = isLed ? offset : at + 1, isLed = false) {
+      const { answer, length } = at < end && this.isOrder(at) ? this.next(at, end) : { answer: REFUSED, length: 0 };
+      const left = end - at, size = length <= left ? length : 0;
+      if (size > most - looked) {
+        return { found: null, looked: most };
+      }
+      looked += size;
+      const wantsMore = left > 0 && this.isOrder(at) && (left < FRONT_BYTES || this.stated(at) > left);
+      if (answer === WHOLE || (isLed && (end === offset + WINDOW ? wantsMore : left === 0))) {
+        return { found: at, looked };
+      }
+    }
+    return { found: null, looked };
   }
 
   // Writes numbers at a place, one after another.
@@ -86,10 +160,10 @@ class Reader {
   // The message at the offset as JSON.
   json(number, offset, length) {
     this.tellPlace(number, offset, length);
-    return this.written((room, count) => this.calls.dbus_page_json(...slice(this.data + offset, length), BigInt(this.told + PLACE), ...room, count));
+    return this.written((...room) => this.calls.dbus_page_json(...this.input(offset, length), this.toldAt(PLACE), ...room));
   }
 
-  // The line of `dbus-wire list`, of at most so many cells, or 0. `beside` is what `Tables` has of the message.
+  // The line of `dbus-wire list`, of at most so many cells, or 0. `beside` is what `Rows` has of the message.
   line(number, offset, length, beside, width) {
     const texts = [beside.call?.member, beside.sender, beside.destination].map((it) => ENCODER.encode(it ?? ""));
     const time = beside.call?.time ?? null;
@@ -98,33 +172,35 @@ class Reader {
     this.view.setUint16(this.told + BESIDE + 48, width, true);
     const all = texts.flatMap((it) => [...it]);
     this.bytes.set(all, this.told + TEXTS);
-    return this.written((room, count) =>
-      this.calls.dbus_page_line(
-        ...slice(this.data + offset, length), BigInt(this.told + PLACE), BigInt(this.told + BESIDE), ...slice(this.told + TEXTS, all.length), ...room, count));
+    const given = [...this.input(offset, length), this.toldAt(PLACE), this.toldAt(BESIDE), ...slice(this.told + TEXTS, all.length)];
+    return this.written((...room) => this.calls.dbus_page_line(...given, ...room));
   }
 
   // What the message tells of calls and of names.
   event(offset, length) {
-    const bytes = this.writtenBytes((room, count) => this.calls.dbus_page_event(...slice(this.data + offset, length), BigInt(this.told + EVENT), ...room, count));
-    const [event, serial, says] = [0, 4, 8].map((it) => this.view.getUint32(this.told + EVENT + it, true));
+    const given = [...this.input(offset, length), this.toldAt(EVENT)];
+    const bytes = this.writtenBytes((...room) => this.calls.dbus_page_event(...given, ...room));
+    // Names are of ASCII, but for what no bus sends.
+    const text = bytes.length ? DECODER.decode(bytes) : "", isPlain = text.length === bytes.length;
+    const words = new Uint32Array(this.memory.buffer, this.told + EVENT, EVENT_WORDS);
     let end = 0;
-    const [caller, sender, name, unique, forCaller, forOwner, byName] = [0, 1, 2, 3, 4, 5, 6].map((it) => {
+    const [caller, sender, name, unique, forCaller, forOwner, byName] = [4, 6, 8, 10, 12, 14, 16].map((it) => {
       const start = end;
-      end += this.number(EVENT + 16 + 8 * it);
-      return start === end ? "" : DECODER.decode(bytes.subarray(start, end));
+      end += words[it];
+      return isPlain ? text.slice(start, end) : DECODER.decode(bytes.subarray(start, end));
     });
-    return { event, serial, says, caller, sender, name, unique, forCaller, forOwner, byName };
+    return { event: words[0], serial: words[1], says: words[2], caller, sender, name, unique, forCaller, forOwner, byName };
   }
 
   // The name of the reason why no message begins at the offset.
   reason(offset) {
-    return this.written((room, count) => this.calls.dbus_page_reason(...slice(this.data + offset, this.length - offset), ...room, count));
+    return this.written((...room) => this.calls.dbus_page_reason(...this.input(offset, this.length - offset), ...room));
   }
 
   // Why no message begins at the offset: the lines of `dbus-wire check --explain`.
   explain(number, offset) {
-    return this.written((room, count) =>
-      this.calls.dbus_page_explain(...slice(this.data + offset, this.length - offset), BigInt(number), BigInt(offset), ...room, count));
+    const given = [...this.input(offset, this.length - offset), BigInt(number), BigInt(offset)];
+    return this.written((...room) => this.calls.dbus_page_explain(...given, ...room));
   }
 
   // The text that a call writes, with as much room as it takes.
@@ -135,7 +211,7 @@ class Reader {
   writtenBytes(call) {
     for (;;) {
       const room = this.memory.buffer.byteLength - this.text;
-      const answer = call(slice(this.text, room), BigInt(this.told + COUNT));
+      const answer = call(...slice(this.text, room), this.toldAt(COUNT));
       if (answer !== NO_ROOM) {
         return this.bytes.subarray(this.text, this.text + this.number(COUNT));
       }
@@ -166,36 +242,16 @@ function growMemory(memory, pages) {
   }
 }
 
-// Each message of the input, and each place at which there is none. A message that is refused is passed over by the length that it states.
+// Each message of the input, and each place at which there is none, with what is passed over there.
 function* entries(reader) {
-  let offset = 0;
-  for (let number = 1; offset < reader.length; number += 1) {
+  reader.looked = 0;
+  for (let offset = 0, end = 0; end !== null && offset < reader.length; offset = end) {
     const { answer, length, at } = reader.next(offset);
-    yield { number, offset, length, at, isWhole: answer === WHOLE, isPartial: answer === PARTIAL };
-    if (answer === PARTIAL || length === 0 || offset + length > reader.length) {
-      return;
-    }
-    offset += length;
+    end = answer === WHOLE ? offset + length : reader.goOn(offset, at);
+    yield { offset, length: (end ?? reader.length) - offset, isWhole: answer === WHOLE, isPartial: answer === PARTIAL };
   }
-}
-
-// All that the module gives of an input: its messages as JSON, and as lines of 100 cells and of as many as they take; and of what is refused the number, the
-// offset, the place of the fault, the name of the reason and the explanation. `tables` are those of the reader, which took no message.
-function answersOf(reader, tables) {
-  const answers = { lines: "", listed: "", cut: "", refused: [], fault: reader.fileFault };
-  for (const it of entries(reader)) {
-    if (it.isWhole) {
-      const line = reader.json(it.number, it.offset, it.length), beside = tables.take(it, JSON.parse(line));
-      answers.lines += line;
-      answers.listed += reader.line(it.number, it.offset, it.length, beside, 0);
-      answers.cut += reader.line(it.number, it.offset, it.length, beside, 100);
-    } else {
-      answers.refused.push([it.number, it.offset, it.offset + it.at, reader.reason(it.offset), reader.explain(it.number, it.offset)]);
-    }
-  }
-  return answers;
 }
 
 if (typeof module !== "undefined") {
-  module.exports = { Reader, answersOf, entries };
+  module.exports = { Reader, entries };
 }

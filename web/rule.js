@@ -135,8 +135,12 @@ function firstCodes(signature) {
   return codes;
 }
 
-// Whether a message, of which this is the line of JSON, matches.
+// Whether a message of this line of JSON matches. The line has the value of some keys as it is, so most are not parsed.
+const PLAIN_KEYS = ["type", "sender", "interface", "member", "path", "destination"];
 function matchesRule(pairs, line) {
+  if (pairs.some((it) => PLAIN_KEYS.includes(it.name) && !line.includes(`"${it.value}"`))) {
+    return false;
+  }
   const said = JSON.parse(line);
   said.types = firstCodes(said.signature ?? "");
   return pairs.every((it) => it.holds(said, it.value));

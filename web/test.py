@@ -3,19 +3,22 @@
 cases: by the module in Node, and by the page in a headless Chromium, if there is one. BROWSER names another. The exit
 status is 1 if something differs.
 
-What is compared of each input: the lines of `json --keep-going`, with `--handshake` if it begins as one side of a
-connection; those of `list` with it, of 100 cells and of as many as they take; the number, offset, place and reason of each
+What is compared of each input: the lines of `json --resync`, or `--keep-going` if it is a capture, with `--handshake` if
+it begins as one side of a connection; those of `list` with it, of 100 cells and of as many as they take; the number, offset, place and reason of each
 fault; its explanation, of which the bytes are left out if the input is a capture, since dbus-wire shows only those that it
 has read; and the place of the fault of a file. Of the page also: the cells of the first row and the last; which messages it
-shows by a rule and a word, what it saves of them, and what the command that it gives writes. Of rules: which messages of
+shows by a rule and a word, what it saves of them, and what the command that it gives writes; and which calls its choices
+show, and its table of members, by what `calls` writes. It reads each second input by gzip. Of rules: which messages of
 the samples `filter` writes; and what the cases say of rules and of messages that match.
 """
 
 import concurrent.futures as futures
 import functools
+import gzip
 import json
 import os
 import pathlib
+import random
 import re
 import shutil
 import subprocess
@@ -37,6 +40,9 @@ COLUMNS = {"messages": (2, 3), "faults": (2, 3), "streams": (2,), "printed": (2,
 # What is asked of each message of the samples.
 RULES = ("", "type='error'", "type='signal',sender='org.freedesktop.DBus'", "interface='org.freedesktop.DBus',member='Hello'", "path_namespace='/org'",
          "destination=':1.4'", "arg0namespace='org.example'", "arg0path='/org/'", "sender=':1.1',eavesdrop='true'", "type='signal',arg0=''")
+# What the page's choices are to `calls`.
+CHOICES = ("--slower 0", "--unanswered", "--errors")
+DAMAGED = 30
 MOST_REPORTED = 5
 
 
@@ -54,6 +60,15 @@ def inputs():
     # Calls behind a message that is refused, at its header fields.
     calls = (ROOT / "samples" / "calls.dbus").read_bytes()
     yield "calls.dbus, the first refused", calls[:20] + b"\xff\xff" + calls[22:]
+    # Damage: bytes that are gone, come or change.
+    draws = random.Random(97)
+    for name in ("session.dbus", "calls.dbus", "big-endian.dbus"):
+        data = (ROOT / "samples" / name).read_bytes()
+        for number in range(DAMAGED):
+            at, count = draws.randrange(len(data)), draws.choice((1, 5, 200))
+            new = draws.choice((b"", b"\0", draws.randbytes(count), data[at:at + count] * 2))
+            yield f"{name}, damaged {number} at {at}", data[:at] + new + data[at + count:]
+        yield f"{name}, of type 0", data[:1] + b"\0" + data[2:]
     # What each side sends, with messages behind it, and cut off within its last line.
     message = (ROOT / "samples" / "big-endian.dbus").read_bytes()
     for case in read_cases(DATA / "handshakes.txt"):
@@ -64,7 +79,7 @@ def inputs():
 
 
 def is_capture(data):
-    return data[:1] in (b"\xd4", b"\x4d", b"\xa1", b"\n")
+    return data[:4].hex() in ("d4c3b2a1", "a1b2c3d4", "4d3cb2a1", "a1b23c4d", "0a0d0d0a")
 
 
 def without_bytes(explanation):
@@ -80,7 +95,7 @@ def side_of(data):
 
 def written(program, data):
     """What the program writes of an input, as the module's answers; None if it begins with a handshake that is refused."""
-    going, side = ["--keep-going"], side_of(data)
+    going, side = ["--keep-going" if is_capture(data) else "--resync"], side_of(data)
     ran = subprocess.run([program, "json", "--explain", *going, *side], input=data, capture_output=True)
     if CUT.search(ran.stderr):
         # The page shows a file up to a packet that was cut, as the program does that does not go on.
@@ -93,7 +108,18 @@ def written(program, data):
     listed, cut = (subprocess.run(it, input=data, capture_output=True).stdout.decode() for it in lists)
     refused = [[int(number), int(offset), int(place), reason, why] for place, reason, number, offset, why in REFUSED.findall(said)]
     fault = FAULT.search(said)
-    return {"lines": ran.stdout.decode(), "listed": listed, "cut": cut, "refused": refused, "fault": int(fault[1]) if fault else None}
+    answers = {"lines": ran.stdout.decode(), "listed": listed, "cut": cut, "refused": refused, "fault": int(fault[1]) if fault else None}
+    return {**answers, "chosen": calls_of(program, data, [*going, *side])}
+
+
+def calls_of(program, data, how):
+    """The numbers of the calls that `calls` lists, the slowest first, and its table."""
+    run = lambda *words: subprocess.run([program, "calls", *words, *how], input=data, capture_output=True).stdout.decode()
+    rows = {it: [json.loads(row) for row in run(*it.split(), "--json").splitlines()] for it in CHOICES}
+    for it in CHOICES:
+        rows[it].sort(key=lambda row: (-row["milliseconds"] if it == CHOICES[0] else 0, row["number"]))
+    numbers = {it: [row["number"] for row in rows[it]] for it in CHOICES}
+    return {**numbers, "members": run("--members")}
 
 
 def compared(answers, data):
@@ -113,14 +139,17 @@ def differs(kind, all_inputs, wanted, given):
     return len(wrong)
 
 
-def unseen(program, folder, all_inputs, given):
+def unseen(program, folder, all_inputs, all_wanted, given):
     """How many inputs have a first or a last row that shows other than their answers, or show, save or name by a command
     other messages by a match rule."""
     wrong = 0
     (folder / "dbus-wire").symlink_to(pathlib.Path(program).resolve())
-    for (name, _), answers in zip(all_inputs, given):
+    for (name, _), wanted, answers in zip(all_inputs, all_wanted, given):
         if answers is None:
             continue
+        if answers["chosen"] != wanted["chosen"]:
+            wrong += 1
+            print(f"{name}: the page chooses {answers['chosen']}, dbus-wire {wanted['chosen']}")
         lines = [json.loads(it) for it in answers["lines"].splitlines()]
         calls = [it for it in lines if it["type"] == "method_call" and "dbus" in json.dumps(it).lower()]
         if answers["calls"] != [it["number"] for it in calls] or not is_taken(folder, answers, calls):
@@ -239,11 +268,11 @@ def main(program, module, page):
         return 1 if wrong else 0
     with tempfile.TemporaryDirectory(prefix="dbus-wire-") as folder:
         files = [pathlib.Path(folder) / str(at) for at in range(len(all_inputs))]
-        for file, (_, data) in zip(files, all_inputs):
-            file.write_bytes(data)
+        for at, (file, (_, data)) in enumerate(zip(files, all_inputs)):
+            file.write_bytes(gzip.compress(data) if at % 2 else data)
         shown = run_node([HERE / "browser.js", browser, page], "".join(f"{it}\n" for it in files))
         wrong += differs(f"the page in {pathlib.Path(browser).name}", all_inputs, wanted, shown)
-        wrong += unseen(program, pathlib.Path(folder), all_inputs, shown)
+        wrong += unseen(program, pathlib.Path(folder), all_inputs, wanted, shown)
     return 1 if wrong else 0
 
 
