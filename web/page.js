@@ -60,8 +60,7 @@ function openInput(bytes, name) {
     throw new Error("it begins as one side of a connection, but its handshake is at fault");
   }
   const side = skipped === 0 ? "" : bytes[0] === 0 ? "client" : "server";
-  const reader = new Reader(state.module, bytes.subarray(skipped));
-  bytes.buffer.transfer?.(0);
+  const reader = new Reader(state.module, bytes.subarray(skipped), () => bytes.buffer.transfer?.(0));
   Object.assign(state, { reader, name, side, skipped, rows: new Rows(reader), shown: [], active: -1, lifelines: [] });
   find("details").replaceChildren();
   draw();
@@ -430,7 +429,8 @@ function arrowElement(row) {
 function openRow(index) {
   const row = seenOf(index), { reader } = state, at = row.isWhole ? -1 : reader.next(row.offset).at;
   const title = row.isWhole ? `Message ${row.number}` : `No message: number ${row.number}, ${row.kind}`;
-  const where = `${row.isWhole ? `${row.length} bytes` : "refused"} at offset ${row.offset}${row.time ? `, captured ${fullTime(row.time)}` : ""}`;
+  const what = row.isWhole ? "bytes" : "bytes passed over", captured = row.time ? `, captured ${fullTime(row.time)}` : "";
+  const where = `${row.length} ${what} at offset ${row.offset}${captured}`;
   const line = element("p", listed(row, row.said), { class: "line" }), text = textOf(index);
   const parts = [element("h2", title), element("p", where), line, ...joined(row)];
   parts.push(...(row.isWhole ? [copyButton("Copy as JSON", () => text)] : []));

@@ -15,16 +15,19 @@ const ENCODER = new TextEncoder(), DECODER = new TextDecoder("utf-8", { ignoreBO
 
 // One input, in the memory of an instance of its own. It is unpacked in that of another, which is let go.
 class Reader {
-  constructor(compiled, file) {
+  constructor(compiled, file, letGo = () => {}) {
     // What one read of 65,536 bytes gives of a packet is a part. A packet takes 17 bytes of the file at least.
     const parts = Math.floor(file.length / 17) + Math.ceil(file.length / PAGE_BYTES) + 2;
-    this.begin(compiled, parts, file.length + 1, file.length);
-    const filled = this.unpack(parts, file);
+    const { length } = file;
+    this.begin(compiled, parts, length + 1, length);
+    this.bytes.set(file, this.text);
+    letGo();
+    const filled = this.unpack(parts, length);
     this.begin(compiled, this.partCount, this.length, FIRST_TEXT_BYTES);
     this.bytes.set(filled.parts, this.parts);
     this.bytes.set(filled.data, this.data);
     // A file of packets has more than their bytes. How many bytes were looked at to go on.
-    this.isRaw = this.length === file.length;
+    this.isRaw = this.length === length;
     this.looked = 0;
   }
 
@@ -65,10 +68,9 @@ class Reader {
   }
 
   // Takes the messages' bytes out of the file, and returns them and their parts.
-  unpack(partsRoom, file) {
-    this.bytes.set(file, this.text);
-    const room = [...slice(this.data, file.length + 1), ...slice(this.parts, partsRoom), this.toldAt(UNPACKED)];
-    const answer = this.calls.dbus_page_unpack(...slice(this.text, file.length), ...room);
+  unpack(partsRoom, length) {
+    const room = [...slice(this.data, length + 1), ...slice(this.parts, partsRoom), this.toldAt(UNPACKED)];
+    const answer = this.calls.dbus_page_unpack(...slice(this.text, length), ...room);
     if (answer !== WHOLE) {
       throw new Error("the file has more parts than there is room for");
     }
@@ -234,10 +236,7 @@ function slice(address, length) {
 function growMemory(memory, pages) {
   try {
     memory.grow(BigInt(pages));
-  } catch (error) {
-    if (!(error instanceof TypeError)) {
-      throw error;
-    }
+  } catch {
     memory.grow(pages);
   }
 }

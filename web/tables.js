@@ -158,9 +158,9 @@ class Rows {
   at(row) {
     const kind = this.kinds[row];
     return {
-      ...{ index: row, number: row + 1, offset: this.offsets[row], length: this.lengths[row], pair: this.pairs[row] - 1 },
-      ...{ isWhole: kind < REFUSED_ROW, isPartial: kind === PARTIAL_ROW, isError: kind === ERROR_ROW },
-      ...{ isCall: kind === CALL, isUnwanted: kind === CALL_WITHOUT_REPLY },
+      index: row, number: row + 1, offset: this.offsets[row], length: this.lengths[row], pair: this.pairs[row] - 1,
+      isWhole: kind < REFUSED_ROW, isPartial: kind === PARTIAL_ROW, isError: kind === ERROR_ROW, isCall: kind === CALL,
+      isUnwanted: kind === CALL_WITHOUT_REPLY,
     };
   }
 
