@@ -1,3 +1,4 @@
 pub mod Decided
 pub mod Noted
 pub mod Sent
+pub mod TakenFor

@@ -31,7 +31,7 @@ fn owns<A: Allocator>(owner: &Owner<A>, name: &str, unique: &str) -> bool
 
 /// Whether some owner has the name and the unique name.
 #[tactic(auto, using(crate::proofs::Decided::owned_at))]
-fn is_owned<A: Allocator>(owners: &[Owner<A>], name: &str, unique: &str) -> bool
+pub(crate) fn is_owned<A: Allocator>(owners: &[Owner<A>], name: &str, unique: &str) -> bool
     ensures { IsTrue result ↔ IsOwned (ownerships owners.now) name.now unique.now }
 {
     for owner in owners {

@@ -15,10 +15,10 @@ use dbus_rule::{Condition, Key, Rule};
 use std::alloc::Allocator;
 
 /// Whether the condition holds of the message.
-fn holds<A: Allocator, B: Allocator>(
+pub(crate) fn holds<A: Allocator, B: Allocator, C: Allocator>(
     condition: &Condition<B>,
     message: &Message<A>,
-    owners: &[Owner<B>],
+    owners: &[Owner<C>],
 ) -> bool
     ensures { IsTrue result ↔
         HoldsAt condition.now.key (string_bytes condition.now.value) (message_tree message.now)

@@ -18,7 +18,7 @@ use dbus_view::MessageView;
 use std::alloc::Allocator;
 
 /// Rules of more keys have the values of the body noted.
-const FEW_KEYS: usize = 12;
+pub(crate) const FEW_KEYS: usize = 12;
 
 /// The text of argument `n`, if that is a STRING.
 fn string_seen<'a>(view: &MessageView<'a>, noted: &[Argument<'a>], n: u8) -> Option<&'a str>
@@ -67,7 +67,7 @@ pub fn string_or_path_arg<'a>(view: &MessageView<'a>, n: u8) -> Option<&'a str>
 }
 
 /// Whether the condition holds of the message, if its key is not `sender`.
-fn other_holds<'a, A: Allocator>(
+pub(crate) fn other_holds<'a, A: Allocator>(
     condition: &Condition<A>,
     view: &MessageView<'a>,
     noted: &[Argument<'a>],
