@@ -1,4 +1,5 @@
 -- The owners of names as a set, and as groups of texts.
+use denote.Ref.{Bor}
 use Rattle.std.proofs.Common.{◌≡◌, ℕ, Bool, true, false, not, cond, ◌&&◌, ◌||◌, List, [], ◌∷◌, ◌++◌, map, Option, None, Some, Equal, Less, Ordering, inl, inr, ⊎_elim, refl, sym, ap, ◌∙◌, subst, string_bytes}
 use Rattle.std.specs.Prelude.{◌↔◌, String}
 use Rattle.std.specs.BTreeMap.{BTreeMap, IsOrdered, is_at}
@@ -10,7 +11,7 @@ use Rattle.std.specs.FinSet.{contains, contains-items, contains-from_list, conta
 use Rattle.std.specs.List.{AllByRecursion, flat_map, list_any}
 use Rattle.std.specs.List.Sorted.{IsStrictlySortedBy}
 use Rattle.std.specs.Map.{keys_of, lookup}
-use Rattle.std.specs.Option.{option_map_or}
+use Rattle.std.specs.Option.{option_copied, option_map_or}
 use Rattle.std.specs.Ordering.{eq_by_cmp, is_eq, nat_cmp}
 use Rattle.std.specs.Str.{bytes_eq}
 use Rattle.std.specs.String.{string_cmp}
@@ -156,3 +157,8 @@ owned_any (o ∷ os) v w =
 -- a name has an owner in the list exactly if it has it in the set
 pub owned_in : (s : OwnerSet) (v w : List ℕ) → IsOwned (owners_in s) v w ↔ (contains s (pair v w) ≡ true)
 owned_in s v w = subst (λ b. IsOwned (owners_in s) v w ↔ (b ≡ true)) (sym (contains-items s (pair v w))) (owned_any (owners_in s) v w)
+
+-- a text is among those of a reference exactly if it is among those of its value
+pub found : (o : Option (Bor (BTreeSet (String Global)))) (name : List ℕ) → option_map_or (λ names. contains_text names.now name) o false ≡ option_map_or (λ names. contains_text names name) (option_copied o) false
+found None name = refl
+found (Some names) name = refl

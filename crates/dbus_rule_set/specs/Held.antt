@@ -8,6 +8,7 @@ use Rattle.dbus_message_model.specs.Messages.{MessageTree}
 use Rattle.dbus_rule.specs.declared.rule.Rule.{Rule}
 use Rattle.dbus_rule.specs.RuleViews.{rule_pairs}
 use Rattle.dbus_match.specs.Matching.{Matches}
+use Rattle.dbus_match.specs.TakenFor.{MayMatch}
 use Rattle.dbus_rule_set.specs.declared.handle.RuleHandle.{RuleHandle}
 use Rattle.dbus_rule_set.specs.declared.rule_set.RuleSet.{RuleSet}
 use Rattle.dbus_rule_set.specs.Handles.{handle_cmp}
@@ -40,6 +41,10 @@ AreApart es = IsStrictlySortedBy handle_cmp (keys_of es)
 -- the rule matches the message, with these owners of names
 abbrev pub EntryMatches : {A : Type 0} → MessageTree → OwnerSet → RuleHandle × Rule A → Type 0
 EntryMatches m os e = Matches (rule_pairs e.1) m (owners_in os)
+
+-- the rule may match it, if this is known of who sends it
+abbrev pub EntryMayMatch : {A : Type 0} → MessageTree → (known : Option (List ℕ)) → OwnerSet → RuleHandle × Rule A → Type 0
+EntryMayMatch m known os e = ∥ MayMatch (rule_pairs e.1) m known (owners_in os) ∥₁
 
 -- in order, the handle of each rule of which P holds comes to the end of a list, and no other
 abbrev pub Collects : {A : Type 0} → (RuleHandle × Rule A → Type 0) → List (RuleHandle × Rule A) → List RuleHandle → List RuleHandle → Type 0

@@ -6,13 +6,17 @@
 //! [`RuleSet::remove`] removes a rule. A rule matches exactly if `dbus_match::matches_view` says so.
 //! An example is at [`RuleSet`].
 //!
+//! [`RuleSet::any_may_match`] says whether a rule may match a message, as one who forbids messages
+//! asks.
+//!
 //! [`Owners`] keeps the owners of well-known names from message to message, for
-//! [`RuleSet::matching`] and [`RuleSet::any_matches`].
+//! [`RuleSet::matching`], [`RuleSet::any_matches`] and [`RuleSet::any_may_match`].
 #![tactic(auto)]
 
 mod groups;
 mod handle;
 mod kinds;
+mod known_owners;
 mod matching;
 mod met;
 mod numbers;

@@ -156,6 +156,14 @@ impl Owners {
         self.by_unique.get(unique)
     }
 
+    /// The owners of the name; `None` if it has none.
+    pub(crate) fn by(&self, name: &str) -> Option<&BTreeSet<String>>
+        ensures { (unique : List ℕ) → option_map_or (λ uniques. contains_text uniques.now unique) result false ≡
+            contains self.now (record { name = name.now; unique = unique }) }
+    {
+        self.by_name.get(name)
+    }
+
     /// Whether the name has this owner.
     pub(crate) fn has(&self, name: &str, unique: &str) -> bool
         ensures { IsTrue result ↔ IsOwned (owners_in self.now) name.now unique.now }

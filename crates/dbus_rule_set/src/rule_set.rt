@@ -1,7 +1,7 @@
 //! Sets of rules.
 #![tactic(auto)]
 
-ghost use Rattle.std.specs.Prelude.{◌≡◌, ◌+◌, ◌↔◌, [], None, Some, IsTrue, IfOk, IfErr, OnOk, OnErr, length};
+ghost use Rattle.std.specs.Prelude.{◌≡◌, ◌+◌, ◌↔◌, [], None, Some, IsTrue, IfOk, IfErr, OnOk, OnErr, length, option_map};
 ghost use Rattle.std.specs.List.{AllByRecursion};
 ghost use Rattle.std.specs.BTreeMap.{IsOrdered};
 ghost use Rattle.std.specs.Option.{option_copied};
@@ -18,7 +18,7 @@ use crate::owners::Owners;
 use crate::search::search;
 use crate::standing::handle_of;
 use crate::visitor::FirstOnly;
-use dbus_match::Rule;
+use dbus_match::{Rule, may_match_known};
 use dbus_view::MessageView;
 use std::alloc::{AllocError, AllocFailed, Allocator, Global};
 use std::collections::BTreeMap;
@@ -62,7 +62,7 @@ pub struct RuleSet<A: Allocator = Global> {
 }
 
 impl<A: Allocator> RuleSet<A> {
-    ghost use Rattle.dbus_rule_set.specs.Held.{held, given, rule_at, with_rule, without, AreApart, Collects, EntryMatches, HoldsOfAny};
+    ghost use Rattle.dbus_rule_set.specs.Held.{held, given, rule_at, with_rule, without, AreApart, Collects, EntryMatches, EntryMayMatch, HoldsOfAny};
 
     /// A set with no rules. It allocates nothing.
     pub fn new(alloc: A) -> Self
@@ -229,5 +229,35 @@ impl<A: Allocator> RuleSet<A> {
             IsTrue result ↔ HoldsOfAny (EntryMatches m owners.now) (held self.now) }
     {
         search(&self.rules, &self.kinds, view, owners, &mut FirstOnly).is_err()
+    }
+
+    /// Whether any rule may match the message, as [`dbus_match::may_match_view`] says, with these
+    /// owners of well-known names, and with `sender` as the name that the bus writes as SENDER, if
+    /// that is known. It asks one rule after another, up to the first that may match, and allocates
+    /// nothing.
+    ///
+    /// ```rust
+    /// use dbus_match::parse_rule;
+    /// use dbus_message::MessageView;
+    /// use dbus_rule_set::{Owners, RuleSet};
+    ///
+    /// let mut forbidden = RuleSet::new(alloc);
+    /// forbidden.add(parse_rule(alloc, "destination='org.example.Lab',member='Erase'")?)?;
+    /// let mut owners = Owners::new(alloc);
+    /// owners.set("org.example.Lab", ":1.7")?;
+    /// let view = MessageView::of(bytes)?;
+    /// println!(rt; "{}", forbidden.any_may_match(&view, Some(":1.8"), &owners))?;
+    /// ```
+    pub fn any_may_match(&self, view: &MessageView, sender: Option<&str>, owners: &Owners) -> bool
+        ensures { (order : Order) (m : MessageTree) → Views view.now order m →
+            IsTrue result ↔ HoldsOfAny (EntryMayMatch m (option_map (λ s. s.now) sender.entry) owners.now)
+            (held self.now) }
+    {
+        for (_handle, rule) in &self.rules {
+            if may_match_known(rule, view, sender, owners) {
+                return true;
+            }
+        }
+        false
     }
 }
