@@ -1,7 +1,7 @@
 -- Bytes that are gathered before they are written. g0 and g1 are what is gathered before and after.
-use Rattle.std.specs.Prelude.{◌≡◌, ℕ, List, [], ◌++◌, take, Option, Result, Ok, Err, true, false}
+use Rattle.std.specs.Prelude.{◌≡◌, ◌≢◌, ℕ, List, [], ◌++◌, take, Option, Result, Ok, Err, true, false}
 use Rattle.std.specs.Io.KnownBytes.{Appends}
-use Rattle.dbus_device.specs.Device.{one_more}
+use Rattle.dbus_device.specs.Device.{Stopped, Wrote, one_more}
 use Rattle.cli_report.specs.declared.output_buffer.OutputBuffer.{OutputBuffer}
 use Rattle.cli_report.specs.declared.gathering.Unwritten.{Unwritten}
 use Rattle.cli_report.specs.declared.ending.Cause.{Cause}
@@ -23,25 +23,26 @@ module _ {W : Type 0} (held : W → Option (List ℕ)) (failures : W → ℕ) wh
     pub appended : Appends (held old) (held new) written
     pub joined : g0 ++ bytes ≡ written ++ g1
     pub failed : failures new ≡ failures old
+    -- of nothing no write was made
+    pub unwritten : written ≡ [] → new ≡ old
 
   -- a prefix of what was gathered and then these bytes was written, and then a write failed
   pub record Breaks (bytes g0 : List ℕ) (old new : W) : Type 0 where
     pub written : List ℕ
     pub appended : Appends (held old) (held new) written
     pub front : IsPrefixTo written (g0 ++ bytes)
+    pub some : g0 ++ bytes ≢ []
     pub failed : failures new ≡ one_more (failures old)
+
+  -- these bytes were written, by no write if there are none; or a write failed after the first of
+  -- them
+  abbrev pub WritesSome : List ℕ → W → W → Result (Unit {0}) Unwritten → Type 0
+  WritesSome bytes old new (Ok x) = Wrote held failures old bytes new × (bytes ≡ [] → new ≡ old)
+  WritesSome bytes old new (Err e) = (bytes ≢ []) × (n : ℕ) × Stopped held failures old bytes n new
 
   abbrev pub Gathers : List ℕ → List ℕ → List ℕ → W → W → Result (Unit {0}) Unwritten → Type 0
   Gathers bytes g0 g1 old new (Ok x) = Passes bytes g0 g1 old new
   Gathers bytes g0 g1 old new (Err e) = Breaks bytes g0 old new
-
-  -- the same, or for want of memory nothing
-  abbrev pub GathersOrNot : List ℕ → List ℕ → List ℕ → W → W → Result (Unit {0}) Cause → Type 0
-  GathersOrNot bytes g0 g1 old new (Ok x) = Passes bytes g0 g1 old new
-  GathersOrNot bytes g0 g1 old new (Err Memory) = Passes [] g0 g1 old new
-  GathersOrNot bytes g0 g1 old new (Err ReadFailed) = ⊥
-  GathersOrNot bytes g0 g1 old new (Err WriteFailed) = Breaks bytes g0 old new
-  GathersOrNot bytes g0 g1 old new (Err TooManyReads) = ⊥
 
   -- what was done with bytes where this is why no more follow: before a read all was written
   abbrev pub Leaves : Cause → List ℕ → List ℕ → List ℕ → W → W → Type 0

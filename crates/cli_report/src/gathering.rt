@@ -1,6 +1,6 @@
 //! Bytes that are gathered before they are written.
 ghost use Rattle.std.specs.Prelude.{◌≡◌, []};
-ghost use Rattle.cli_report.specs.Gathering.{Gathers, gathered_bytes};
+ghost use Rattle.cli_report.specs.Gathering.{Gathers, WritesSome, gathered_bytes};
 
 use crate::output_buffer::OutputBuffer;
 use dbus_stream::{Sink, WrittenOnly, write_all};
@@ -20,10 +20,7 @@ pub(crate) fn write_after<W: Sink>(
         first.new result }
 {
     match write_out(gathered, first) {
-        Ok(()) => match write_all(first, bytes) {
-            Ok(()) => Ok(()),
-            Err(WrittenOnly(_)) => Err(Unwritten),
-        },
+        Ok(()) => write_some(bytes, first),
         Err(Unwritten) => Err(Unwritten),
     }
 }
@@ -37,9 +34,21 @@ pub fn write_out<W: Sink>(gathered: &mut OutputBuffer, first: &mut W) -> Result<
         first.new result }
     ensures emptied { (gathered_bytes gathered.new) ≡ [] }
 {
-    let written = write_all(first, gathered.as_slice());
+    let written = write_some(gathered.as_slice(), first);
     gathered.clear();
-    match written {
+    written
+}
+
+/// Writes these bytes, by no call if there are none.
+///
+/// `Unwritten`: a write failed, or took none of its bytes.
+pub fn write_some<W: Sink>(bytes: &[u8], first: &mut W) -> Result<(), Unwritten>
+    ensures { WritesSome W.held W.failures bytes.now first.old first.new result }
+{
+    if bytes.is_empty() {
+        return Ok(());
+    }
+    match write_all(first, bytes) {
         Ok(()) => Ok(()),
         Err(WrittenOnly(_)) => Err(Unwritten),
     }

@@ -15,7 +15,7 @@ mod telling;
 
 pub use ending::{Cause, ExitStatus};
 pub use failing::give_up;
-pub use gathering::{Unwritten, write_out};
+pub use gathering::{Unwritten, write_out, write_some};
 pub use lines::refused_line;
 pub use output_buffer::OutputBuffer;
 pub use page::Page;

@@ -1,13 +1,14 @@
 -- How `check` ends if it counts the messages, and writes one line.
-use Rattle.std.proofs.Common.{◌≡◌, ◌∙◌, ℕ, Bool, true, false, List, [], ◌∷◌, ◌++◌, Option, Ok, Err, take, drop, refl, sym, ap, subst, take-append-drop, inl, inr}
+use Rattle.std.proofs.Common.{◌≡◌, ◌≢◌, ◌∙◌, ℕ, Bool, true, false, List, [], ◌∷◌, ◌++◌, None, Some, Option, Ok, Err, take, drop, refl, sym, ap, subst, take-append-drop, inl, inr}
 use Rattle.std.specs.FinSet.{empty}
 use Rattle.dbus_names.specs.NameStates.{known_first}
+use Rattle.dbus_value_model.specs.declared.fault.Fault.{Fault}
 use Rattle.dbus_device.specs.Device.{Wrote, Stopped}
 use Rattle.cli_options.specs.declared.command.Command.TheVariants.{Check}
 use Rattle.cli_options.specs.declared.settings.Settings.{Settings}
 use Rattle.cli_options.specs.declared.window.Window.{Window}
-use Rattle.cli_run.specs.ByName.{IsUnwritten, Tallies}
-use Rattle.cli_run.specs.Told.{WritesLine, GotFirst, GotSecond, TellsStop}
+use Rattle.cli_run.specs.ByName.{Tallies}
+use Rattle.cli_run.specs.Told.{GotFirst, GotSecond, IsUnwritten, TellsStop, WritesLine}
 use Rattle.cli_run.specs.Going.{IsMore, IsStopOf, StopsWithin, closing_line}
 use Rattle.cli_run.specs.Inputs.{ArePlaced, Placed}
 use Rattle.cli_run.specs.Output.{IsFilledBy, IsOutputOfAll, after, check_line, fault_line, is_spent, status_of}
@@ -38,6 +39,11 @@ no_output (m ∷ items) = ([], [], refl, inr (λ never. never, refl), no_output 
 filled_as : (window : Window) (items : List Placed) (filled : Bool) → WantsAll items filled → IsFilledBy Check window items filled
 filled_as window items filled all = ([], no_output items, and_false (is_spent (after window 0)) ∙ sym all)
 
+-- the line is not empty
+some_line : (count size : ℕ) (fault : Option Fault) (packet : Option ℕ) → check_line count size fault packet ≢ []
+some_line count size None packet none = absurd cc
+some_line count size (Some fault) packet none = absurd cc
+
 abbrev tally_of : Counted → Tally
 tally_of counted = record { count = counted.count; size = counted.size; passed = 0; passed_size = 0; is_cut = false }
 
@@ -67,7 +73,7 @@ module _ {R W E : Type 0} (r : Reading R) (w : Writing W) (e : Writing E) (setti
   }
 
   pub gave_up : (cause : Cause) (packet : Option ℕ) → w.new ≡ w.old → Tallies (taken r) settings most packet (Err cause) → (end : ExitStatus) → end ≡ status.Failed → Told e.held e.failures e.old e.new cause → Ends end
-  gave_up cause packet same s end failed told = stops (ByCause cause) end failed told (stops_as (filled_as settings.window) (wrote_none cause same) s)
+  gave_up cause packet same s end failed told = stops (ByCause cause) end failed told (stops_as (filled_as settings.window) (λ parts items told placed h. wrote_none cause same items told h) s)
 
   -- all messages were counted
   module _ (counted : Counted) (packet : Option ℕ) (t : Tallies (taken r) settings most packet (Ok counted)) (in_words : settings.as_json ≡ false) (halts : settings.keeps_going ≡ false) where
@@ -133,5 +139,5 @@ module _ {R W E : Type 0} (r : Reading R) (w : Writing W) (e : Writing E) (setti
         let s = subst (λ (l : List ℕ). Stopped w.held w.failures w.old l n w.new) (sym all_is) half in
         let due = inr (t.cut, t.last, ap (λ (x : Tally). text ++ closing_line settings.as_json true settings.keeps_going x x.passed counted.fault) t.tally_is) in
         stops Untold end failed told (within Untold all (inl (t.kept, counted.fault, text, t.tells, due)) t.read_failed
-        (record { written = take n all; appended = s.appended; front = (drop n all, sym (take-append-drop n all)); failed = s.failed }) (wrote_nothing e.held e.failures e.old))
+        (record { written = take n all; appended = s.appended; front = (drop n all, sym (take-append-drop n all)); some = λ none. some_line counted.count counted.size counted.fault packet (sym all_is ∙ none); failed = s.failed }) (wrote_nothing e.held e.failures e.old))
     line_not cause never end failed told = absurd never

@@ -1,12 +1,12 @@
 -- The messages of a source are counted as if they were handed to a visitor that makes nothing of
 -- them.
-use Rattle.std.proofs.Common.{◌≡◌, ℕ, ◌+◌, ◌-◌, Bool, false, true, List, [], ◌++◌, Option, None, Some, Result, Ok, Err, length, length-append, refl, sym, ◌∙◌, inl, inr, arith, subst, ap}
+use Rattle.std.proofs.Common.{◌≡◌, ℕ, ◌+◌, ◌-◌, Bool, false, true, List, [], ◌∷◌, ◌++◌, Option, None, Some, Result, Ok, Err, length, length-append, refl, sym, ◌∙◌, inl, inr, arith, subst, ap}
 use Rattle.std.proofs.Math.Path.{transport}
 use Rattle.std.specs.Io.KnownBytes.{IsAtEnd}
 use Rattle.std.proofs.lemmas.Bool.{false≢true, or_parts}
 use Rattle.dbus_value_model.specs.declared.fault.Fault.{Fault}
 use Rattle.dbus_value_model.specs.declared.limits.Limits.{Limits}
-use Rattle.dbus_device.specs.Device.{RisesBy, Wrote}
+use Rattle.dbus_device.specs.Device.{RisesBy}
 use Rattle.dbus_device.specs.Packets.{Packets}
 use Rattle.dbus_device.specs.declared.packet.Packet.{Packet}
 use Rattle.dbus_stream.specs.CheckReading.{CheckAnswers, CheckReader, limits_of, lengths}
@@ -19,23 +19,22 @@ use Rattle.dbus_stream.proofs.FaultPackets.{partial_take, shows_last}
 use Rattle.dbus_stream.proofs.NextSteps.{both_ways}
 use Rattle.cli_options.specs.Limiting.{ask_more}
 use Rattle.cli_options.specs.declared.settings.Settings.{Settings}
-use Rattle.cli_report.specs.Devices.{Taken, reading, taken, Writing, writing}
+use Rattle.cli_report.specs.Devices.{Taken, reading, taken}
 use Rattle.cli_report.specs.Telling.{line_of}
 use Rattle.cli_report.specs.declared.telling.RefusedMessage.{RefusedMessage}
 use Rattle.cli_report.specs.declared.ending.Cause.{Cause}
 use Rattle.cli_report.specs.declared.ending.Cause.TheVariants.{Memory, ReadFailed, WriteFailed, TooManyReads}
-use Rattle.dbus_count.specs.Counting.{counting_of}
 use Rattle.dbus_count.specs.Spans.{with_times}
+use Rattle.dbus_count.specs.Tables.{IsSummary}
 use Rattle.dbus_count.specs.declared.form.Form.{Form}
-use Rattle.cli_report.specs.declared.ending.ExitStatus.{ExitStatus}
-use Rattle.cli_run.specs.ByName.{IsUnwritten, LeavesCounted, Tallies, CountsMessages, CountsThrough, EndsCount, after_messages, counting, span_of, times_of}
-use Rattle.cli_run.specs.Going.{Covers, Goes, GoesThrough, IsMore, IsStopOf, IsToldIn, IsToldLast, StopsWithin}
+use Rattle.cli_run.specs.ByName.{CountsState, EndsCounts, MakesCounts, Tallies, after_messages, counting, span_of, times_of}
+use Rattle.cli_run.specs.Going.{Covers, IsMore, IsStopOf, IsToldIn, IsToldLast}
 use Rattle.cli_run.specs.Onward.{HasPacketsIf, HasRead, HandsAllOn, HandsOn, HandsSomeOn}
 use Rattle.cli_run.specs.Refusals.{IsFaultIn, IsRefusedIn, number_of}
 use Rattle.cli_run.specs.Inputs.{Placed, looked_in, sizes_of, wholes}
 use Rattle.cli_run.specs.Output.{fault_line}
-use Rattle.cli_run.specs.Told.{GotSecond}
-use Rattle.cli_run.specs.Visiting.{AddsUp, FillsBy, WantsAll}
+use Rattle.cli_run.specs.Told.{IsUnwritten}
+use Rattle.cli_run.specs.Visiting.{AddsUp, WantsAll}
 use Rattle.cli_run.specs.declared.counted.Counted.{Counted}
 use Rattle.cli_run.specs.declared.visitor.RunStop.{RunStop}
 use Rattle.cli_run.specs.declared.visitor.RunStop.TheVariants.{Cause as ByCause}
@@ -43,8 +42,6 @@ use Rattle.cli_run.proofs.GoSteps.{wholes_tally}
 use Rattle.cli_run.proofs.HandSteps.{Faults}
 use Rattle.cli_run.proofs.KnownPackets.{refused_there}
 use Rattle.cli_run.proofs.PartLaws.{is_last, parts_of, reach_wholes, sizes-wholes, some_placed, told_of}
-use Rattle.cli_run.specs.declared.by_name.Counter.{Counter}
-use Rattle.cli_run.proofs.EndSteps.{goes_as, stops_as, through_by}
 use Rattle.cli_run.proofs.Wanted.{wanted_all}
 
 -- what the counting keeps of messages is their number, which the loop counts
@@ -182,31 +179,18 @@ module _ {R : Type 0} (left : R → Option (List ℕ)) (calls failures : R → �
       → Tallies Took settings (most_reads_of old) packet_last res
   tallied same res h = tallies res (subst (λ (l : Limits). HandsOn lengths left calls l [] failures counts gives_up never_full 0 none_known old new tt tt res) (sym same) h)
 
--- How a run ends that counts messages by their names.
+-- What is made of a message, and how a run ends, if messages are counted by their names.
 
-module _ {R W E : Type 0} (left : R → Option (List ℕ)) (calls read_failures : R → ℕ) (packets : R → Option Packets) (held : E → Option (List ℕ)) (failures : E → ℕ) (w : Writing W) (settings : Settings) (form : Form) (most : ℕ) (r0 r1 : R)
-    (a b : Counter E) {r2 : R} {e1 : E} (source : r1 ≡ r2) (second : b.second.now ≡ e1) where
-  -- all was told, and the tables are those of the counts
-  pub counts_all : {N : (size : ℕ) → Type 0} (e2 : E) (due end : ExitStatus) → ((name : List ℕ) → counting_of a.counts name ≡ None) → a.span ≡ None
-      → Goes (taken (reading left calls read_failures packets r0 r1)) settings most false (FillsBy (CountsMessages held failures) (λ _. false) a) N (CountsMessages held failures a b) due → EndsCount w (writing held failures e1 e2) form (counting_of b.counts) b.span due end
-      → CountsThrough (reading left calls read_failures packets r0 r2) w (writing held failures a.second.now e2) settings form most end
-  counts_all e2 due end none fresh g ends =
-      let all_wanted : (l : List Placed) (b : Bool) → FillsBy (CountsMessages held failures) (λ _. false) a l b → WantsAll l b = λ l b h. sym h.3 in
-      let after : (items : List Placed) (told : List ℕ) → CountsMessages held failures a b items told → Wrote held failures a.second.now told e1 × EndsCount w (writing held failures e1 e2) form (counting items) (span_of items) due end
-      = λ items told h. (
-        subst (λ (x : E). Wrote held failures a.second.now told x) second h.tells,
-        transport (λ i. EndsCount w (writing held failures e1 e2) form (λ name. (h.counts name ∙ ap (λ x. after_messages items name x) (none name)) i) ((h.span ∙ ap (λ x. with_times (times_of items) x) fresh) i) due end) ends,
-      ) in
-      record {
-        due = due;
-        before = e1;
-        through = subst (λ (x : R). GoesThrough (taken (reading left calls read_failures packets r0 x)) settings most false WantsAll
-            (λ items told. Wrote held failures a.second.now told e1 × EndsCount w (writing held failures e1 e2) form (counting items) (span_of items) due end) due) source (goes_as all_wanted after (through_by all_wanted g));
-      }
+pub counts_one : (s : CountsState) (item : Placed) (P : CountsState → List ℕ → Type 0)
+    → P (record { form = s.form; counts = λ name. after_messages (item ∷ []) name (s.counts name); span = with_times (times_of (item ∷ [])) s.span }) []
+    → (t : CountsState) × (text : List ℕ) × MakesCounts s (item ∷ []) text t × P t text
+counts_one s item P p = (record { form = s.form; counts = λ name. after_messages (item ∷ []) name (s.counts name); span = with_times (times_of (item ∷ [])) s.span }, [], record { form_is = refl; counts_are = λ name. refl; span_is = refl; none = refl }, p)
 
-  -- reading or telling was given up
-  pub gave_up : {stop : RunStop} → StopsWithin (taken (reading left calls read_failures packets r0 r1)) settings most false (FillsBy (CountsMessages held failures) (λ _. false) a) (LeavesCounted held failures a b) stop
-      → StopsWithin (taken (reading left calls read_failures packets r0 r2)) settings most false WantsAll (λ items told stop. IsUnwritten stop × GotSecond held failures false stop told a.second.now e1) stop
-  gave_up {stop} s =
-      subst (λ (x : R). StopsWithin (taken (reading left calls read_failures packets r0 x)) settings most false WantsAll (λ items told stop. IsUnwritten stop × GotSecond held failures false stop told a.second.now e1) stop) source
-      (stops_as (λ l b h. sym h.3) (λ items told h. (h.unwritten, subst (λ (x : E). GotSecond held failures false stop told a.second.now x) second h.tells)) s)
+module _ (form : Form) where
+  -- where it starts
+  abbrev pub start : CountsState
+  start = record { form = form; counts = λ name. None; span = None }
+
+  -- the counts and the span are those of the messages
+  pub counts_all : (items : List Placed) (t : CountsState) (text last note : List ℕ) → MakesCounts start items text t → EndsCounts t last note → IsSummary form (counting items) (span_of items) last × (note ≡ [])
+  counts_all items t text last note h e = (transport (λ i. IsSummary (h.form_is i) (λ name. h.counts_are name i) (h.span_is i) last) e.0, e.1)

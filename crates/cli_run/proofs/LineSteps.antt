@@ -22,12 +22,11 @@ use Rattle.cli_run.specs.Laws.{SomeLines}
 use Rattle.cli_run.specs.LineListing.{AreLinesFilled, AreLinesOf, AreLinesOfOne, IsLineAfter, LinesState, ListsLines, MakesLines, StandsAt, WritesLines}
 use Rattle.cli_run.specs.LineNames.{first_names, names_after, owners_for, told_beside}
 use Rattle.cli_run.specs.Output.{is_spent, line_place, written}
-use Rattle.cli_run.specs.Told.{GotFirst, GotSecond}
+use Rattle.cli_run.specs.Told.{GotFirst, GotSecond, IsUnwritten}
 use Rattle.cli_run.specs.VisitorLaws.{written_none, wrote_nothing}
 use Rattle.cli_run.specs.declared.line_listing.LineRenderer.{LineRenderer}
 use Rattle.cli_run.specs.declared.place.MessagePlace.{MessagePlace}
 use Rattle.cli_run.specs.declared.visitor.RunStop.{RunStop}
-use Rattle.cli_run.specs.declared.visitor.RunStop.TheVariants.{Cause as ByCause}
 use Rattle.cli_run.proofs.EndSteps.{unread as unread_by}
 
 -- ---- each message has a line
@@ -67,13 +66,13 @@ module _ {W E : Type 0} (held : W → Option (List ℕ)) (failures : W → ℕ) 
       → WritesLines (writing held failures w0 w2) (writing second_held second_failures e0 e2) settings wanted items told
   wrote_as items told (t, text, h, first, second) = (h.lines, h.are, subst (λ (l : List ℕ). Wrote held failures w0 l w2) h.text_is first, second)
 
-  pub left_as : (stop : RunStop) (items : List Placed) (told : List ℕ) → (t : LinesState) × (text : List ℕ) × MakesLines start items text t × GotFirst held failures false stop text w0 w2 × GotSecond second_held second_failures false stop told e0 e2
+  pub left_as : (stop : RunStop) (items : List Placed) (told : List ℕ) → (t : LinesState) × (text : List ℕ) × MakesLines start items text t × GotFirst held failures false stop text w0 w2 × GotSecond second_held second_failures false stop told e0 e2 × (text ≡ [] → IsUnwritten stop × (w2 ≡ w0))
       → (lines : List (List ℕ)) × AreLinesOf wanted (first_names wanted.selection) [] items lines × GotFirst held failures false stop (written settings.window lines) w0 w2 × GotSecond second_held second_failures false stop told e0 e2
-  left_as stop items told (t, text, h, first, second) = (h.lines, h.are, subst (λ (l : List ℕ). GotFirst held failures false stop l w0 w2) h.text_is first, second)
+  left_as stop items told (t, text, h, first, second, still) = (h.lines, h.are, subst (λ (l : List ℕ). GotFirst held failures false stop l w0 w2) h.text_is first, second)
 
   -- whether no more are wanted
-  pub filled_as : (items : List Placed) (filled : Bool) → (c : LineRenderer) × (t : LinesState) × (text : List ℕ) × MakesLines start items text t × StandsAt c t × (is_spent c.window ≡ filled) → AreLinesFilled wanted settings.window items filled
-  filled_as items filled (c, t, text, h, there, is) = (h.lines, h.are, ap (λ (x : LinesState). is_spent x.window) (sym h.then ∙ there.1) ∙ is)
+  pub filled_as : (items : List Placed) (filled : Bool) → (c : LineRenderer) × (is_spent c.window ≡ filled) × (Unit {0} → (t : LinesState) × (text : List ℕ) × MakesLines start items text t × StandsAt c t) → AreLinesFilled wanted settings.window items filled
+  filled_as items filled (c, is, made) = let m = made tt in (m.2.lines, m.2.are, ap (λ (x : LinesState). is_spent x.window) (sym m.2.then ∙ m.3.1) ∙ is)
 
 -- nothing is read for want of memory
 pub unread : {R W E : Type 0} (left : R → Option (List ℕ)) (calls read_failures : R → ℕ) (packets : R → Option Packets) (r : R) (held : W → Option (List ℕ)) (failures : W → ℕ) (w : W) (second_held : E → Option (List ℕ)) (second_failures : E → ℕ) (e0 e1 : E)

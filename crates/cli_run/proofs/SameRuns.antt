@@ -10,7 +10,7 @@ use Rattle.dbus_value_model.specs.declared.fault.Fault.{Fault}
 use Rattle.dbus_value_model.specs.declared.limits.Limits.{Limits}
 use Rattle.dbus_count.specs.Counting.{Counting}
 use Rattle.dbus_count.specs.Spans.{span_text}
-use Rattle.dbus_count.specs.Tables.{AreTables, words, OneTable}
+use Rattle.dbus_count.specs.Tables.{AreTables, IsSummary, words, OneTable}
 use Rattle.dbus_call_lines.specs.Keeping.{ended_rows}
 use Rattle.dbus_call_lines.specs.Listing.{AreListed, Row, rows_text, Numbered}
 use Rattle.dbus_call_lines.proofs.Rows.{one_list}
@@ -29,10 +29,10 @@ use Rattle.cli_report.specs.declared.ending.Cause.{Cause}
 use Rattle.cli_report.specs.declared.ending.ExitStatus.{ExitStatus}
 use Rattle.cli_report.specs.declared.ending.ExitStatus.TheVariants as status
 use Rattle.cli_run.specs.Laws.{AreOfOneInput, AreOfSamePackets, AreToldAlike, EndAlike, GotAlike, MadeAlike, OneCalls, OneCount, OneListing, OneRun, OneSums, OneWithin, TellAlike}
-use Rattle.cli_run.specs.ByName.{EndsBy, WritesTables, counting, span_of}
-use Rattle.cli_run.specs.CallListing.{EndsNoted, IsNote, WritesCalls, all_named, lack_times, notes, numbered}
-use Rattle.cli_run.specs.CallSumming.{IsTableOf, WritesSums}
-use Rattle.cli_run.specs.Ending.{EndsAfterAll}
+use Rattle.cli_run.specs.ByName.{counting, span_of}
+use Rattle.cli_run.specs.CallListing.{IsNote, WritesCalls, all_named, lack_times, notes, numbered}
+use Rattle.cli_run.specs.CallSumming.{IsTableOf}
+use Rattle.cli_run.specs.Ending.{EndsAfterAll, EndsNoted, WritesText}
 use Rattle.cli_run.specs.Going.{AreTold, Goes, GoesFar, GoesThrough, IsThrough, IsToldLast, closing_line, cut_tally, passed_count, status_at, tally_of, tally_with}
 use Rattle.cli_run.specs.Inputs.{ArePlaced, BeginWithParts, Part, Placed, looked_in, size_of, sizes_of, wholes}
 use Rattle.cli_run.specs.Needed.{IsReadFor}
@@ -342,15 +342,11 @@ one_listing R S W V E F r s w v e f settings wanted most more end other (inl g) 
 one_listing R S W V E F r s w v e f settings wanted most more end other (inl g) (inr gave_up) is packets = absurd (is.other_done gave_up.failed)
 one_listing R S W V E F r s w v e f settings wanted most more end other (inr gave_up) listed is packets = absurd (is.done gave_up.failed)
 
--- what is due was written
-ended : {E : Type 0} (Writes : Result (Unit {0}) Cause → Type 0) (e : Writing E) (due end : ExitStatus) → (end ≡ status.Failed → ⊥) → EndsBy Writes e due end → Writes (Ok tt) × (e.new ≡ e.old) × (end ≡ due)
-ended Writes e due end done ends = elim ends [ inl all ↦ all | inr some ↦ absurd (done some.3) ]
-
--- and a note was told
+-- what is due was written, and a note was told
 ended_noted : {E : Type 0} (Writes : Result (Unit {0}) Cause → Type 0) (Is : (note : List ℕ) → Type 0) (e : Writing E) (due end : ExitStatus) → (end ≡ status.Failed → ⊥) → EndsNoted Writes Is e due end
     → Writes (Ok tt) × (note : List ℕ) × Is note × Wrote e.held e.failures e.old note e.new × (end ≡ due)
 ended_noted Writes Is e due end done ends = elim ends [
-  | inl all ↦ elim all.3 [ inl told ↦ (all.0, all.1, all.2, told.0, told.1) | inr stopped ↦ absurd (done stopped.2) ]
+  | inl all ↦ elim all.3 [ inl told ↦ (all.0, all.1, all.2, told.0.0, told.1) | inr stopped ↦ absurd (done stopped.1) ]
   | inr some ↦ absurd (done some.3)
 ]
 
@@ -373,21 +369,21 @@ after_alike r s e f settings g h is due =
 
 pub one_count : (R S W V E F : Type 0) → OneTable → OneCount R S W V E F
 one_count R S W V E F one_table r s w v e f settings form most more end other (inl g) (inl h) is =
-    let due = (ended (WritesTables w form _ _) (writing e.held e.failures g.before e.new) g.due end is.done g.through.came.1).2 in
+    let due = (ended_noted (WritesText _ w) (λ note. note ≡ []) (writing e.held e.failures g.before e.new) g.due end is.done g.through.came.1).4 in
     let all = after_alike r s e f settings g h is due in
     let told = all.2 in
     let items = all.0 in
     let also = all.1 in
     let counts_too = λ (name : List ℕ). same_counts (s.packets s.old) (r.packets r.old) 1 0 all.6 also items name None all.8 all.7 in
-    let one = ended (WritesTables w form (counting items) (span_of items)) (writing e.held e.failures g.before e.new) g.due end is.done all.3.1 in
-    let too = ended (WritesTables v form (counting also) (span_of also)) (writing f.held f.failures h.before f.new) h.due other is.other_done all.4.1 in
+    let one = ended_noted (WritesText (IsSummary form (counting items) (span_of items)) w) (λ note. note ≡ []) (writing e.held e.failures g.before e.new) g.due end is.done all.3.1 in
+    let too = ended_noted (WritesText (IsSummary form (counting also) (span_of also)) v) (λ note. note ≡ []) (writing f.held f.failures h.before f.new) h.due other is.other_done all.4.1 in
     let same = subst (λ (c : Counting). AreTables form c words too.0.1.tables) (λ i name. counts_too name i) too.0.1.are in
     let table = one_table form (counting items) words one.0.1.tables too.0.1.tables one.0.1.are same in
-    let ends : other ≡ end = too.2 ∙ (all.5 ∙ sym one.2) in
+    let ends : other ≡ end = too.4 ∙ (all.5 ∙ sym one.4) in
     let second : GotAlike e f = (
-      told,
-      subst (λ (x : E). Wrote e.held e.failures e.old told x) (sym one.1) all.3.0,
-      subst (λ (x : F). Wrote f.held f.failures f.old told x) (sym too.1) all.4.0,
+      told ++ one.1,
+      wrote_both e.held e.failures told one.1 e.old g.before e.new all.3.0 one.3,
+      subst (λ (l : List ℕ). Wrote f.held f.failures f.old (told ++ l) f.new) (too.2 ∙ sym one.2) (wrote_both f.held f.failures told too.1 f.old h.before f.new all.4.0 too.3),
     ) in (
       record {
         status_is = ends;
@@ -403,8 +399,8 @@ one_count R S W V E F one_table r s w v e f settings form most more end other (i
           let text : one.0.0 ≡ too.0.0 = one.0.1.is ∙ ((λ i. table i ++ span_text form (span_of (placed i))) ∙ sym too.0.1.is) in
           record { status_is = ends; first = (one.0.0, one.0.2, subst (λ l. Wrote v.held v.failures v.old l v.new) (sym text) too.0.2); second = second },
     )
-one_count R S W V E F one_table r s w v e f settings form most more end other (inl g) (inr gave_up) is = absurd (is.other_done gave_up.0.failed)
-one_count R S W V E F one_table r s w v e f settings form most more end other (inr gave_up) counted is = absurd (is.done gave_up.0.failed)
+one_count R S W V E F one_table r s w v e f settings form most more end other (inl g) (inr gave_up) is = absurd (is.other_done gave_up.failed)
+one_count R S W V E F one_table r s w v e f settings form most more end other (inr gave_up) counted is = absurd (is.done gave_up.failed)
 
 -- two runs that write a text of all messages, and then a note: the text is one
 module _ {R S W V E F : Type 0} (r : Reading R) (s : Reading S) (w : Writing W) (v : Writing V) (e : Writing E) (f : Writing F) (settings : Settings) {most more : ℕ} {end other : ExitStatus} (lacks : List Placed → Bool) (xs : List Placed → List Numbered)
@@ -457,9 +453,9 @@ one_calls R S W V E F r s w v e f settings wanted most more end other (inr gave_
 
 pub one_sums : (R S W V E F : Type 0) → OneSums R S W V E F
 one_sums R S W V E F r s w v e f settings wanted most more end other (inl g) (inl h) is packets =
-    noted_alike r s w v e f settings (lack_times wanted) numbered (IsTableOf wanted) (one_sums_text wanted) (WritesSums w wanted) (WritesSums v wanted) (λ items sums. sums) (λ items sums. sums) g h is packets
-one_sums R S W V E F r s w v e f settings wanted most more end other (inl g) (inr gave_up) is packets = absurd (is.other_done gave_up.0.failed)
-one_sums R S W V E F r s w v e f settings wanted most more end other (inr gave_up) summed is packets = absurd (is.done gave_up.0.failed)
+    noted_alike r s w v e f settings (lack_times wanted) numbered (IsTableOf wanted) (one_sums_text wanted) (λ items. WritesText (IsTableOf wanted items) w) (λ items. WritesText (IsTableOf wanted items) v) (λ items sums. sums) (λ items sums. sums) g h is packets
+one_sums R S W V E F r s w v e f settings wanted most more end other (inl g) (inr gave_up) is packets = absurd (is.other_done gave_up.failed)
+one_sums R S W V E F r s w v e f settings wanted most more end other (inr gave_up) summed is packets = absurd (is.done gave_up.failed)
 
 -- ---- runs under limits alone
 

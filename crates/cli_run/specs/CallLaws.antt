@@ -1,27 +1,16 @@
--- The laws of the visitor that lists calls. They are here, and not in proofs/, because the trait's
--- law names them.
-use Rattle.std.proofs.Common.{◌≡◌, ℕ, Bool, true, false, ◌||◌, is_some, List, [], ◌∷◌, ◌++◌, Option, refl, sym, ap, ◌∙◌, subst, append-nil, append_assoc}
-use Rattle.dbus_call_lines.specs.CallLines.{front}
-use Rattle.dbus_call_lines.specs.Keeping.{Keeps}
+-- The laws of what makes the lines of calls. They are here, and not in proofs/, because the trait's
+-- laws name them.
+use Rattle.std.proofs.Common.{◌≡◌, ℕ, Bool, true, false, ◌||◌, is_some, List, [], ◌∷◌, ◌++◌, refl, sym, ap, ◌∙◌, subst, append-nil, append_assoc}
 use Rattle.dbus_call_lines.specs.Listing.{AreListedBy, AreRising, Numbered, Row, nth, rows_text}
 use Rattle.dbus_call_lines.proofs.Along.{listed_both}
 use Rattle.dbus_call_lines.proofs.Some.{front_rises}
 use Rattle.dbus_call_lines.proofs.Written.{lines_both}
-use Rattle.dbus_names.specs.Kept.{state_of}
 use Rattle.dbus_names.specs.NameStates.{NameState}
-use Rattle.cli_report.specs.Gathering.{Passes, gathered_bytes}
-use Rattle.cli_report.specs.PageLaws.{passes_both, passes_none}
-use Rattle.cli_run.specs.CallListing.{LeavesCalls, LeavesNamed, ListsNamed, TakesCalls, have_time, named, named_at, number_and_time, numbered}
-use Rattle.cli_report.specs.declared.ending.Cause.TheVariants.{Memory, ReadFailed, TooManyReads}
+use Rattle.std.proofs.lemmas.Bool.{false≢true}
+use Rattle.cli_run.specs.CallListing.{CallsState, FollowRising, ListsAt, MakesCalls, calls_after, have_time, named, named_at, number_and_time, numbered}
 use Rattle.cli_run.specs.Inputs.{Placed}
 use Rattle.cli_run.specs.LineNames.{names_after, names_after_all}
-use Rattle.cli_run.specs.OutputWriting.{LeavesFirst}
-use Rattle.cli_run.specs.Told.{GotSecond}
-use Rattle.cli_run.specs.Visiting.{AddsUp}
-use Rattle.cli_run.specs.VisitorLaws.{first_after, second_after, wrote_both, wrote_nothing}
-use Rattle.cli_run.specs.declared.call_listing.Lister.{Lister}
-use Rattle.cli_run.specs.declared.visitor.RunStop.{RunStop}
-use Rattle.cli_run.specs.declared.visitor.RunStop.TheVariants.{Cause as ByCause}
+use Rattle.cli_run.specs.declared.call_listing.CallRenderer.{CallRenderer}
 
 numbered_both : (s t : List Placed) → numbered (s ++ t) ≡ numbered s ++ numbered t
 numbered_both [] t = refl
@@ -75,89 +64,43 @@ module _ (before : List Numbered) (s t : List Placed) where
   pub by_both : (a b : List Row) → AreListedBy before (numbered s) a → AreListedBy (before ++ numbered s) (numbered t) b → AreListedBy before (numbered (s ++ t)) (a ++ b)
   by_both = listed_by_both before (numbered (s ++ t)) (numbered s) (numbered t) (numbered_both s t)
 
-module _ {W E : Type 0} (held : W → Option (List ℕ)) (failures : W → ℕ) (second_held : E → Option (List ℕ)) (second_failures : E → ℕ) where
-  abbrev Takes : Lister W E → Lister W E → List Placed → (told : List ℕ) → Type 0
-  Takes a b s p = TakesCalls held failures second_held second_failures a b s p
+-- ---- the laws
 
-  abbrev Leaves : Lister W E → Lister W E → List Placed → (told : List ℕ) → RunStop → Type 0
-  Leaves a b s p stop = LeavesCalls held failures second_held second_failures a b s p stop
+pub nothing : (s : CallsState) → MakesCalls s [] [] s
+nothing s = record {
+  rows = [];
+  are = refl;
+  text_is = refl;
+  after_is = λ i. record { wanted = s.wanted; names = s.names; timed = or_false s.timed i; before = sym (append-nil s.before) i };
+}
 
-  none_taken : (a : Lister W E) → Takes a a [] []
-  none_taken a = record {
-    same_first = refl;
-    same_second = refl;
-    lists = λ wanted before keeps rising.
-        (subst (λ (l : List Numbered). Keeps front wanted l a.list) (sym (append-nil before)) keeps, [], refl, passes_none held failures (gathered_bytes a.gathered) a.first.now);
-    names = refl;
-    timed = or_false a.timed;
-    tells = wrote_nothing second_held second_failures a.second.now;
+module _ (s : CallsState) (a b : List Placed) where
+  abbrev all : List Numbered
+  all = named s.names (a ++ b)
+
+  abbrev now : NameState
+  now = names_after_all s.names a
+
+  apart : all ≡ named s.names a ++ named now b
+  apart = named_both s.names a b
+
+  -- from where the first rows leave off
+  after_first : (p q : List ℕ) (u : CallsState) (h : List Row) → AreListedBy s.before (named s.names a) h → p ≡ rows_text s.wanted h → MakesCalls (calls_after s a) b q u → MakesCalls s (a ++ b) (p ++ q) u
+  after_first p q u h are text k = record {
+    rows = h ++ k.rows;
+    are = listed_by_both s.before all (named s.names a) (named now b) apart h k.rows are k.are;
+    text_is = (λ i. text i ++ k.text_is i) ∙ sym (lines_both s.wanted h k.rows);
+    after_is = k.after_is ∙ (λ i. record { wanted = s.wanted; names = names_both s.names a b i; timed = times_both s.timed a b i; before = sym (then_both s.before all (named s.names a) (named now b) apart) i });
   }
 
-  both_taken : (a b c : Lister W E) (s t : List Placed) (p q : List ℕ) → Takes a b s p → Takes b c t q → Takes a c (s ++ t) (p ++ q)
-  both_taken a b c s t p q h k = record {
-    same_first = k.same_first ∙ h.same_first;
-    same_second = k.same_second ∙ h.same_second;
-    lists = λ wanted before keeps rising.
-        let os = state_of a.names in
-        let now = names_after_all os s in
-        let all = named os (s ++ t) in
-        let both = named_both os s t in
-        let later : ListsNamed held failures now t b c = subst (λ (k : NameState). ListsNamed held failures k t b c) h.names k.lists in
-        let first = h.lists wanted before keeps (rise_first before all (named os s) (named now t) both rising) in
-        let more = later wanted (before ++ named os s) first.0 (rise_both before all (named os s) (named now t) both rising) in (
-          subst (λ (l : List Numbered). Keeps front wanted l c.list) (sym (then_both before all (named os s) (named now t) both)) more.0,
-          first.1 ++ more.1,
-          listed_by_both before all (named os s) (named now t) both first.1 more.1 first.2 more.2,
-          subst (λ (l : List ℕ). Passes held failures l (gathered_bytes a.gathered) (gathered_bytes c.gathered) a.first.now c.first.now) (sym (lines_both wanted first.1 more.1))
-              (passes_both held failures (rows_text wanted first.1) (rows_text wanted more.1) (gathered_bytes a.gathered) (gathered_bytes b.gathered) (gathered_bytes c.gathered) a.first.now b.first.now c.first.now first.3 more.3),
-        );
-    names = k.names ∙ (ap (λ os. names_after_all os t) h.names ∙ names_both (state_of a.names) s t);
-    timed = k.timed ∙ (ap (λ z. z || have_time t) h.timed ∙ times_both a.timed s t);
-    tells = wrote_both second_held second_failures p q a.second.now b.second.now c.second.now h.tells k.tells;
-  }
+  pub splits : FollowRising s (a ++ b) → FollowRising s a × ((t : CallsState) (p : List ℕ) → MakesCalls s a p t → FollowRising t b)
+  splits up = (
+    rise_first s.before all (named s.names a) (named now b) apart up,
+    λ t p h. subst (λ (x : CallsState). FollowRising x b) (sym h.after_is) (rise_both s.before all (named s.names a) (named now b) apart up),
+  )
 
-  left_after : (a b c : Lister W E) (s t : List Placed) (p q : List ℕ) (stop : RunStop) → Takes a b s p → Leaves b c t q stop → Leaves a c (s ++ t) (p ++ q) stop
-  left_after a b c s t p q stop h k = record {
-    same_first = k.same_first ∙ h.same_first;
-    same_second = k.same_second ∙ h.same_second;
-    lists = λ wanted before keeps rising.
-        let os = state_of a.names in
-        let now = names_after_all os s in
-        let all = named os (s ++ t) in
-        let both = named_both os s t in
-        let later : LeavesNamed held failures now t stop b c = subst (λ (k : NameState). LeavesNamed held failures k t stop b c) h.names k.lists in
-        let first = h.lists wanted before keeps (rise_first before all (named os s) (named now t) both rising) in
-        let more = later wanted (before ++ named os s) first.0 (rise_both before all (named os s) (named now t) both rising) in (
-          first.1 ++ more.0,
-          listed_by_both before all (named os s) (named now t) both first.1 more.0 first.2 more.1,
-          subst (λ (l : List ℕ). LeavesFirst held failures false stop l (gathered_bytes a.gathered) a.first.now c.first.now) (sym (lines_both wanted first.1 more.0))
-              (first_after held failures false stop (rows_text wanted first.1) (rows_text wanted more.0) (gathered_bytes a.gathered) (gathered_bytes b.gathered) a.first.now b.first.now c.first.now first.3 more.2),
-        );
-    tells = second_after second_held second_failures false stop p q a.second.now b.second.now c.second.now h.tells k.tells;
-  }
+pub joins : (s t u : CallsState) (a b : List Placed) (p q : List ℕ) → MakesCalls s a p t → MakesCalls t b q u → MakesCalls s (a ++ b) (p ++ q) u
+joins s t u a b p q h k = after_first s a b p q u h.rows h.are h.text_is (subst (λ (x : CallsState). MakesCalls x b q u) h.after_is k)
 
-  -- nothing is held back
-  rests_by : (a b : Lister W E) (s : List Placed) (p : List ℕ) → Takes a b s p → gathered_bytes b.gathered ≡ [] → (stop : RunStop)
-      → ((bytes : List ℕ) → Passes held failures bytes (gathered_bytes a.gathered) [] a.first.now b.first.now → LeavesFirst held failures false stop bytes (gathered_bytes a.gathered) a.first.now b.first.now)
-      → GotSecond second_held second_failures false stop p a.second.now b.second.now → Leaves a b s p stop
-  rests_by a b s p h none stop first second = record {
-    same_first = h.same_first;
-    same_second = h.same_second;
-    lists = λ wanted before keeps rising.
-        let l = h.lists wanted before keeps rising in
-        (l.1, l.2, first (rows_text wanted l.1) (subst (λ (g : List ℕ). Passes held failures (rows_text wanted l.1) (gathered_bytes a.gathered) g a.first.now b.first.now) none l.3));
-    tells = second;
-  }
-
-  pub lister_adds_up : AddsUp Takes Leaves (λ a. gathered_bytes a.gathered ≡ []) (λ _. false)
-  lister_adds_up = record {
-    still = λ a b p h. refl;
-    nothing = none_taken;
-    joins = both_taken;
-    leaves_after = left_after;
-    rests = λ a b s p h none. (
-      rests_by a b s p h none (ByCause Memory) (λ bytes q. q) h.tells,
-      rests_by a b s p h none (ByCause ReadFailed) (λ bytes q. q) h.tells,
-      rests_by a b s p h none (ByCause TooManyReads) (λ bytes q. q) h.tells,
-    );
-  }
+pub quiet : (a : CallRenderer) (s t : CallsState) (items : List Placed) (text : List ℕ) → false ≡ true → ListsAt a s → MakesCalls s items text t → text ≡ []
+quiet a s t items text never there h = absurd (false≢true never)

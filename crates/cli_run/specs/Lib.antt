@@ -1,4 +1,5 @@
 pub mod RuleLists
+pub mod LentDrafts
 pub mod Learning
 pub mod Output
 pub mod Refusals
@@ -25,4 +26,5 @@ pub mod VisitorLaws
 pub mod RenderingLaws
 pub mod CallLaws
 pub mod SumLaws
+pub mod CountLaws
 pub mod Laws

@@ -7,7 +7,6 @@ use Rattle.dbus_message_model.specs.Messages.{MessageTree}
 use Rattle.dbus_call_lines.specs.Listing.{Numbered, nth}
 use Rattle.dbus_list.specs.Lines.{IsLine}
 use Rattle.dbus_list.specs.Pairs.{KeepsCalls, TellsCall, ToldCall}
-use Rattle.dbus_list.specs.Told.{Told}
 use Rattle.dbus_names.specs.Kept.{state_of}
 use Rattle.dbus_names.specs.NameStates.{KnownNames, NameState}
 use Rattle.cli_options.specs.Selections.{SelectsBy}

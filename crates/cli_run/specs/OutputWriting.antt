@@ -1,15 +1,13 @@
 -- What becomes of a writer of an output by messages, and by what it tells. stands says in which
 -- states its renderer may stand, makes which texts that makes of messages from a state to another,
--- and silent whether it makes none.
+-- follows which messages may come after a state, and silent whether it makes none.
 use Rattle.std.specs.Prelude.{◌≡◌, ℕ, Bool, true, false, List, [], ◌∷◌, Option, Result, Ok, Err, OnOk}
 use Rattle.std.specs.declared.alloc.AllocError.{AllocError}
 use Rattle.dbus_device.specs.Device.{Wrote}
 use Rattle.dbus_value_model.specs.declared.order.Order.{Order}
 use Rattle.dbus_message_model.specs.Messages.{MessageTree}
 use Rattle.cli_report.specs.Devices.{Writing}
-use Rattle.cli_report.specs.Gathering.{Breaks, GathersOrNot, Leaves, Passes, gathered_bytes}
-use Rattle.cli_report.specs.declared.ending.Cause.{Cause}
-use Rattle.cli_report.specs.declared.ending.Cause.TheVariants.{Memory, WriteFailed}
+use Rattle.cli_report.specs.Gathering.{Breaks, Leaves, Passes, gathered_bytes}
 use Rattle.cli_report.specs.declared.gathering.Unwritten.{Unwritten}
 use Rattle.cli_run.specs.Inputs.{Placed}
 use Rattle.cli_run.specs.Told.{GotSecond, first_of, second_of}
@@ -31,8 +29,13 @@ module _ {C S : Type 0} (stands : C → S → Type 0) where
   -- after
   abbrev pub GathersOne : {W : Type 0} → Writing W → S → C → (text g0 g1 : List ℕ) → Result (Result (Unit {0}) AllocError) Unwritten → Type 0
   GathersOne w t new text g0 g1 (Ok (Ok x)) = stands new t × Passes w.held w.failures text g0 g1 w.old w.new
-  GathersOne w t new text g0 g1 (Ok (Err short)) = Passes w.held w.failures [] g0 g1 w.old w.new
+  GathersOne w t new text g0 g1 (Ok (Err short)) = Unit {0}
   GathersOne w t new text g0 g1 (Err e) = Breaks w.held w.failures text g0 w.old w.new
+
+-- for want of memory nothing is made of it
+abbrev pub GathersNone : {W : Type 0} → Writing W → (g0 g1 : List ℕ) → Result (Result (Unit {0}) AllocError) Unwritten → Type 0
+GathersNone w g0 g1 (Ok (Err short)) = Passes w.held w.failures [] g0 g1 w.old w.new
+GathersNone w g0 g1 made = Unit {0}
 
 module _ {W : Type 0} (held : W → Option (List ℕ)) (failures : W → ℕ) where
   -- what was done with bytes for the first writer, if a run is given up: unless a write to it
@@ -42,14 +45,7 @@ module _ {W : Type 0} (held : W → Option (List ℕ)) (failures : W → ℕ) wh
   LeavesFirst true Untold bytes g w0 w1 = Breaks held failures bytes g w0 w1
   LeavesFirst false Untold bytes g w0 w1 = Passes held failures bytes g [] w0 w1
 
-  -- why a run fails then that fails by a cause: if memory ran out, what is gathered is written
-  -- first
-  abbrev pub FailsBy : Cause → (g0 g1 : List ℕ) → W → W → Cause → Type 0
-  FailsBy Memory g0 g1 old new cause = GathersOrNot held failures [] g0 g1 old new (Err cause) × (g1 ≡ [])
-  FailsBy WriteFailed g0 g1 old new cause = (cause ≡ WriteFailed) × (new ≡ old)
-  FailsBy why g0 g1 old new cause = cause ≡ why
-
-module _ {C S W E : Type 0} (stands : C → S → Type 0) (makes : S → List Placed → List ℕ → S → Type 0) (silent : C → Bool) (held : W → Option (List ℕ)) (failures : W → ℕ) (second_held : E → Option (List ℕ)) (second_failures : E → ℕ) where
+module _ {C S W E : Type 0} (stands : C → S → Type 0) (makes : S → List Placed → List ℕ → S → Type 0) (follows : S → List Placed → Type 0) (silent : C → Bool) (held : W → Option (List ℕ)) (failures : W → ℕ) (second_held : E → Option (List ℕ)) (second_failures : E → ℕ) where
   -- the text that is made of the messages was written or gathered, and the other text was told
   pub record WritesAll (old new : OutputWriter C W E) (items : List Placed) (told : List ℕ) : Type 0 where
     pub same_first : new.first.ghost_name ≡ old.first.ghost_name
@@ -57,7 +53,7 @@ module _ {C S W E : Type 0} (stands : C → S → Type 0) (makes : S → List Pl
     pub same_silent : silent new.renderer ≡ silent old.renderer
     -- without a message it stays
     pub still : items ≡ [] → new.renderer ≡ old.renderer
-    pub renders : (s : S) → stands old.renderer s → (t : S) × stands new.renderer t × (text : List ℕ) × makes s items text t
+    pub renders : (s : S) → stands old.renderer s → follows s items → (t : S) × stands new.renderer t × (text : List ℕ) × makes s items text t
         × Passes held failures (first_of (silent old.renderer) text told) (gathered_bytes old.gathered) (gathered_bytes new.gathered) old.first.now new.first.now
     pub tells : Wrote second_held second_failures old.second.now (second_of (silent old.renderer) told) new.second.now
 
@@ -65,6 +61,6 @@ module _ {C S W E : Type 0} (stands : C → S → Type 0) (makes : S → List Pl
   pub record LeavesWritten (old new : OutputWriter C W E) (items : List Placed) (told : List ℕ) (stop : RunStop) : Type 0 where
     pub same_first : new.first.ghost_name ≡ old.first.ghost_name
     pub same_second : new.second.ghost_name ≡ old.second.ghost_name
-    pub renders : (s : S) → stands old.renderer s → (t : S) × (text : List ℕ) × makes s items text t
+    pub renders : (s : S) → stands old.renderer s → follows s items → (t : S) × (text : List ℕ) × makes s items text t
         × LeavesFirst held failures (silent old.renderer) stop (first_of (silent old.renderer) text told) (gathered_bytes old.gathered) old.first.now new.first.now
     pub tells : GotSecond second_held second_failures (silent old.renderer) stop (second_of (silent old.renderer) told) old.second.now new.second.now

@@ -6,7 +6,6 @@ use Rattle.cli_report.specs.Telling.{Told}
 use Rattle.cli_report.specs.Gathering.{Breaks}
 use Rattle.cli_report.specs.declared.ending.Cause.{Cause}
 use Rattle.cli_report.specs.declared.ending.Cause.TheVariants.{Memory, WriteFailed}
-use Rattle.cli_report.specs.declared.gathering.Unwritten.{Unwritten}
 use Rattle.cli_run.specs.declared.visitor.RunStop.{RunStop}
 use Rattle.cli_run.specs.declared.visitor.RunStop.TheVariants.{Cause as ByCause, Untold}
 
@@ -19,13 +18,14 @@ abbrev pub second_of : (is_check : Bool) → (told : List ℕ) → List ℕ
 second_of true told = []
 second_of false told = told
 
-module _ {W : Type 0} (held : W → Option (List ℕ)) (failures : W → ℕ) where
-  -- a writer got a text, or a write failed after its first bytes
-  abbrev pub WroteOrNot : List ℕ → W → W → Result (Unit {0}) Unwritten → Type 0
-  WroteOrNot text w0 w1 (Ok x) = Wrote held failures w0 text w1
-  WroteOrNot text w0 w1 (Err e) = (n : ℕ) × Stopped held failures w0 text n w1
+-- no write to the first writer failed
+abbrev pub IsUnwritten : RunStop → Type 0
+IsUnwritten (ByCause WriteFailed) = ⊥
+IsUnwritten stop = Unit {0}
 
-  -- the same of a line, or for want of memory nothing was written
+module _ {W : Type 0} (held : W → Option (List ℕ)) (failures : W → ℕ) where
+  -- a writer got a line, or a write failed after its first bytes; or for want of memory nothing was
+  -- written
   abbrev pub WritesLine : List ℕ → W → W → Result (Unit {0}) Cause → Type 0
   WritesLine line w0 w1 (Ok x) = Wrote held failures w0 line w1
   WritesLine line w0 w1 (Err Memory) = w1 ≡ w0

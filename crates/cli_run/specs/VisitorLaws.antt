@@ -1,8 +1,7 @@
 -- The laws of the visitors, and of what a writer or a window lets through of more. They are here,
 -- and not in proofs/, because the trait's law names them.
-use Rattle.std.proofs.Common.{◌≡◌, ℕ, ◌+◌, Bool, true, false, List, [], ◌++◌, length, Option, refl, sym, ap, ◌∙◌, subst, arith, length-append, zero, suc, ◌-◌, ◌∷◌, None, Some, option_map, take, drop, length-drop, append_assoc}
+use Rattle.std.proofs.Common.{◌≡◌, ℕ, ◌+◌, Bool, true, false, List, [], ◌++◌, length, Option, refl, sym, ap, ◌∙◌, subst, arith, length-append, zero, suc, ◌-◌, ◌∷◌, None, Some, option_map, take, drop, length-drop}
 use Rattle.std.specs.Io.KnownBytes.{Appends}
-use Rattle.std.specs.Option.{option_to_list}
 use Rattle.std.proofs.KnownBytes.{Appends-nil, Appends-trans}
 use Rattle.std.proofs.Math.Path.{transport}
 use Rattle.std.proofs.Math.Seq.{drop-nil, take-append-add, take-nil}
@@ -14,15 +13,10 @@ use Rattle.std.specs.List.{concat}
 use Rattle.std.proofs.lemmas.List.Folds.{concat-append}
 use Rattle.cli_options.specs.declared.window.Window.{Window}
 use Rattle.cli_run.specs.Output.{after, at_most, written}
-use Rattle.dbus_count.specs.Counting.{with_names, counting_of, names_of}
-use Rattle.dbus_count.specs.declared.count.Count.{Count}
-use Rattle.dbus_count.specs.Spans.{with_time, with_times}
-use Rattle.dbus_count.specs.declared.span.Span.{Span}
-use Rattle.cli_run.specs.ByName.{CountsMessages, LeavesCounted, after_messages, times_of}
 use Rattle.cli_run.specs.Inputs.{Placed}
 use Rattle.cli_run.specs.Visiting.{AddsUp}
 use Rattle.cli_report.specs.Gathering.{Leaves as LeavesBy, Passes, gathered_bytes}
-use Rattle.cli_report.specs.PageLaws.{breaks_after, passes_both, passes_none}
+use Rattle.cli_report.specs.PageLaws.{breaks_after, none_both, passes_both, passes_none}
 use Rattle.cli_report.specs.declared.ending.Cause.{Cause}
 use Rattle.cli_report.specs.declared.ending.Cause.TheVariants.{Memory, ReadFailed, WriteFailed, TooManyReads}
 use Rattle.cli_run.specs.OutputWriting.{LeavesFirst, LeavesWritten, WritesAll}
@@ -122,45 +116,6 @@ written_more window now a b e = ap (λ w. written window a ++ written w b) e ∙
 pub after_more : (window now : Window) (a b : List (List ℕ)) → now ≡ after window (length a) → after now (length b) ≡ after window (length (a ++ b))
 after_more window now a b e = ap (λ w. after w (length b)) e ∙ (after_both window (length a) (length b) ∙ ap (λ n. after window n) (sym (length-append a b)))
 
--- ---- what counts messages by their names
-
--- the count of a name after messages, and then others
-counted_both : (s t : List Placed) (name : List ℕ) (c : Option Count) → after_messages (s ++ t) name c ≡ after_messages t name (after_messages s name c)
-counted_both [] t name c = refl
-counted_both (m ∷ s) t name c = counted_both s t name (with_names (names_of m.item.message) m.item.size name c)
-
--- the span after times, and then others
-spans_both : (a b : List ℕ) (span : Option Span) → with_times (a ++ b) span ≡ with_times b (with_times a span)
-spans_both [] b span = refl
-spans_both (time ∷ a) b span = spans_both a b (Some (with_time time span))
-
-times_both : (s t : List Placed) → times_of (s ++ t) ≡ times_of s ++ times_of t
-times_both [] t = refl
-times_both (m ∷ s) t = ap (λ l. option_to_list m.place.time ++ l) (times_both s t) ∙ sym (append_assoc (option_to_list m.place.time) (times_of s) (times_of t))
-
-module _ {E : Type 0} (held : E → Option (List ℕ)) (failures : E → ℕ) where
-  pub counter_adds_up : AddsUp (CountsMessages held failures) (LeavesCounted held failures) (λ _. Unit {0}) (λ _. false)
-  counter_adds_up = record {
-    still = λ a b p h. refl;
-    nothing = λ a. record { same_second = refl; counts = λ name. refl; span = refl; tells = wrote_nothing held failures a.second.now };
-    joins = λ a b c s t p q h k. record {
-      same_second = k.same_second ∙ h.same_second;
-      counts = λ name. k.counts name ∙ (ap (λ x. after_messages t name x) (h.counts name) ∙ sym (counted_both s t name (counting_of a.counts name)));
-      span = k.span ∙ (ap (λ x. with_times (times_of t) x) h.span ∙ (sym (spans_both (times_of s) (times_of t) a.span) ∙ ap (λ l. with_times l a.span) (sym (times_both s t))));
-      tells = wrote_both held failures p q a.second.now b.second.now c.second.now h.tells k.tells;
-    };
-    leaves_after = λ a b c s t p q stop h k. record {
-      same_second = k.same_second ∙ h.same_second;
-      unwritten = k.unwritten;
-      tells = second_after held failures false stop p q a.second.now b.second.now c.second.now h.tells k.tells;
-    };
-    rests = λ a b s p h settled. (
-      record { same_second = h.same_second; unwritten = tt; tells = h.tells },
-      record { same_second = h.same_second; unwritten = tt; tells = h.tells },
-      record { same_second = h.same_second; unwritten = tt; tells = h.tells },
-    );
-  }
-
 -- ---- what writes an output
 
 -- what the first writer gets of more
@@ -185,17 +140,12 @@ module _ {W : Type 0} (held : W → Option (List ℕ)) (failures : W → ℕ) wh
   first_after true Untold a b g0 g1 w0 w1 w2 p q = breaks_after held failures a b g0 g1 w0 w1 w2 p q
   first_after false Untold a b g0 g1 w0 w1 w2 p q = passes_both held failures a b g0 g1 [] w0 w1 w2 p q
 
--- no messages after others
-pub no_messages : (s t : List Placed) → s ++ t ≡ [] → (s ≡ []) × (t ≡ [])
-no_messages [] t none = (refl, none)
-no_messages (m ∷ s) t none = absurd cc
-
-module _ {C S W E : Type 0} (stands : C → S → Type 0) (makes : S → List Placed → List ℕ → S → Type 0) (silent : C → Bool) (held : W → Option (List ℕ)) (failures : W → ℕ) (second_held : E → Option (List ℕ)) (second_failures : E → ℕ) where
+module _ {C S W E : Type 0} (stands : C → S → Type 0) (makes : S → List Placed → List ℕ → S → Type 0) (follows : S → List Placed → Type 0) (silent : C → Bool) (held : W → Option (List ℕ)) (failures : W → ℕ) (second_held : E → Option (List ℕ)) (second_failures : E → ℕ) where
   abbrev Takes : OutputWriter C W E → OutputWriter C W E → List Placed → (told : List ℕ) → Type 0
-  Takes a b s p = WritesAll stands makes silent held failures second_held second_failures a b s p
+  Takes a b s p = WritesAll stands makes follows silent held failures second_held second_failures a b s p
 
   abbrev Leaves : OutputWriter C W E → OutputWriter C W E → List Placed → (told : List ℕ) → RunStop → Type 0
-  Leaves a b s p stop = LeavesWritten stands makes silent held failures second_held second_failures a b s p stop
+  Leaves a b s p stop = LeavesWritten stands makes follows silent held failures second_held second_failures a b s p stop
 
   -- what a writer holds back may go out, and it may tell a text
   pub stays : (a b : OutputWriter C W E) (told : List ℕ) → ((s : S) → makes s [] [] s) → b.first.ghost_name ≡ a.first.ghost_name → b.second.ghost_name ≡ a.second.ghost_name → b.renderer ≡ a.renderer
@@ -206,20 +156,22 @@ module _ {C S W E : Type 0} (stands : C → S → Type 0) (makes : S → List Pl
     same_second = second;
     same_silent = ap silent same;
     still = λ none. same;
-    renders = λ s there. (s, subst (λ (c : C). stands c s) (sym same) there, [], nothing s, passes);
+    renders = λ s there comes. (s, subst (λ (c : C). stands c s) (sym same) there, [], nothing s, passes);
     tells = tells;
   }
 
-  module _ (full : C → Bool) (nothing : (s : S) → makes s [] [] s) (joined : (s t u : S) (a b : List Placed) (p q : List ℕ) → makes s a p t → makes t b q u → makes s (a ++ b) (p ++ q) u) where
+  module _ (full : C → Bool) (nothing : (s : S) → makes s [] [] s) (joined : (s t u : S) (a b : List Placed) (p q : List ℕ) → makes s a p t → makes t b q u → makes s (a ++ b) (p ++ q) u)
+      (splits : (s : S) (a b : List Placed) → follows s (a ++ b) → follows s a × ((t : S) (p : List ℕ) → makes s a p t → follows t b)) where
     both : (a b c : OutputWriter C W E) (s t : List Placed) (p q : List ℕ) → Takes a b s p → Takes b c t q → Takes a c (s ++ t) (p ++ q)
     both a b c s t p q h k = record {
       same_first = k.same_first ∙ h.same_first;
       same_second = k.same_second ∙ h.same_second;
       same_silent = k.same_silent ∙ h.same_silent;
-      still = λ none. let each = no_messages s t none in k.still each.1 ∙ h.still each.0;
-      renders = λ x there.
-          let one = h.renders x there in
-          let more = k.renders one.0 one.1 in
+      still = λ none. let each = none_both s t none in k.still each.1 ∙ h.still each.0;
+      renders = λ x there comes.
+          let apart = splits x s t comes in
+          let one = h.renders x there apart.0 in
+          let more = k.renders one.0 one.1 (apart.1 one.0 one.2 one.3) in
           let passes = subst (λ (x : Bool). Passes held failures (first_of x more.2 q) (gathered_bytes b.gathered) (gathered_bytes c.gathered) b.first.now c.first.now) h.same_silent more.4 in (
             more.0,
             more.1,
@@ -236,9 +188,10 @@ module _ {C S W E : Type 0} (stands : C → S → Type 0) (makes : S → List Pl
     left_after a b c s t p q stop h k = record {
       same_first = k.same_first ∙ h.same_first;
       same_second = k.same_second ∙ h.same_second;
-      renders = λ x there.
-          let one = h.renders x there in
-          let more = k.renders one.0 one.1 in
+      renders = λ x there comes.
+          let apart = splits x s t comes in
+          let one = h.renders x there apart.0 in
+          let more = k.renders one.0 one.1 (apart.1 one.0 one.2 one.3) in
           let leaves = subst (λ (x : Bool). LeavesFirst held failures x stop (first_of x more.1 q) (gathered_bytes b.gathered) b.first.now c.first.now) h.same_silent more.3 in (
             more.0,
             one.2 ++ more.1,
@@ -258,8 +211,8 @@ module _ {C S W E : Type 0} (stands : C → S → Type 0) (makes : S → List Pl
     rests_by a b s p h none stop first second = record {
       same_first = h.same_first;
       same_second = h.same_second;
-      renders = λ x there.
-          let r = h.renders x there in
+      renders = λ x there comes.
+          let r = h.renders x there comes in
           (r.0, r.2, r.3, first (first_of (silent a.renderer) r.2 p) (subst (λ (g : List ℕ). Passes held failures (first_of (silent a.renderer) r.2 p) (gathered_bytes a.gathered) g a.first.now b.first.now) none r.4));
       tells = second;
     }

@@ -1,78 +1,88 @@
 //! The messages of a source, counted by their names.
 ghost use Rattle.std.specs.Prelude.{◌≡◌, ◌^◌, false};
 ghost use Rattle.std.specs.Option.{option_to_list};
-ghost use Rattle.dbus_count.specs.Counting.{counting_of};
+ghost use Rattle.std.proofs.Common.{refl};
 ghost use Rattle.dbus_count.specs.Spans.{with_times};
-ghost use Rattle.cli_run.specs.ByName.{CountsByName, CountsMessages, LeavesCounted, WritesTables};
-ghost use Rattle.cli_run.specs.VisitorLaws.{counter_adds_up};
 ghost use Rattle.cli_report.specs.Devices.{reading, writing};
+ghost use Rattle.cli_run.specs.ByName.{CountsAt, CountsByName, CountsState, EndsCounts, MakesCounts};
+ghost use Rattle.cli_run.specs.CountLaws as laws;
 
-use crate::going::{pass_through, tell_stop};
+use crate::byte_draft::ByteDraft;
+use crate::ending::run_to_end;
 use crate::place::Lent;
-use crate::visitor::{MessageVisitor, write_text};
+use crate::renderer::{EndRenderer, Renderer};
 use cli_options::Settings;
-use cli_report::{Cause, ExitStatus, Unwritten, give_up};
+use cli_report::ExitStatus;
 use dbus_count::{Counts, Form, Span};
-use dbus_stream::{MOST_READS, Sink, Source, WrittenOnly, write_all};
+use dbus_stream::{Sink, Source};
 use dbus_view::MessageView;
-use std::alloc::Global;
+use std::alloc::{AllocError, Global};
 
-/// Counts messages by their names, and tells the second writer of those that are refused.
+/// What counts messages by their names.
 #[derive(Drop)]
-pub(crate) struct Counter<'a, E> {
+pub(crate) struct CountRenderer {
+    alloc: Global,
+    /// The form of the tables.
+    pub(crate) form: Form,
     /// The counts.
     pub(crate) counts: Counts,
     /// From when to when the messages were captured that have a time.
     pub(crate) span: Option<Span>,
-    /// The second writer.
-    pub(crate) second: &'a mut E,
 }
 
-impl<'a, E> Counter<'a, E> {
-    /// The counts, the span and the writer.
-    fn into_parts(self) -> (Counts, Option<Span>, &'a mut E)
-        ensures counts { result.0 ≡ self.entry.counts }
-        ensures span { result.1 ≡ self.entry.span }
-        ensures same_reference { result.2.ghost_name ≡ self.entry.second.ghost_name }
-        ensures now { result.2.now ≡ self.entry.second.now }
-    {
-        (self.counts, self.span, self.second)
-    }
-}
+impl Renderer for CountRenderer {
+    ghost State = { CountsState };
 
-impl<E: Sink> MessageVisitor for Counter<'_, E> {
-    ghost takes = { CountsMessages E.held E.failures };
+    ghost stands = { CountsAt };
 
-    ghost leaves = { LeavesCounted E.held E.failures };
+    ghost makes = { MakesCounts };
 
-    ghost settled = { λ _. Unit {0} };
+    ghost follows = { λ _ _. Unit {0} };
+
+    ghost ends = { EndsCounts };
 
     ghost full = { λ _. false };
+
+    ghost silent = { λ _. false };
 
     fn is_full(&self) -> bool {
         false
     }
 
-    fn settle(&mut self) -> Result<(), Unwritten> {
+    fn is_silent(&self) -> bool {
+        false
+    }
+
+    fn take<D: ByteDraft>(&mut self, lent: &Lent<'_>, _draft: &mut D) -> Result<(), AllocError> {
+        let view = MessageView::of_validated(lent.bytes, lent.limits, lent.validated);
+        let Ok(_) = self.counts.add(&view) else {
+            return Err(AllocError);
+        };
+        self.span = span_after(self.span, lent.place.time);
         Ok(())
     }
 
-    fn take(&mut self, lent: &Lent<'_>) -> Result<(), Cause> {
-        let view = MessageView::of_validated(lent.bytes, lent.limits, lent.validated);
-        match self.counts.add(&view) {
-            Ok(()) => {
-                self.span = span_after(self.span, lent.place.time);
-                Ok(())
-            }
-            Err(_) => Err(Cause::Memory),
-        }
+    ghost nothing = { laws.nothing };
+
+    ghost joins = { laws.joins };
+
+    ghost splits = { λ s a b _. (tt, λ t p _. tt) };
+
+    ghost quiet = { laws.quiet };
+}
+
+impl EndRenderer for CountRenderer {
+    fn finish<D: ByteDraft>(self, draft: &mut D) -> Result<String, AllocError> {
+        let Ok(text) = self.counts.tables(self.form, self.span) else {
+            return Err(AllocError);
+        };
+        draft.push_str(text.as_str());
+        Ok(String::new(self.alloc))
     }
 
-    fn tell(&mut self, text: &str) -> Result<(), Unwritten> {
-        write_text(self.second, text)
-    }
+    ghost wants_all = { λ a. refl };
 
-    ghost adds_up = { counter_adds_up E.held E.failures };
+    ghost loud = { λ a. refl };
 }
 
 // The span after one message more, which has this time or none.
@@ -105,36 +115,11 @@ pub fn count_by_name<R: Source, W: Sink, E: Sink>(
         (writing E.held E.failures second.old second.new)
         settings form (2 ^ 32) result }
 {
-    let mut counter = Counter {
+    let renderer = CountRenderer {
+        alloc,
+        form,
         counts: Counts::new(alloc),
         span: None,
-        second: &mut *second,
     };
-    let (ended, _source) = pass_through(alloc, settings, false, MOST_READS, reader, &mut counter);
-    let (counts, span, _second) = counter.into_parts();
-    match ended {
-        Ok(status) => match write_tables(&counts, span, form, first) {
-            Ok(()) => status,
-            Err(cause) => give_up(cause, second),
-        },
-        Err(stop) => tell_stop(stop, false, second),
-    }
-}
-
-// Writes the tables, and the line of the span.
-fn write_tables<W: Sink>(
-    counts: &Counts,
-    span: Option<Span>,
-    form: Form,
-    first: &mut W,
-) -> Result<(), Cause>
-    ensures { WritesTables (writing W.held W.failures first.old first.new) form (counting_of counts.now) span result }
-{
-    match counts.tables(form, span) {
-        Ok(text) => match write_all(first, text.as_bytes()) {
-            Ok(()) => Ok(()),
-            Err(WrittenOnly(_)) => Err(Cause::WriteFailed),
-        },
-        Err(_) => Err(Cause::Memory),
-    }
+    run_to_end(alloc, settings, renderer, reader, first, second)
 }

@@ -2,6 +2,7 @@
 #![tactic(auto)]
 
 ghost use Rattle.std.specs.Prelude.{ℕ, List};
+ghost use Rattle.cli_run.specs.LentDrafts.{GainsLent, joined, unchanged};
 
 use cli_report::Page;
 use dbus_show::Draft;
@@ -19,4 +20,27 @@ impl<W: Sink> ByteDraft for Page<'_, W> {
     fn append(&mut self, bytes: &[u8]) {
         self.push_bytes(bytes);
     }
+}
+
+/// A draft that is lent.
+#[derive(Drop)]
+pub(crate) struct LentDraft<'d, D> {
+    /// The draft.
+    pub(crate) draft: &'d mut D,
+}
+
+impl<D: Draft> Draft for LentDraft<'_, D> {
+    ghost gains = { GainsLent D.gains };
+
+    fn push_str(&mut self, text: &str) {
+        self.draft.push_str(text);
+    }
+
+    fn push_between(&mut self, before: &str, text: &str, after: &str) {
+        self.draft.push_between(before, text, after);
+    }
+
+    ghost nothing = { unchanged D.gains D.nothing };
+
+    ghost joins = { joined D.gains D.joins };
 }

@@ -14,6 +14,7 @@ mod call_summing;
 mod closing;
 mod counted;
 mod counting;
+mod ending;
 mod filtering;
 mod framing;
 mod going;

@@ -51,6 +51,10 @@ impl Renderer for LineRenderer<'_> {
 
     ghost makes = { MakesLines };
 
+    ghost follows = { λ _ _. Unit {0} };
+
+    ghost ends = { λ _ _ _. ⊥ };
+
     ghost full = { λ a. is_spent a.window };
 
     ghost silent = { λ _. false };
@@ -91,6 +95,8 @@ impl Renderer for LineRenderer<'_> {
     ghost nothing = { laws.nothing };
 
     ghost joins = { laws.joins };
+
+    ghost splits = { λ s a b _. (tt, λ t p _. tt) };
 
     ghost quiet = { laws.quiet };
 }
@@ -155,7 +161,7 @@ pub fn list_lines<R: Source, W: Sink, E: Sink>(
         second: &mut *second,
     };
     let (ended, _source) = pass_through(alloc, settings, false, MOST_READS, reader, &mut writer);
-    let (first_writer, _second) = writer.into_writers();
+    let (_renderer, first_writer, _second) = writer.into_parts();
     let _first = first_writer.into_inner();
     match ended {
         Ok(status) => status,

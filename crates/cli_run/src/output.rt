@@ -161,6 +161,10 @@ impl<A: Allocator + Copy> Renderer for OutputRenderer<'_, A> {
 
     ghost makes = { Makes };
 
+    ghost follows = { λ _ _. Unit {0} };
+
+    ghost ends = { λ _ _ _. ⊥ };
+
     ghost full = { λ a. is_filled (command_of a.output) a.window };
 
     ghost silent = { λ a. is_check (command_of a.output) };
@@ -195,6 +199,8 @@ impl<A: Allocator + Copy> Renderer for OutputRenderer<'_, A> {
     ghost nothing = { laws.nothing };
 
     ghost joins = { laws.joins };
+
+    ghost splits = { λ s a b _. (tt, λ t p _. tt) };
 
     ghost quiet = { laws.quiet };
 }

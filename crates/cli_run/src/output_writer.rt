@@ -6,7 +6,7 @@ ghost use Rattle.dbus_header.specs.MessageOutcomes.{IsWhole};
 ghost use Rattle.dbus_validate.specs.Validating.{IsValidatedWhole};
 ghost use Rattle.cli_report.specs.Devices.{writing};
 ghost use Rattle.cli_report.specs.Gathering.{gathered_bytes};
-ghost use Rattle.cli_run.specs.OutputWriting.{FailsBy, GathersOne, LeavesWritten, WritesAll, placed_at};
+ghost use Rattle.cli_run.specs.OutputWriting.{GathersNone, GathersOne, LeavesWritten, WritesAll, placed_at};
 ghost use Rattle.cli_run.specs.VisitorLaws.{output_adds_up};
 
 use crate::place::Lent;
@@ -28,15 +28,17 @@ pub(crate) struct OutputWriter<'a, 'b, C, W, E> {
     pub(crate) second: &'b mut E,
 }
 
-impl<'a, 'b, C: Drop, W, E> OutputWriter<'a, 'b, C, W, E> {
-    /// The writers. The first has a struct around it, since the proofs follow one reference alone.
-    pub(crate) fn into_writers(self) -> (First<'a, W>, &'b mut E)
-        ensures same_first { result.0.0.ghost_name ≡ self.entry.first.ghost_name }
-        ensures first { result.0.0.now ≡ self.entry.first.now }
-        ensures same_second { result.1.ghost_name ≡ self.entry.second.ghost_name }
-        ensures second { result.1.now ≡ self.entry.second.now }
+impl<'a, 'b, C, W, E> OutputWriter<'a, 'b, C, W, E> {
+    /// What makes it, and the writers. The first has a struct around it, since the proofs follow
+    /// one reference alone.
+    pub(crate) fn into_parts(self) -> (C, First<'a, W>, &'b mut E)
+        ensures renderer { result.0 ≡ self.entry.renderer }
+        ensures same_first { result.1.0.ghost_name ≡ self.entry.first.ghost_name }
+        ensures first { result.1.0.now ≡ self.entry.first.now }
+        ensures same_second { result.2.ghost_name ≡ self.entry.second.ghost_name }
+        ensures second { result.2.now ≡ self.entry.second.now }
     {
-        (First(self.first), self.second)
+        (self.renderer, First(self.first), self.second)
     }
 }
 
@@ -55,9 +57,9 @@ impl<'a, W> First<'a, W> {
 }
 
 impl<C: Renderer, W: Sink, E: Sink> MessageVisitor for OutputWriter<'_, '_, C, W, E> {
-    ghost takes = { WritesAll C.stands C.makes C.silent W.held W.failures E.held E.failures };
+    ghost takes = { WritesAll C.stands C.makes C.follows C.silent W.held W.failures E.held E.failures };
 
-    ghost leaves = { LeavesWritten C.stands C.makes C.silent W.held W.failures E.held E.failures };
+    ghost leaves = { LeavesWritten C.stands C.makes C.follows C.silent W.held W.failures E.held E.failures };
 
     ghost settled = { λ a. gathered_bytes a.gathered ≡ [] };
 
@@ -90,7 +92,7 @@ impl<C: Renderer, W: Sink, E: Sink> MessageVisitor for OutputWriter<'_, '_, C, W
         }
     }
 
-    ghost adds_up = { output_adds_up C.stands C.makes C.silent W.held W.failures E.held E.failures C.full C.nothing C.joins };
+    ghost adds_up = { output_adds_up C.stands C.makes C.follows C.silent W.held W.failures E.held E.failures C.full C.nothing C.joins C.splits };
 }
 
 // Writes or gathers what is made of the message, and says whether there was memory for it.
@@ -103,10 +105,14 @@ fn write_one<C: Renderer, W: Sink>(
     requires { IsValidatedWhole lent.now.limits lent.now.bytes.now lent.now.validated }
     ensures writes { (order : Order) (m : MessageTree) →
         IsWhole lent.now.limits lent.now.bytes.now order m (length lent.now.bytes.now) →
-        (s : C.State) → C.stands renderer.old s → (t : C.State) × (text : List ℕ) × C.makes s
+        (s : C.State) → C.stands renderer.old s →
+        C.follows s (placed_at lent.now.place order m (length lent.now.bytes.now) ∷ []) →
+        (t : C.State) × (text : List ℕ) × C.makes s
         (placed_at lent.now.place order m (length lent.now.bytes.now) ∷ []) text t ×
         GathersOne C.stands (writing W.held W.failures first.old first.new) t renderer.new
         text (gathered_bytes gathered.old) (gathered_bytes gathered.new) result }
+    ensures short { GathersNone (writing W.held W.failures first.old first.new)
+        (gathered_bytes gathered.old) (gathered_bytes gathered.new) result }
     ensures silent { C.silent renderer.new ≡ C.silent renderer.old }
 {
     let mut page = Page {
@@ -119,22 +125,4 @@ fn write_one<C: Renderer, W: Sink>(
         return Err(Unwritten);
     }
     Ok(taken)
-}
-
-/// Why a run fails that fails by this cause. If memory ran out, what is gathered is written first,
-/// and if that write fails, the run fails by it.
-pub(crate) fn fail_by<W: Sink>(cause: Cause, gathered: &mut OutputBuffer, first: &mut W) -> Cause
-    ensures { FailsBy W.held W.failures cause (gathered_bytes gathered.old)
-        (gathered_bytes gathered.new)
-        first.old first.new result }
-{
-    match cause {
-        Cause::Memory => match write_out(gathered, first) {
-            Ok(()) => Cause::Memory,
-            Err(Unwritten) => Cause::WriteFailed,
-        },
-        Cause::ReadFailed => Cause::ReadFailed,
-        Cause::WriteFailed => Cause::WriteFailed,
-        Cause::TooManyReads => Cause::TooManyReads,
-    }
 }

@@ -1,5 +1,5 @@
 //! What is made of the messages of an input.
-ghost use Rattle.std.specs.Prelude.{◌≡◌, ◌++◌, [], true, ℕ, Bool, List, OnErr, length};
+ghost use Rattle.std.specs.Prelude.{◌≡◌, ◌++◌, ◌∷◌, [], false, true, ℕ, Bool, IfOk, List, OnErr, length, string_bytes};
 ghost use Rattle.dbus_value_model.specs.declared.order.Order.{Order};
 ghost use Rattle.dbus_message_model.specs.Messages.{MessageTree};
 ghost use Rattle.dbus_header.specs.MessageOutcomes.{IsWhole};
@@ -25,6 +25,12 @@ pub(crate) trait Renderer {
     // Of these messages it makes this text, and comes from a state to another.
     ghost makes: { State → List Placed → List ℕ → State → Type 0 };
 
+    // These messages may come after a state.
+    ghost follows: { State → List Placed → Type 0 };
+
+    // At the end it makes this text, and this note: an [`EndRenderer`] does.
+    ghost ends: { State → (text note : List ℕ) → Type 0 };
+
     // It wants no more messages.
     ghost full: { Self → Bool };
 
@@ -48,6 +54,7 @@ pub(crate) trait Renderer {
         ensures renders { (order : Order) (m : MessageTree) →
             IsWhole lent.now.limits lent.now.bytes.now order m (length lent.now.bytes.now) →
             (s : State) → stands self.old s →
+            follows s (placed_at lent.now.place order m (length lent.now.bytes.now) ∷ []) →
             RendersOne stands makes D.gains s self.new
             (placed_at lent.now.place order m (length lent.now.bytes.now)) draft.old draft.new result }
         ensures short { OnErr result (D.gains draft.old [] draft.new) }
@@ -58,6 +65,25 @@ pub(crate) trait Renderer {
     ghost joins: { (s t u : State) (a b : List Placed) (p q : List ℕ) →
         makes s a p t → makes t b q u → makes s (a ++ b) (p ++ q) u };
 
+    ghost splits: { (s : State) (a b : List Placed) → follows s (a ++ b) →
+        follows s a × ((t : State) (p : List ℕ) → makes s a p t → follows t b) };
+
     ghost quiet: { (a : Self) (s t : State) (items : List Placed) (text : List ℕ) →
         silent a ≡ true → stands a s → makes s items text t → text ≡ [] };
+}
+
+/// What makes a text at the end too, after all messages, and then a note, which is to be told. It
+/// wants all messages.
+pub(crate) trait EndRenderer: Renderer {
+    /// Appends what it makes at the end, and returns the note.
+    ///
+    /// `AllocError`: there was not enough memory, and nothing was appended.
+    fn finish<D: ByteDraft>(self, draft: &mut D) -> Result<String, AllocError>
+        ensures ends { (s : Self.State) → Self.stands self s → IfOk result (λ note.
+            (text : List ℕ) × Self.ends s text (string_bytes note) × D.gains draft.old text draft.new) }
+        ensures short { OnErr result (draft.new ≡ draft.old) };
+
+    ghost wants_all: { (a : Self) → Self.full a ≡ false };
+
+    ghost loud: { (a : Self) → Self.silent a ≡ false };
 }

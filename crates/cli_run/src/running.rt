@@ -189,7 +189,7 @@ pub fn run_with<A: Allocator + Copy, R: Source, W: Sink, E: Sink>(
         second: &mut *second,
     };
     let (ended, _source) = pass_through(alloc, settings, is_check, reads, reader, &mut writer);
-    let (first_writer, _second) = writer.into_writers();
+    let (_renderer, first_writer, _second) = writer.into_parts();
     let _first = first_writer.into_inner();
     match ended {
         Ok(status) => status,

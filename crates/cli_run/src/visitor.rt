@@ -4,13 +4,13 @@ ghost use Rattle.dbus_value_model.specs.declared.order.Order.{Order};
 ghost use Rattle.dbus_message_model.specs.Messages.{MessageTree};
 ghost use Rattle.dbus_header.specs.MessageOutcomes.{IsWhole};
 ghost use Rattle.dbus_validate.specs.Validating.{IsValidatedWhole};
+ghost use Rattle.cli_report.specs.Gathering.{WritesSome};
 ghost use Rattle.cli_run.specs.Inputs.{Placed};
-ghost use Rattle.cli_run.specs.Told.{WroteOrNot};
 ghost use Rattle.cli_run.specs.Visiting.{AddsUp, LetsGo, TakesOne, TellsOne};
 
 use crate::place::Lent;
-use cli_report::{Cause, Unwritten};
-use dbus_stream::{Sink, WrittenOnly, write_all};
+use cli_report::{Cause, Unwritten, write_some};
+use dbus_stream::Sink;
 
 /// Why a run is given up.
 #[derive(Clone, Copy, Debug, PartialEq, Eq)]
@@ -76,10 +76,7 @@ pub(crate) trait MessageVisitor {
 
 /// Writes a text that is told.
 pub(crate) fn write_text<W: Sink>(writer: &mut W, text: &str) -> Result<(), Unwritten>
-    ensures { WroteOrNot W.held W.failures text.now writer.old writer.new result }
+    ensures { WritesSome W.held W.failures text.now writer.old writer.new result }
 {
-    match write_all(writer, text.as_bytes()) {
-        Ok(()) => Ok(()),
-        Err(WrittenOnly(_)) => Err(Unwritten),
-    }
+    write_some(text.as_bytes(), writer)
 }

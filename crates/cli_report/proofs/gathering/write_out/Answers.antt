@@ -1,7 +1,9 @@
+use Rattle.std.proofs.Common.{[], sym, ◌∙◌, append-nil}
 use Rattle.cli_report.specs.Gathering.{gathered_bytes}
-use Rattle.cli_report.proofs.GatherSteps.{breaks_out}
+use Rattle.cli_report.proofs.GatherSteps.{gathers_some}
 use Rattle.cli_report.proofs.gathering.write_out.Goals as goal
 
-pub returns-in-Err-clause-gathers : goal.returns-in-Err-clause-gathers
-returns-in-Err-clause-gathers g c =
-    breaks_out g.W.Sink.held g.W.Sink.failures (gathered_bytes c.args.gathered.now) c.as_slice.result.now c.in-Err.field-0.0 c.args.first.now c.write_all-written.new.sink c.as_slice.ensures c.in-Err.ensures.writes
+pub returns-clause-gathers : goal.returns-clause-gathers
+returns-clause-gathers g c =
+    gathers_some g.W.Sink.held g.W.Sink.failures c.as_slice.result.now [] (gathered_bytes c.args.gathered.now) (gathered_bytes c.clear.new.self) c.args.first.now c.write_some-written.new.first c.write_some-written.result
+    (append-nil (gathered_bytes c.args.gathered.now) ∙ sym c.as_slice.ensures) c.clear.ensures c.write_some-written.ensures

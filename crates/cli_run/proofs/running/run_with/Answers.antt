@@ -37,9 +37,9 @@ returns-in-Ok-ended g c =
     let first : c.pass_through-ended.new.visitor.first.now ≡ c.first-1.given.0 = search rules in
     let second : c.pass_through-ended.new.visitor.second.now ≡ c.second-1.given.0 = search rules in
     let source : c.pass_through-ended.result.1.now ≡ c.reader-1.given.0 = search rules in
-    inl (ran (λ a s. s ≡ state_of a) Makes (λ a. is_check (command_of a.output)) g.W.Sink.held g.W.Sink.failures g.E.Sink.held g.E.Sink.failures nothing _ c.pass_through-ended.new.visitor (λ a. is_filled (command_of a.output) a.window) _
+    inl (ran (λ a s. s ≡ state_of a) Makes (λ _ _. Unit {0}) (λ a. is_check (command_of a.output)) g.W.Sink.held g.W.Sink.failures g.E.Sink.held g.E.Sink.failures nothing _ c.pass_through-ended.new.visitor (λ a. is_filled (command_of a.output) a.window) _
     (begins c.args.settings.window own) c.new-2.ensures first second g.R.Source.left g.R.Source.calls g.R.Source.failures g.R.Source.packets c.args.settings c.args.reads c.args.reader.now c.pass_through-ended.result.1.now
-    c.is_check-is_check.result (c.is_check-is_check.ensures ∙ ap is_check own) source
+    source (λ parts items placed. tt) c.is_check-is_check.result (c.is_check-is_check.ensures ∙ ap is_check own)
     (filled_as g.W.Sink.held g.W.Sink.failures g.E.Sink.held g.E.Sink.failures c.args.first.now c.first-1.given.0 c.args.second.now c.second-1.given.0 c.args.settings c.args.command own) (rw c.in-Ok-ended.is at c.pass_through-ended.ensures.settled)
     (wrote_as g.W.Sink.held g.W.Sink.failures g.E.Sink.held g.E.Sink.failures c.args.first.now c.first-1.given.0 c.args.second.now c.second-1.given.0 c.args.settings c.args.command own) passes
     (λ size reads. elim reads [ inl none ↦ inl none | inr some ↦ inr (some.0, some.1.now, some.2, some.3, some.4) ]))
@@ -58,9 +58,9 @@ returns g c =
       failed = c.tell_stop.ensures.failed;
       stop = c.in-Err.stop;
       before = c.second-1.given.0;
-      within = gave_up (λ a s. s ≡ state_of a) Makes (λ a. is_check (command_of a.output)) g.W.Sink.held g.W.Sink.failures g.E.Sink.held g.E.Sink.failures nothing _ c.pass_through-ended.new.visitor (λ a. is_filled (command_of a.output) a.window) _
+      within = gave_up (λ a s. s ≡ state_of a) Makes (λ _ _. Unit {0}) (λ a. is_check (command_of a.output)) g.W.Sink.held g.W.Sink.failures g.E.Sink.held g.E.Sink.failures nothing _ c.pass_through-ended.new.visitor (λ a. is_filled (command_of a.output) a.window) _
           (begins c.args.settings.window own) c.new-2.ensures first second g.R.Source.left g.R.Source.calls g.R.Source.failures g.R.Source.packets c.args.settings c.args.reads c.args.reader.now c.pass_through-ended.result.1.now
-          c.is_check-is_check.result checks source
+          source (λ parts items placed. tt) c.is_check-is_check.result checks
           (filled_as g.W.Sink.held g.W.Sink.failures g.E.Sink.held g.E.Sink.failures c.args.first.now c.first-1.given.0 c.args.second.now c.second-1.given.0 c.args.settings c.args.command own)
           (left_as g.W.Sink.held g.W.Sink.failures g.E.Sink.held g.E.Sink.failures c.args.first.now c.first-1.given.0 c.args.second.now c.second-1.given.0 c.args.settings c.args.command own c.in-Err.stop) passes;
       tells = subst (λ (x : Bool). TellsStop g.E.Sink.held g.E.Sink.failures x c.in-Err.stop c.second-1.given.0 c.tell_stop.new.second) checks c.tell_stop.ensures.tells;

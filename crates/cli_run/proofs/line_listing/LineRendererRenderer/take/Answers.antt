@@ -1,4 +1,4 @@
-use Rattle.std.proofs.Common.{◌≡◌, ℕ, Bool, true, List, [], ◌∷◌, ◌++◌, length, inl, inr, refl, sym, ap, ◌∙◌, subst, option_map, append-nil}
+use Rattle.std.proofs.Common.{◌≡◌, ℕ, true, List, [], ◌∷◌, ◌++◌, length, inl, inr, refl, sym, ap, ◌∙◌, subst, option_map, append-nil}
 use Rattle.std.proofs.lemmas.Bool.{false≢true}
 use Rattle.dbus_value_model.specs.declared.order.Order.{Order}
 use Rattle.dbus_message_model.specs.Messages.{MessageTree}
@@ -31,8 +31,8 @@ module _ (a : LineRenderer) (order : Order) (m : MessageTree) (place : MessagePl
   now before lines = lines_after (state_at a before) (placed_at place order m size ∷ []) (length lines)
 
   rendered : (P : LinesState → List ℕ → Type 0) → ((before : List Numbered) → KeepsCalls before a.calls → (lines : List (List ℕ)) × Lined before lines × P (now before lines) (written a.window lines))
-      → (s : LinesState) → StandsAt a s → (t : LinesState) × (text : List ℕ) × MakesLines s (placed_at place order m size ∷ []) text t × P t text
-  rendered P p s (before, same, keeps) =
+      → (s : LinesState) → StandsAt a s → Unit {0} → (t : LinesState) × (text : List ℕ) × MakesLines s (placed_at place order m size ∷ []) text t × P t text
+  rendered P p s (before, same, keeps) _ =
       let h = p before keeps in
       subst (λ (x : LinesState). (t : LinesState) × (text : List ℕ) × MakesLines x (placed_at place order m size ∷ []) text t × P t text) (sym same)
       (now before h.0, written a.window h.0, record { lines = h.0; are = (h.0, [], h.1, refl, sym (append-nil h.0)); text_is = refl; then = refl }, h.2)

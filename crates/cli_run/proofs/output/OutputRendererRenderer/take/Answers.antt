@@ -39,13 +39,13 @@ due front form own place begun texts e f none =
     ∙ (sym (append-nil (header_if (begins_file own place begun))) ∙ ap (λ l. header_if (begins_file own place begun) ++ l) (sym none)))
 
 pub returns-in_default-clause-renders : goal.returns-in_default-clause-renders
-returns-in_default-clause-renders g c = λ order m whole s there.
+returns-in_default-clause-renders g c = λ order m whole s there _.
     let was = state_of c.args.self.now in
     let some = some_of_one was.command was.owners order m c.args.lent.now.place in
     rendered was order m c.args.lent.now.place (length c.args.lent.now.bytes.now) some.0 some.1 (λ t text. Unit {0}) tt s there
 
 pub returns-then-not-picked-clause-renders : goal.returns-then-not-picked-clause-renders
-returns-then-not-picked-clause-renders g c = λ order m whole s there.
+returns-then-not-picked-clause-renders g c = λ order m whole s there _.
     let was = state_of c.args.self.now in
     let place = c.args.lent.now.place in
     let is = c.in-Ok.ensures order m whole in
@@ -55,7 +55,7 @@ returns-then-not-picked-clause-renders g c = λ order m whole s there.
     (λ i. record { command = was.command; window = after_none was.window i; begun = true; owners = sym is.owners i }, subst (λ (l : List ℕ). g.D.Draft.gains c.args.draft.now l c.write_file_header.new.draft) header c.write_file_header.ensures) s there
 
 pub returns-then-lets_through-clause-renders : goal.returns-then-lets_through-clause-renders
-returns-then-lets_through-clause-renders g c = λ order m whole s there.
+returns-then-lets_through-clause-renders g c = λ order m whole s there _.
     let was = state_of c.args.self.now in
     let place = c.args.lent.now.place in
     let is = c.in-Ok.ensures order m whole in
@@ -68,7 +68,7 @@ returns-then-lets_through-clause-renders g c = λ order m whole s there.
     (subst (λ (l : List ℕ). OnOk c.write_one.result (g.D.Draft.gains c.args.draft.now (header ++ l) c.write_one.new.draft)) (sym all) one.2)) s there
 
 pub returns-else-lets_through-clause-renders : goal.returns-else-lets_through-clause-renders
-returns-else-lets_through-clause-renders g c = λ order m whole s there.
+returns-else-lets_through-clause-renders g c = λ order m whole s there _.
     let was = state_of c.args.self.now in
     let place = c.args.lent.now.place in
     let is = c.in-Ok.ensures order m whole in
