@@ -27,9 +27,10 @@ def functions(crate):
 
 
 def named(crate, path):
-    """The functions that a path means, by the name of a file or of a type or trait before the last."""
+    """The functions that a path means, by the name of a file, of a type or trait, or of the file of a type before the last."""
     *before, name = path.split("::")
-    return [it for it in functions(crate) if it.name == name and set(before) <= {it.file.removesuffix(".rt"), owner_of(it)}]
+    files = {it.name: it.file.removesuffix(".rt") for it in all_items(crate) if it.kind == "struct"}
+    return [it for it in functions(crate) if it.name == name and set(before) <= {it.file.removesuffix(".rt"), owner_of(it), files.get(owner_of(it))}]
 
 
 def clauses_of(item):
