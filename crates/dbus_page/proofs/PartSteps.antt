@@ -8,14 +8,15 @@ use Rattle.std.proofs.lemmas.Slice.{take-put_mid_below}
 use Rattle.std.proofs.Math.Seq.{take-append-add}
 use Rattle.dbus_device.specs.Packets.{Packets, PacketsAfter, AreOfPacket}
 use Rattle.dbus_device.specs.declared.packet.Packet.{Packet}
-use Rattle.dbus_page.specs.Parts.{AreTimed, time_in, time_of}
+use Rattle.dbus_page.specs.Parts.{AreParts, time_in, time_of}
 use Rattle.dbus_page.specs.declared.unpacking.PagePart.{PagePart}
 
 -- one part more
-pub timed_more : (packets : Packets) (begin end next : ℕ) (parts : List PagePart) (part : PagePart) → AreTimed packets begin parts end → part.start ≡ end → end < next
-    → ((i : ℕ) → end ≤ i → i < next → time_in (packets i) ≡ time_of part) → AreTimed packets begin (parts ++ part ∷ []) next
-timed_more packets begin end next [] part are starts le timed = (next, starts ∙ sym are, omega (arith, are, le), λ i from to. timed i (omega (arith, are, from)) to, refl)
-timed_more packets begin end next (p ∷ parts) part are starts le timed = (are.0, are.1, are.2, are.3, timed_more packets are.0 end next parts part are.4 starts le timed)
+pub parts_more : (packets : Packets) (begin end next : ℕ) (parts : List PagePart) (part : PagePart) (packet : Option Packet) → AreParts packets begin parts end → part.start ≡ end → end < next
+    → ((i : ℕ) → end ≤ i → i < next → packets i ≡ packet) → time_of part ≡ time_in packet → AreParts packets begin (parts ++ part ∷ []) next
+parts_more packets begin end next [] part packet are starts le of timed =
+    let first : packets begin ≡ packet = of begin (omega (arith, are)) (omega (arith, are, le)) in (next, starts ∙ sym are, omega (arith, are, le), λ i from to. of i (omega (arith, are, from)) to ∙ sym first, timed ∙ sym (ap time_in first), refl)
+parts_more packets begin end next (p ∷ parts) part packet are starts le of timed = (are.0, are.1, are.2, are.3, are.4, parts_more packets are.0 end next parts part packet are.5 starts le of timed)
 
 -- the front of what was read into a part of the room
 pub front_read : (room part : List ℕ) (n m k : ℕ) → n ≤ length room → k ≤ length part → take (n + k) (put_mid n m room part) ≡ take n room ++ take k part
@@ -46,11 +47,11 @@ pub record ReadsUpTo {S : Type 0} (left : S → Option (List ℕ)) (packets : S 
   pub within : size ≤ length room
   pub read : Consumes (left old) (left now) (take size room)
   pub after : PacketsAfter size (packets old) (packets now)
-  pub timed : (p : Packets) → packets old ≡ Some p → AreTimed p 0 (take number parts) size
+  pub in_parts : (p : Packets) → packets old ≡ Some p → AreParts p 0 (take number parts) size
 
 module _ {S : Type 0} (left : S → Option (List ℕ)) (packets : S → Option Packets) where
   pub none_read : (old : S) (room : List ℕ) (parts : List PagePart) → Consumes (left old) (left old) [] → ReadsUpTo left packets old old room 0 parts 0
-  none_read old room parts none = record { within = omega arith; read = none; after = after_none (packets old); timed = λ p is. refl }
+  none_read old room parts none = record { within = omega arith; read = none; after = after_none (packets old); in_parts = λ p is. refl }
 
   -- a read that gives no byte
   pub same_read : (old now new : S) (room part : List ℕ) (size m count : ℕ) (parts : List PagePart) (number : ℕ) → ReadsUpTo left packets old now room size parts number → count ≡ 0
@@ -70,8 +71,8 @@ module _ {S : Type 0} (left : S → Option (List ℕ)) (packets : S → Option P
     within = omega (arith, ap length front, length-append (take size room) (take count part), length-take (size + count) (put_mid size m room part), length-take size room, length-take count part, u.within, within);
     read = subst (λ (l : List ℕ). Consumes (left old) (left new) l) (sym front) (Consumes-trans _ _ _ _ _ u.read consumed);
     after = after_both size count (packets old) (packets now) (packets new) u.after after;
-    timed = λ p is.
+    in_parts = λ p is.
         let known = subst (λ (o : Option Packets). PacketsAfter size o (packets now)) is u.after in
-        subst (λ (l : List PagePart). AreTimed p 0 l (size + count)) (sym (take_more_set parts number x place))
-        (timed_more p 0 size (size + count) (take number parts) x (u.timed p is) starts (omega (arith, some)) (λ i from to. ap time_in (of_packet size count p (packets now) packet known of i from to) ∙ sym timed));
+        subst (λ (l : List PagePart). AreParts p 0 l (size + count)) (sym (take_more_set parts number x place))
+        (parts_more p 0 size (size + count) (take number parts) x packet (u.in_parts p is) starts (omega (arith, some)) (of_packet size count p (packets now) packet known of) timed);
   }

@@ -1,4 +1,4 @@
--- When bytes were captured, by the parts that are of one packet.
+-- Of which packets bytes are, and when these were captured, by parts that are of one packet.
 use Rattle.std.specs.Prelude.{◌≡◌, ◌⊎◌, ℕ, ◌<◌, ◌≤◌, length, List, [], ◌∷◌, Option, None, Some}
 use Rattle.dbus_device.specs.Packets.{Packets}
 use Rattle.dbus_device.specs.declared.packet.Packet.{Packet}
@@ -15,13 +15,13 @@ time_in (Some packet) = packet.time
 abbrev pub time_of : PagePart → Option ℕ
 time_of part = time_if part.has_time part.time
 
--- The parts are those of the bytes from a place on up to another: each has bytes, begins where the
--- one before it ends, and has the time of the packet of each of its bytes.
-abbrev pub AreTimed : Packets → (begin : ℕ) → List PagePart → (end : ℕ) → Type 0
-AreTimed packets begin [] end = begin ≡ end
-AreTimed packets begin (part ∷ parts) end =
-    (next : ℕ) × (part.start ≡ begin) × (begin < next) × ((i : ℕ) → begin ≤ i → i < next → time_in (packets i) ≡ time_of part)
-    × AreTimed packets next parts end
+-- The parts are those of the bytes from a place on up to another: each begins where the one before it
+-- ends, has bytes, all of one packet or of none, and has the time of that packet.
+abbrev pub AreParts : Packets → (begin : ℕ) → List PagePart → (end : ℕ) → Type 0
+AreParts packets begin [] end = begin ≡ end
+AreParts packets begin (part ∷ parts) end =
+    (next : ℕ) × (part.start ≡ begin) × (begin < next) × ((i : ℕ) → begin ≤ i → i < next → packets i ≡ packets begin) × (time_of part ≡ time_in (packets begin))
+    × AreParts packets next parts end
 
 -- there is no more room: each byte of it, or each part, is filled
 abbrev pub IsFull : (room : List ℕ) → (parts : List PagePart) → (bytes filled : ℕ) → Type 0

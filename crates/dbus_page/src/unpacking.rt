@@ -1,13 +1,13 @@
 //! The bytes of messages in a file, captured or not.
 #![tactic(auto)]
 
-ghost use Rattle.std.specs.Prelude.{◌≡◌, ◌≤◌, ◌++◌, ◌⊎◌, ℕ, List, Some, length, take, true, false};
+ghost use Rattle.std.specs.Prelude.{◌≡◌, ◌≤◌, ◌++◌, ◌⊎◌, ℕ, List, Some, length, take, true, false, None};
 ghost use Rattle.std.specs.Io.KnownBytes.{Consumes, IsAtEnd};
 ghost use Rattle.dbus_capture.specs.Beginnings.{first_scan};
 ghost use Rattle.dbus_capture.specs.Captures.{file_of, left_of, opened, packets_of, scan_of, source_of};
 ghost use Rattle.dbus_capture.specs.Steps.{ended, given, packet_given, run};
 ghost use Rattle.dbus_device.specs.Packets.{Packets};
-ghost use Rattle.dbus_page.specs.Parts.{AreTimed, IsFaultTold, IsFull, time_in, time_of};
+ghost use Rattle.dbus_page.specs.Parts.{AreParts, IsFaultTold, IsFull, time_in, time_of};
 ghost use Rattle.dbus_page.specs.Failing.{MayFail};
 ghost use Rattle.dbus_page.specs.declared.answers.TheConstants.{NO_ROOM, WHOLE};
 
@@ -38,7 +38,7 @@ pub struct Unpacked {
     pub parts: u64,
     /// Of a fault of the file: its offset, in bytes from the start of the file.
     pub at: u64,
-    /// 0 if the file has no fault, else 1.
+    /// 1 if a fault is told, else 0.
     pub has_fault: u64,
 }
 
@@ -86,8 +86,8 @@ fn read_through<R: Source>(
     ensures read { Consumes (left_of R.left capture.old) (left_of R.left capture.new)
         (take result.length room.new) }
     ensures all { result.is_all ≡ true → IsAtEnd (left_of R.left capture.new) }
-    ensures timed { (packets : Packets) → packets_of R.left capture.old ≡ Some packets →
-        AreTimed packets 0 (take result.parts parts.new) result.length }
+    ensures parts { (packets : Packets) → packets_of R.left capture.old ≡ Some packets →
+        AreParts packets 0 (take result.parts parts.new) result.length }
     ensures fault { result.is_all ≡ true → (bytes : List ℕ) →
         file_of R.left capture.old ≡ Some bytes →
         (ended (run (opened capture.old bytes) bytes)).fault ≡ (scan_of capture.new).fault }
@@ -147,11 +147,12 @@ fn unpacked_of(filled: &Filled, fault: Option<CaptureFault>) -> Unpacked
 /// Writes the bytes of messages that a file has to the start of the room: those of the D-Bus
 /// packets of a pcap or pcapng file, one after another, or all bytes of any other file. Writes to
 /// `parts` where each part of a packet begins, and when the packet was captured. A fault of the
-/// file ends its bytes, and is reported.
+/// file ends its bytes.
 ///
-/// [`WHOLE`] if these are all bytes. [`NO_ROOM`] if the room or `parts` is full: both need room for
-/// one more than is written, and may change behind that. It allocates nothing. "PCAP Capture File
-/// Format"; "PCAP Now Generic (pcapng) Capture File Format".
+/// [`WHOLE`] if these are all bytes; a fault is told then. [`NO_ROOM`] if the room or `parts` is
+/// full, and no fault is told: both need room for one more than is written, and may change behind
+/// that. It allocates nothing. "PCAP Capture File Format"; "PCAP Now Generic (pcapng) Capture File
+/// Format".
 #[unsafe(no_mangle)]
 pub extern "C" fn dbus_page_unpack(
     file: &[u8],
@@ -163,13 +164,14 @@ pub extern "C" fn dbus_page_unpack(
         (given (first_scan false file.now) file.now ≡ take unpacked.new.length room.new ++ rest) }
     ensures whole { result ≡ WHOLE →
         given (first_scan false file.now) file.now ≡ take unpacked.new.length room.new }
-    ensures timed { AreTimed (packet_given (first_scan false file.now) file.now) 0
+    ensures parts { AreParts (packet_given (first_scan false file.now) file.now) 0
         (take unpacked.new.parts parts.new) unpacked.new.length }
     ensures answers { (result ≡ WHOLE) ⊎ (result ≡ NO_ROOM) }
     ensures full { result ≡ NO_ROOM →
         IsFull room.new parts.new unpacked.new.length unpacked.new.parts }
     ensures fault { result ≡ WHOLE →
         IsFaultTold (ended (run (first_scan false file.now) file.now)).fault unpacked.new }
+    ensures unfaulted { result ≡ NO_ROOM → IsFaultTold None unpacked.new }
 {
     let source = Memory {
         left: file,
@@ -177,6 +179,11 @@ pub extern "C" fn dbus_page_unpack(
     };
     let mut capture = Capture::new(source, false);
     let filled = read_through(&mut capture, room, parts);
-    *unpacked = unpacked_of(&filled, capture.fault());
-    if filled.is_all { WHOLE } else { NO_ROOM }
+    if filled.is_all {
+        *unpacked = unpacked_of(&filled, capture.fault());
+        WHOLE
+    } else {
+        *unpacked = unpacked_of(&filled, None);
+        NO_ROOM
+    }
 }
