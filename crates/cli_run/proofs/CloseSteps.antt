@@ -1,5 +1,5 @@
 -- How a run ends after its parts, by its last line.
-use Rattle.std.proofs.Common.{◌≡◌, ℕ, List, [], ◌++◌, Bool, true, Option, None, Result, Ok, Err, refl, sym, ap, ◌∙◌, subst, inl, inr, append_assoc, append-nil}
+use Rattle.std.proofs.Common.{◌≡◌, ℕ, List, [], ◌++◌, Bool, true, Option, None, Result, Ok, Err, length, refl, sym, ap, ◌∙◌, subst, arith, inl, inr, append_assoc, append-nil}
 use Rattle.dbus_value_model.specs.declared.fault.Fault.{Fault}
 use Rattle.dbus_stream.specs.RawReading.{kept, most_reads_of}
 use Rattle.dbus_stream.specs.declared.raw_reader.RawReader.{RawReader}
@@ -101,7 +101,7 @@ module _ {R A S : Type 0} {takes : S → S → List Placed → (told : List ℕ)
         placed = h.placed;
         wanted = h.wanted;
         enough = enough_after s2 (h.told ++ due) came (laws.still s1 s2 due c.0 ∙ h.enough);
-        reads = h.needed;
+        reads = elim h.needed [ inl none ↦ inl (inl none) | inr (before, between, came, last, more) ↦ inr (length before, more, inr (before, between, came, last, omega arith)) ];
         read_failed = h.failed;
         came = came;
         end_is = c.1 ∙ ap (λ (x : Tally). status_at x.passed None) h.tally_is;

@@ -1,5 +1,5 @@
 -- What the writers got of a run, by what became of a writer of an output.
-use Rattle.std.proofs.Common.{◌≡◌, ℕ, Bool, true, false, List, [], ◌++◌, None, Option, Result, Ok, Err, inl, inr, refl, sym, ap, ◌∙◌, subst, arith}
+use Rattle.std.proofs.Common.{◌≡◌, ℕ, ◌+◌, Bool, true, false, List, [], ◌++◌, None, Option, Result, Ok, Err, inl, inr, refl, sym, ap, ◌∙◌, subst, arith}
 use Rattle.std.proofs.KnownBytes.{Consumes-nil}
 use Rattle.std.proofs.Math.Path.{transport}
 use Rattle.std.proofs.lemmas.Bool.{false≢true}
@@ -18,7 +18,7 @@ use Rattle.cli_report.specs.declared.ending.ExitStatus.TheVariants as status
 use Rattle.cli_run.specs.Output.{command_of, IsFilledBy, is_check, is_filled, owners_known}
 use Rattle.cli_run.specs.Ending.{EndsNoted, IsNoteMade, LeavesMade, RunsToEnd, WritesAtEnd, WritesMade, WritesText}
 use Rattle.cli_run.specs.Going.{GivesUp, Goes, GoesFar, GoesThrough, IsMore, StopsWithin}
-use Rattle.cli_run.specs.Inputs.{ArePlaced, Part, Placed, sizes_of}
+use Rattle.cli_run.specs.Inputs.{ArePlaced, Part, Placed}
 use Rattle.cli_run.specs.OutputWriting.{LeavesFirst}
 use Rattle.cli_run.specs.Rendering.{Makes, OutputState, state_of}
 use Rattle.cli_run.specs.Running.{Writes, WritesSome}
@@ -67,7 +67,7 @@ far_as to reads f g = record {
   placed = g.placed;
   wanted = wanted_as to [] g.messages g.wanted;
   enough = (g.enough.0, to g.messages true g.enough.1, g.enough.2);
-  reads = λ none. reads (sizes_of g.parts) (g.reads none);
+  reads = elim g.reads [ inl none ↦ inl (reads 0 none) | inr (came, more, some) ↦ inr (came, more, reads (came + 1) some) ];
   read_failed = g.read_failed;
   came = f g.parts g.messages _ g.placed g.came;
   end_is = g.end_is;

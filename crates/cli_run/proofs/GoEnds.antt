@@ -1,6 +1,6 @@
 -- How a turn of a run that passes over refused messages ends: the input ends, or a message is
 -- refused, and passed over or not.
-use Rattle.std.proofs.Common.{◌≡◌, ℕ, ◌+◌, ◌*◌, ◌-◌, ◌||◌, ◌<◌, ◌≤◌, List, [], ◌∷◌, ◌++◌, Bool, true, false, ◌⊎◌, is_some, Option, None, Some, Result, Ok, Err, drop, length, refl, sym, ap, ◌∙◌, subst, arith, inl, inr, append_assoc, append-nil, length-append}
+use Rattle.std.proofs.Common.{◌≡◌, ℕ, ◌+◌, ◌*◌, ◌-◌, ◌||◌, ◌<◌, ◌≤◌, List, [], ◌∷◌, ◌++◌, Bool, true, false, ◌⊎◌, is_some, Option, None, Some, Result, Ok, Err, drop, take, length, refl, sym, ap, ◌∙◌, subst, arith, inl, inr, append_assoc, append-nil, length-append}
 use Rattle.std.proofs.Math.Path.{transport}
 use Rattle.std.proofs.Math.Nat.{le-max_left}
 use Rattle.std.proofs.Math.Seq.{drop-append_seam}
@@ -10,7 +10,7 @@ use Rattle.std.proofs.KnownBytes.{Consumes-trans}
 use Rattle.std.proofs.lemmas.Bool.{false≢true}
 use Rattle.dbus_value_model.specs.declared.fault.Fault.{Fault}
 use Rattle.dbus_value_model.specs.declared.limits.Limits.{Limits}
-use Rattle.dbus_header.specs.MessageOutcomes.{IsRefused}
+use Rattle.dbus_header.specs.MessageOutcomes.{IsPartial, IsRefused}
 use Rattle.dbus_header.proofs.OutcomeLaws.{nothing_partial}
 use Rattle.dbus_device.specs.Device.{one_more}
 use Rattle.dbus_device.specs.Packets.{Packets}
@@ -25,7 +25,7 @@ use Rattle.dbus_stream.specs.Gathering.{gathering, under_way}
 use Rattle.dbus_stream.specs.Lasting.{is_truncated}
 use Rattle.dbus_stream.specs.Next.{DeviceCounts, IsCutShort}
 use Rattle.dbus_stream.specs.Packed.{number_of as packed_number}
-use Rattle.dbus_stream.specs.Passing.{IsRefusal, PassAnswers, Passing}
+use Rattle.dbus_stream.specs.Passing.{IsRefusal, PassAnswers, Passing, ReadsOn}
 use Rattle.dbus_stream.specs.PassingPackets.{DropsAll, IsBeforeOther, PacketAnswers, PassesPacket, ReadsOnward}
 use Rattle.dbus_stream.specs.RawReading.{done_of, is_ended, kept, limits_of, looked_of, most_reads_of, read_of, reads_of, source_of, stopped_of}
 use Rattle.dbus_stream.specs.Reading.{part_of}
@@ -40,7 +40,8 @@ use Rattle.dbus_stream.proofs.SizeSteps.{size_once, sizes_tell}
 use Rattle.cli_options.specs.declared.resync.Resync.{Resync}
 use Rattle.cli_options.specs.declared.resync.Resync.TheVariants.{Off, Within as Sought}
 use Rattle.cli_run.specs.Going.{IsAllOf, IsSought, cause_of, AreTold, IsTold, IsToldRefused, cut_tally, passed_count, passed_sizes, tally_with}
-use Rattle.cli_run.specs.Inputs.{AreInPacket, BeginNowhere, BeginWithParts, By, GoesPast, InPacket, IsCutOff, IsCutUnpassed, IsFaultOf, IsInOther, IsLast, IsPart, IsPassedBy, IsLarger, IsTellable, IsUnpassed, PassedOver, PastWindow, Placed, ResumeIn, Resumed, Seek, Stated, WantsMoreBy, is_there, is_to_end, looked_for, looked_in, reach_end, seek_of, sizes_of}
+use Rattle.cli_run.specs.Inputs.{AreInPacket, BeginNowhere, BeginWithParts, By, GoesPast, InPacket, IsCutOff, IsCutUnpassed, IsFaultOf, IsInOther, IsLast, IsPart, IsPassedBy, IsLarger, IsTellable, IsUnpassed, Part, PassedOver, PastWindow, Placed, ResumeIn, Resumed, Seek, Stated, WantsMoreBy, is_there, is_to_end, looked_for, looked_in, reach_end, seek_of, sizes_of}
+use Rattle.cli_run.specs.Needed.{ahead_by}
 use Rattle.cli_run.specs.Onward.{HasKnownPackets, HasRead, stop_of}
 use Rattle.cli_run.specs.PassingOn.{BySize, PassesBy, PassesInPacket, PassesLarger, PassesOn, ToNext, ToPacket, Way, way_of}
 use Rattle.cli_run.specs.Refusals.{IsRefusedIn, number_of}
@@ -52,10 +53,11 @@ use Rattle.cli_run.specs.declared.counted.Counted.{Counted}
 use Rattle.cli_run.specs.declared.tally.Tally.{Tally}
 use Rattle.cli_run.specs.declared.visitor.RunStop.{RunStop}
 use Rattle.cli_run.specs.declared.visitor.RunStop.TheVariants.{Cause as ByCause, Untold}
+use Rattle.cli_run.proofs.NeededSteps.{reads_if, reads_looking, reads_sized, reads_then, wanted_more, wanted_past}
 use Rattle.cli_run.proofs.PartLaws.{StayNowhere, is_fault_of, larger_more, looked-both, nowhere_more, part_some, parts_more, placed_past, sizes-both, passed-both, passed_sizes-both}
 use Rattle.cli_run.proofs.ReadSteps.{read_none, read_on}
 use Rattle.cli_run.proofs.Ways.{way_cut, way_next, way_packet, way_size}
-use Rattle.cli_run.proofs.GoSteps.{fresh, Begun, Fills, HasCovered, HasEnded, HasGone, HasReached, refused_is, none_is, covers_read, covers, packets_of, Took, Within, Through, Stopped, More, stops_plain, all_called}
+use Rattle.cli_run.proofs.GoSteps.{fresh, Begun, Fills, HasCovered, HasEnded, HasGone, HasReached, MoreWanted, ReadsFor, Unshown, Wants, reads_on, read_parts, refused_is, none_is, covers_read, covers, packets_of, Took, Within, Through, Stopped, More, stops_plain, all_called}
 
 -- the number of a packet, as both have it
 same_number : (p : Option Packet) → number_of p ≡ packed_number p
@@ -263,6 +265,30 @@ module _ {R A S : Type 0} {takes : S → S → List Placed → (told : List ℕ)
     either Unfinished o e ended = let same : fault ≡ truncated (kept mid) = cc in inr (ended (λ f is. absurd cc), (o.0, o.1, same))
     either (Refused other) o e ended = let same : other ≡ fault = cc in inl (subst (λ (f : Fault). IsRefused run.settings.limits (kept mid) f) same o)
 
+    -- a read is made to pass it over only if so many bytes came: no more than its size, or fewer than
+    -- twice as many as are looked ahead at
+    abbrev Before : By → (size came : ℕ) → Type 0
+    Before by size came =
+        (length (kept mid) + came ≤ size) ⊎ (length (kept mid) + came < 2 * ahead_by by)
+
+    -- so they are wanted for it
+    wanted_for : (by : By) (size came : ℕ) → Unshown run h.gone.parts (kept mid) came
+        ⊎ (came < sizes_of h.gone.parts + 2 * ahead_by by)
+        → Wants run (h.gone.parts ++ PassedOver (kept mid) fault by size ∷ []) came
+    wanted_for by size came w =
+        wanted_past run.settings.limits 0 h.gone.parts (kept mid) fault by size came
+        (sizes_of h.gone.parts) (omega arith) w
+
+    -- or none came of what follows it
+    unshown_none : (new : RawReader R A) (parts : List Part) (came : ℕ) → came ≤ sizes_of parts
+        → Unshown run parts (kept new) came
+    unshown_none new parts came few =
+        let none : came - sizes_of parts ≡ 0 = omega (arith, few) in
+        let limits = run.settings.limits in (
+          omega (arith, few),
+          subst (λ (n : ℕ). IsPartial limits (take n (kept new))) (sym none) (nothing_partial limits),
+        )
+
     module _ (new : RawReader R A) where
       -- what is known of what it dropped
       abbrev IsInput : Result Passed ReadFault → Type 0
@@ -282,6 +308,7 @@ module _ {R A S : Type 0} {takes : S → S → List Placed → (told : List ℕ)
         looked_is : looked_of new ≡ looked_for by fault.at (sizes_of h.gone.parts) (looked_in h.gone.parts)
         stopped_is : stopped_of new ≡ None
         ends : is_to_end by ≡ true → is_ended new ≡ true
+        needed : ReadsFor run (Before by size) mid new
 
       -- not all of it came
       abbrev IsPast : List ℕ → Type 0
@@ -334,8 +361,9 @@ module _ {R A S : Type 0} {takes : S → S → List Placed → (told : List ℕ)
                   (subst (λ (r : Resync). WantsMoreBy (seek_by r) run.settings.limits rest) (sym plain.1) (subst (λ (l : Limits). WantsMore l rest) limits_are wants)),
             )
 
-        came_by_size : looked_of new ≡ looked_of mid → (more : List ℕ) (other : Fault) → IsRefusal (stopped_of mid) other → (res : Result Passed ReadFault) → PassAnswers [] (kept mid ++ more) mid new res → CameTo (kept mid ++ more) res
-        came_by_size looked more other refused (Ok Over) p =
+        came_by_size : looked_of new ≡ looked_of mid → (r : ReadsOn [] run.left run.calls mid new) (other : Fault) → IsRefusal (stopped_of mid) other → (res : Result Passed ReadFault) → PassAnswers [] (kept mid ++ r.bytes) mid new res → CameTo (kept mid ++ r.bytes) res
+        came_by_size looked r other refused (Ok Over) p =
+            let more = r.bytes in
             let done = p.done in
             let plain = way_plain other refused in
             record {
@@ -348,14 +376,16 @@ module _ {R A S : Type 0} {takes : S → S → List Placed → (told : List ℕ)
               looked_is = looked ∙ h.gone.looked;
               stopped_is = p.stopped;
               ends = λ e. absurd (false≢true e);
+              needed = reads_sized gathering run.left run.calls (limits_of mid) (kept mid) mid.reader
+                  new.reader r p.size p.states (Before Stated p.size) (λ came less. inl (omega (arith, less)));
             }
-        came_by_size looked more other refused (Ok CutOff) p = let done = p.1.done in (past_plain (kept mid ++ more) other refused p.0, p.2, omega (arith, done))
-        came_by_size looked more other refused (Ok Not) p =
+        came_by_size looked r other refused (Ok CutOff) p = let done = p.1.done in (past_plain (kept mid ++ r.bytes) other refused p.0, p.2, omega (arith, done))
+        came_by_size looked r other refused (Ok Not) p =
             let plain = way_plain other refused in
-            inl (met other refused, plain.0, plain.1, subst (λ (l : Limits). StatesNone l (kept mid ++ more)) limits_are p.0)
-        came_by_size looked more other refused (Err read.Device) p = inl (past_plain (kept mid ++ more) other refused p.0)
-        came_by_size looked more other refused (Err read.TooManyReads) p = (inl (past_plain (kept mid ++ more) other refused p.0), p.2)
-        came_by_size looked more other refused res p = absurd p
+            inl (met other refused, plain.0, plain.1, subst (λ (l : Limits). StatesNone l (kept mid ++ r.bytes)) limits_are p.0)
+        came_by_size looked r other refused (Err read.Device) p = inl (past_plain (kept mid ++ r.bytes) other refused p.0)
+        came_by_size looked r other refused (Err read.TooManyReads) p = (inl (past_plain (kept mid ++ r.bytes) other refused p.0), p.2)
+        came_by_size looked r other refused res p = absurd p
 
         by_size : looked_of new ≡ looked_of mid → (res : Result Passed ReadFault) → Passing run.left run.calls mid new res → HasOnward res ⊎ ((res ≡ Ok Not) × (new ≡ mid) × IsUnsized)
         by_size looked res passing = elim passing [
@@ -366,7 +396,7 @@ module _ {R A S : Type 0} {takes : S → S → List Placed → (told : List ℕ)
                 rest = kept mid ++ all.0.bytes;
                 reads = read_on gathering run.left run.calls run.settings.limits (kept mid) (λ before. WantsMore (limits_of mid) (kept mid ++ before)) mid.reader mid.reader new.reader [] (kept mid)
                     (read_none gathering run.left run.calls run.settings.limits (kept mid) mid.reader limits_are) all.0;
-                came_to = came_by_size looked all.0.bytes p.0 p.1 res all.1;
+                came_to = came_by_size looked all.0 p.0 p.1 res all.1;
               })
               )
           | inr none ↦ inr (
@@ -416,10 +446,11 @@ module _ {R A S : Type 0} {takes : S → S → List Placed → (told : List ℕ)
         )
 
         -- it is gone on there
-        came_there : (more : List ℕ) → (is_ended mid ≡ true → more ≡ []) → (is_ended mid ≡ true → is_ended new ≡ true) → (size : ℕ) → Resyncs (kept mid ++ more) mid new window (Ok (At size)) → CameTo (kept mid ++ more) (Ok Over)
-        came_there more none still size g =
+        came_there : (r : ReadsToGoOn window run.left run.calls mid new) (size : ℕ) → Resyncs (kept mid ++ r.bytes) mid new window (Ok (At size)) → CameTo (kept mid ++ r.bytes) (Ok Over)
+        came_there r size g =
+            let more = r.bytes in
             let n = g.0.looked in
-            let f = fault_by more none still g.0.is_found.0 in
+            let f = fault_by more (λ end. (r.settled end).0) (λ end. (r.settled end).2) g.0.is_found.0 in
             record {
               by = Resumed window (effort window) n f.0;
               size = size;
@@ -430,6 +461,8 @@ module _ {R A S : Type 0} {takes : S → S → List Placed → (told : List ℕ)
               looked_is = counts_is n g.0.counts;
               stopped_is = g.1.stopped;
               ends = f.3;
+              needed = reads_looking run.left run.calls window mid new r
+                  (Before (Resumed window (effort window) n f.0) size) (λ came few. inr few);
             }
 
         -- or not, since it could not be read so far
@@ -501,6 +534,8 @@ module _ {R A S : Type 0} {takes : S → S → List Placed → (told : List ℕ)
                 looked_is = looked ∙ h.gone.looked;
                 stopped_is = g.stopped;
                 ends = λ e. absurd (false≢true e);
+                needed = reads_if gathering (λ before. Unit {0}) run.left run.calls mid.reader new.reader r
+                    (Before (InPacket number) size) (λ _. inl (omega (arith, both)));
               }
           came_by_packet (Ok CutOff) p d = let past = to_end d.0 (Ok CutOff) p in (past.0, d.1, past.1)
           came_by_packet (Err read.Device) p d = inl (to_end d (Err read.Device) p).0
@@ -543,9 +578,15 @@ module _ {R A S : Type 0} {takes : S → S → List Placed → (told : List ℕ)
       lost small = let by = way_seeks far window seeks in went far window seeks ahead (Ok Not) (inr (window, by.0, by.1, nowhere, small))
 
       -- or by its size, since that is larger
-      module _ (new : RawReader R A) (larger : IsLarger run.settings.limits window found_none) (other : Fault) (refused : IsRefusal (stopped_of mid) other) (more : List ℕ) (none : is_ended far ≡ true → more ≡ []) where
+      module _ (new : RawReader R A) (larger : IsLarger run.settings.limits window found_none) (other : Fault) (refused : IsRefusal (stopped_of mid) other) (r : ReadsOn [] run.left run.calls far new) where
+        abbrev more : List ℕ
+        more = r.bytes
+
         abbrev all_read : List ℕ
         all_read = found_none ++ more
+
+        none : is_ended far ≡ true → more ≡ []
+        none end = (r.settled end).0
 
         nowhere_all : StayNowhere run.settings.limits window (effort window) nowhere.searched all_read
         nowhere_all = nowhere_more run.settings.limits window (effort window) found_none more (is_ended far ≡ true) none nowhere
@@ -560,6 +601,22 @@ module _ {R A S : Type 0} {takes : S → S → List Placed → (told : List ℕ)
               subst (λ (p : Option ℕ). GoesPast (packets_of run) seek run.settings.limits (sizes_of h.gone.parts) (kept mid) all_read p) (sym by.0)
                   (subst (λ (r : Resync). WantsMoreBy (seek_by r) run.settings.limits all_read) (sym by.1) (nowhere_all.0, larger_all, subst (λ (l : Limits). WantsMore l all_read) limits_far wants)),
             )
+
+        -- a read only to look ahead, or if more of it is wanted
+        needed_larger : (size : ℕ) → StatesSize (limits_of far) all_read size
+            → ReadsFor run (Before (PastWindow window (effort window) nowhere.searched.looked) size) mid new
+        needed_larger size states =
+            let Few : ℕ → Type 0 = λ came. length (kept mid) + came < 2 * ahead_of window in
+            let Less : ℕ → Type 0 = λ came. length (kept far) + came < size in
+            let there = ap length stays.kept in
+            let stated = subst (λ (l : List ℕ). StatesSize (limits_of far) (l ++ more) size) (sym stays.kept) states in
+            reads_then run.left run.calls Few Less (Before (PastWindow window (effort window) nowhere.searched.looked) size)
+            (source_of mid) (source_of far) (source_of new) ahead.bytes ahead.consumed
+            (reads_looking run.left run.calls window mid far ahead Few (λ came few. few))
+            (reads_sized gathering run.left run.calls (limits_of far) (kept far) far.reader new.reader r
+            size stated Less (λ came less. less))
+            (λ came few. inr few)
+            (λ came less. inl (omega (arith, less, there, length-append (kept mid) ahead.bytes)))
 
         came_larger : looked_of new ≡ looked_of far → (res : Result Passed ReadFault) → PassAnswers [] all_read far new res → CameTo new all_read res
         came_larger looked (Ok Over) p =
@@ -577,6 +634,7 @@ module _ {R A S : Type 0} {takes : S → S → List Placed → (told : List ℕ)
               looked_is = looked ∙ counts;
               stopped_is = p.stopped;
               ends = λ e. absurd (false≢true e);
+              needed = needed_larger p.size p.states;
             }
         came_larger looked (Ok CutOff) p = let done = p.1.done in (past_larger p.0, p.2, omega (arith, done, stays.done))
         came_larger looked (Ok Not) p = absurd (((sizes_tell run.settings.limits all_read).1 larger_all.0 larger_all.1).0 (subst (λ (l : Limits). StatesNone l all_read) limits_far p.0))
@@ -593,7 +651,7 @@ module _ {R A S : Type 0} {takes : S → S → List Placed → (told : List ℕ)
               record {
                 rest = found_none ++ all.0.bytes;
                 reads = read_on gathering run.left run.calls run.settings.limits (kept mid) (λ before. WantsMore (limits_of far) (kept far ++ before)) mid.reader far.reader new.reader [] found_none (reads_ahead far window seeks ahead) all.0;
-                came_to = came_larger new (larger_there p.0) over.0 refused all.0.bytes (λ end. (all.0.settled end).0) looked res (subst (λ (l : List ℕ). PassAnswers [] (l ++ all.0.bytes) far new res) stays.kept all.1);
+                came_to = came_larger new (larger_there p.0) over.0 refused all.0 looked res (subst (λ (l : List ℕ). PassAnswers [] (l ++ all.0.bytes) far new res) stays.kept all.1);
               }
               )
           | inr not ↦ transport (λ i. HasOnward (sym not.2 i) (sym not.1 i)) (lost (λ whole larger.
@@ -608,7 +666,7 @@ module _ {R A S : Type 0} {takes : S → S → List Placed → (told : List ℕ)
       by_found : (window : ℕ) (seeks : way ≡ ToNext window) (far : RawReader R A) (r : ReadsToGoOn window run.left run.calls mid far) (found : Result Found ReadFault) → Resyncs (kept mid ++ r.bytes) mid far window found
           → looked_of new ≡ looked_of far → (res : Result Passed ReadFault) → PassesBy run.left run.calls far new window found res → HasOnward new res
       by_found window seeks far r (Ok (At size)) g looked res p =
-          transport (λ i. HasOnward (sym p.1 i) (sym p.0 i)) (went far window seeks r (Ok Over) (came_there far window seeks r.bytes (λ end. (r.settled end).0) (λ end. (r.settled end).2) size g))
+          transport (λ i. HasOnward (sym p.1 i) (sym p.0 i)) (went far window seeks r (Ok Over) (came_there far window seeks r size g))
       by_found window seeks far r (Ok Nowhere) g looked res p = let none = nowhere_is far window seeks r.bytes Nowhere refl g.0 in by_larger window seeks far r g.1 none.0 none.1 new looked res p
       by_found window seeks far r (Ok Spent) g looked res p = let none = nowhere_is far window seeks r.bytes Spent refl g.0 in by_larger window seeks far r g.1 none.0 none.1 new looked res p
       by_found window seeks far r (Err broken) g looked res p = transport (λ i. HasOnward (sym p.1 i) (sym p.0 i)) (went far window seeks r (Err broken) (came_failed far window seeks r.bytes broken g))
@@ -869,4 +927,15 @@ module _ {R A S : Type 0} {takes : S → S → List Placed → (told : List ℕ)
               came = came_told;
               wanted = h.gone.wanted;
               unfilled = λ enough. absurd (false≢true (sym still_open ∙ enough));
+              needed = reads_on h.gone (Before c.by n) (MoreWanted run new (parts ++ part ∷ [])) new c.needed
+                  (λ came w. inl (elim w [
+                    | inl more ↦ wanted_more run.settings.limits 0 parts (part ∷ []) came more
+                    | inr unshown ↦ wanted_for c.by n came (inl unshown)
+                  ]))
+                  (λ came w. elim w [
+                    | inl inside ↦ inr (unshown_none new (parts ++ part ∷ []) (length h.gone.covered.bytes + came)
+                        (omega (arith, inside, read_parts h.gone, sizes-both parts (part ∷ []))))
+                    | inr few ↦ inl (wanted_for c.by n (length h.gone.covered.bytes + came)
+                        (inr (omega (arith, few, read_parts h.gone))))
+                  ]);
             }

@@ -1,6 +1,6 @@
 -- The turns of a run that passes over refused messages. Each hands on the messages up to the next
 -- fault, tells it, and passes over that message.
-use Rattle.std.proofs.Common.{◌≡◌, ◌⊎◌, ◌||◌, ℕ, ◌+◌, ◌^◌, ◌<◌, ◌≤◌, Bool, List, [], ◌++◌, true, false, None, Some, Ok, Option, length, refl, sym, ap, ◌∙◌, subst, arith, inl, inr, append-nil, length-append}
+use Rattle.std.proofs.Common.{◌≡◌, ◌⊎◌, ◌||◌, ℕ, ◌+◌, ◌-◌, ◌^◌, ◌<◌, ◌≤◌, Bool, List, [], ◌∷◌, ◌++◌, true, false, None, Some, Ok, Option, length, take, refl, sym, ap, ◌∙◌, subst, arith, inl, inr, append-nil, length-append}
 use Rattle.std.proofs.Math.Path.{transport}
 use Rattle.std.specs.Io.KnownBytes.{Consumes}
 use Rattle.std.proofs.KnownBytes.{Consumes-nil, Consumes-trans}
@@ -8,11 +8,11 @@ use Rattle.std.proofs.lemmas.Bool.{cases_lt, false≢true}
 use Rattle.std.proofs.lemmas.List.{length-map}
 use Rattle.dbus_value_model.specs.declared.fault.Fault.{Fault}
 use Rattle.dbus_value_model.specs.declared.limits.Limits.{Limits}
-use Rattle.dbus_header.specs.MessageOutcomes.{IsRefused}
+use Rattle.dbus_header.specs.MessageOutcomes.{IsPartial, IsRefused}
 use Rattle.dbus_device.specs.Device.{one_more, RisesBy}
 use Rattle.dbus_device.specs.Packets.{Packets}
 use Rattle.dbus_device.specs.declared.packet.Packet.{Packet}
-use Rattle.dbus_stream.specs.Cut.{CutMessage, CutOutcome, Ended, Unfinished, Refused, IsOutcome}
+use Rattle.dbus_stream.specs.Cut.{BeginWith, CutMessage, CutOutcome, Ended, Unfinished, Refused, IsOutcome}
 use Rattle.dbus_stream.specs.CutEnds.{fault_at_end, truncated, sizes}
 use Rattle.dbus_stream.specs.Gathering.{gathering}
 use Rattle.dbus_stream.specs.Lasting.{is_truncated}
@@ -24,7 +24,7 @@ use Rattle.cli_options.specs.declared.settings.Settings.{Settings}
 use Rattle.cli_report.specs.Devices.{Reading, reading, taken, Taken}
 use Rattle.cli_run.specs.Going.{Covers, EndsWhole, IsMore, IsStopOf, IsThrough, StopsWithin, AreTold, passed_count, passed_sizes, tally_of}
 use Rattle.cli_run.specs.Inputs.{ArePlaced, BeginWithParts, Part, Placed, Whole, looked_in, reach_end, sizes_of, wholes}
-use Rattle.cli_run.specs.Needed.{IsReadFor, ReadsFor}
+use Rattle.cli_run.specs.Needed.{IsUnshown, ReadsIf, WantMore}
 use Rattle.cli_run.specs.Onward.{HasKnownPackets, HasRead, HandsEnough, HandsRawOn, HandsSomeOn, IsTrueEnd, RawHandsOn, stop_of}
 use Rattle.cli_run.specs.Refusals.{IsRefusedIn, number_of}
 use Rattle.cli_run.specs.Visiting.{AddsUp, AreWanted, FillsBy, IsOfReading}
@@ -35,8 +35,9 @@ use Rattle.cli_run.specs.declared.tally.Tally.{Tally}
 use Rattle.cli_run.specs.declared.visitor.RunStop.{RunStop}
 use Rattle.cli_run.specs.declared.visitor.RunStop.TheVariants.{Cause as ByCause}
 use Rattle.cli_run.proofs.KnownPackets.{refused_there}
+use Rattle.cli_run.proofs.NeededSteps.{less_wanted, reads_then, unshown_on, wanted_more}
 use Rattle.cli_run.proofs.Wanted.{ends_whole, filled_next, wanted_next}
-use Rattle.cli_run.proofs.PartLaws.{reach-both, reach_wholes, parts_more, parts_both, parts_of, few_parts, few_passed, few_passed_sizes, looked-both, looked-wholes, sizes-both, passed-both, passed_sizes-both, sizes-wholes, passed-wholes, passed_sizes-wholes, placed_both, told_both, told_of}
+use Rattle.cli_run.proofs.PartLaws.{reach-both, reach_wholes, parts_length, parts_more, parts_both, parts_of, few_parts, few_passed, few_passed_sizes, looked-both, looked-wholes, sizes-both, passed-both, passed_sizes-both, sizes-wholes, passed-wholes, passed_sizes-wholes, placed_both, told_both, told_of}
 
 -- one of two
 either_true : (a b : Bool) → a || b ≡ true → (a ≡ true) ⊎ (b ≡ true)
@@ -172,6 +173,20 @@ module _ {R A S : Type 0} (run : Begun R A S) where
   abbrev pub More : (List Placed → Bool → Type 0) → RawReader R A → RunStop → List Part → List ℕ → List Placed → List ℕ → Type 0
   More filled new stop parts rest messages more = IsMore (Took new) run.settings (most_reads_of run.old) run.is_check filled stop parts rest messages more
 
+  -- what was read of the source, and for what
+  abbrev pub ReadsFor : (Holds : (came : ℕ) → Type 0) → (from new : RawReader R A) → Type 0
+  ReadsFor Holds from new = ReadsIf run.left run.calls Holds (source_of from) (source_of new)
+
+  -- more than so many bytes are wanted for the parts, or since what follows them shows no fault
+  abbrev pub Wants : List Part → (came : ℕ) → Type 0
+  Wants parts came = WantMore run.settings.limits 0 parts came
+
+  abbrev pub Unshown : List Part → List ℕ → (came : ℕ) → Type 0
+  Unshown parts rest came = IsUnshown run.settings.limits (sizes_of parts) rest came
+
+  abbrev pub MoreWanted : RawReader R A → List Part → (came : ℕ) → Type 0
+  MoreWanted new parts came = Wants parts came ⊎ Unshown parts (kept new) came
+
   module _ (takes : S → S → List Placed → (told : List ℕ) → Type 0) (full : S → Bool) where
     -- these messages were wanted, of the run
     abbrev pub Fills : List Placed → Bool → Type 0
@@ -191,6 +206,7 @@ module _ {R A S : Type 0} (run : Begun R A S) where
       pub came : takes run.s0 s messages told
       pub wanted : AreWanted Fills [] messages
       pub unfilled : full s ≡ true → parts ≡ []
+      pub needed : ReadsFor (MoreWanted new parts) run.old new
 
     pub gone_none : ((a : S) → takes a a [] []) → IsNewReader (source_of run.old) (most_reads_of run.old) run.settings.limits run.old
         → HasGone run.old (record { count = 0; size = 0; passed = 0; passed_size = 0; is_cut = false }) run.s0
@@ -217,6 +233,7 @@ module _ {R A S : Type 0} (run : Begun R A S) where
       came = nothing run.s0;
       wanted = tt;
       unfilled = λ _. refl;
+      needed = inl (omega arith);
     }
 
     -- the messages up to a fault, or up to the end, were handed on
@@ -257,7 +274,7 @@ module _ {R A S : Type 0} (run : Begun R A S) where
       pub wanted : AreWanted Fills [] messages
       pub last : EndsWhole parts
       pub enough : full s ≡ true
-      pub needed : passed_count parts ≡ 0 → IsReadFor (Reads new) (sizes_of parts)
+      pub needed : ReadsFor (Wants parts) run.old new
 
   module _ (takes : S → S → List Placed → (told : List ℕ) → Type 0) (leaves : S → S → List Placed → (told : List ℕ) → RunStop → Type 0) (full : S → Bool) where
     abbrev pub Within : RawReader R A → RunStop → S → Type 0
@@ -299,6 +316,18 @@ module _ {R A S : Type 0} {takes : S → S → List Placed → (told : List ℕ)
     small = done_small mid;
   }
 
+  -- what was read for the parts, and for what follows them
+  pub read_parts : length h.covered.bytes ≡ sizes_of h.parts + length (kept mid)
+  read_parts = parts_length run.settings.limits h.covered.bytes h.parts (kept mid) h.covered.begin
+
+  pub reads_on : (Then Holds : ℕ → Type 0) (new : RawReader R A) → ReadsFor run Then mid new
+      → ((came : ℕ) → MoreWanted run mid h.parts came → Holds came)
+      → ((came : ℕ) → Then came → Holds (length h.covered.bytes + came))
+      → ReadsFor run Holds run.old new
+  reads_on Then Holds new next f g =
+      reads_then run.left run.calls (MoreWanted run mid h.parts) Then Holds (source_of run.old)
+      (source_of mid) (source_of new) h.covered.bytes h.covered.consumed h.needed next f g
+
   -- they are the next parts
   placed_next : (items : List CutMessage) (messages : List Placed) → ArePlaced (packets_of run) (tally.count + 1) (done_of mid) (wholes items) messages
       → ArePlaced (packets_of run) 1 0 (h.parts ++ wholes items) (h.messages ++ messages)
@@ -317,6 +346,58 @@ module _ {R A S : Type 0} {takes : S → S → List Placed → (told : List ℕ)
         (subst (λ (l : List ℕ). BeginWithParts run.settings.limits (kept mid ++ r.bytes) (wholes items) l) e (parts_of run.settings.limits (kept mid ++ r.bytes) items rest r.messages))
         (λ reached. absurd (false≢true (sym (reach_wholes items) ∙ reached)))
         (told_of (packets_of run) run.settings (1 + length h.parts) (0 + sizes_of h.parts) (looked_in h.parts) items))
+
+    -- and what was wanted for them
+    both_sizes : (items : List CutMessage)
+        → sizes_of (h.parts ++ wholes items) ≡ sizes_of h.parts + sizes items
+    both_sizes items = omega (arith, sizes-both h.parts (wholes items), sizes-wholes items)
+
+    few_wanted : (items : List CutMessage) (came : ℕ) → came < sizes_of h.parts + sizes items
+        → Wants run (h.parts ++ wholes items) came
+    few_wanted items came few =
+        less_wanted run.settings.limits 0 (h.parts ++ wholes items) came
+        (omega (arith, few, both_sizes items))
+
+    wanted_on : (items : List CutMessage) (rest bytes : List ℕ)
+        → BeginWith run.settings.limits (kept mid ++ bytes) items rest → (came : ℕ)
+        → MoreWanted run mid h.parts came → Wants run (h.parts ++ wholes items) came
+        ⊎ ((items ≡ []) × Unshown run (h.parts ++ wholes items) rest came)
+    wanted_on items rest bytes messages came wanted =
+        let limits = run.settings.limits in
+        elim wanted [
+          | inl more ↦ inl (wanted_more limits 0 h.parts (wholes items) came more)
+          | inr unshown ↦
+              elim (unshown_on limits (sizes_of h.parts) (kept mid) bytes items rest came messages unshown) [
+                | inl few ↦ inl (few_wanted items came few)
+                | inr same ↦ inr (
+                  same.0,
+                  (let none : sizes_of h.parts ≡ sizes_of (h.parts ++ wholes items)
+                      = omega (arith, both_sizes items, ap sizes same.0) in
+                      subst (λ (at : ℕ). IsUnshown limits at rest came) none same.1),
+                )
+              ]
+        ]
+
+    reads_enough : (tally.passed ≡ 0 → (source_of mid ≡ source_of run.old) × (tally.size ≡ 0))
+        → (items : List CutMessage) (bytes : List ℕ)
+        → BeginWith run.settings.limits (kept mid ++ bytes) items (kept new) → (items ≡ [] → h.parts ≡ [])
+        → ReadsFor run (λ came. length (kept mid) + came < sizes items) mid new
+        → ReadsFor run (Wants run (h.parts ++ wholes items)) run.old new
+    reads_enough first [] bytes messages none few =
+        let passed = ap (λ (t : Tally). t.passed) h.tally_is ∙ ap passed_count (none refl) in
+        let calls = ap run.calls (first passed).0 in
+        elim few [
+          | inl unread ↦ inl (omega (arith, unread, calls))
+          | inr (before, between, came, last, less) ↦ absurd (omega (arith, less))
+        ]
+    reads_enough first (item ∷ items) bytes messages none few =
+        let all = item ∷ items in
+        reads_on (λ came. length (kept mid) + came < sizes all) (Wants run (h.parts ++ wholes all)) new few
+        (λ came wanted. elim (wanted_on all (kept new) bytes messages came wanted) [
+          | inl more ↦ more
+          | inr same ↦ absurd (let never : item ∷ items ≡ [] = same.0 in cc)
+        ])
+        (λ came less. few_wanted all (length h.covered.bytes + came) (omega (arith, less, read_parts)))
 
     -- up to a fault, or up to the end
     pub reach : HasKnownPackets run.packets run.packet new (packets_of run) → looked_of new ≡ looked_of mid → (counted : Counted) (up : Tally) → up ≡ record tally { count = counted.count; size = counted.size }
@@ -341,6 +422,19 @@ module _ {R A S : Type 0} {takes : S → S → List Placed → (told : List ℕ)
             came = came;
             wanted = wanted_next laws run.s0 s1 h.messages h.told h.came more h.wanted a.all.wanted;
             unfilled = λ enough. absurd (false≢true (sym a.unfilled ∙ enough));
+            needed = reads_on (λ came. IsUnshown limits (sizes items) a.all.rest (length (kept mid) + came))
+                (MoreWanted run new (h.parts ++ wholes items)) new a.all.needed
+                (λ came w. elim (wanted_on items a.all.rest a.all.read.bytes a.all.read.messages came w) [
+                  | inl more ↦ inl more
+                  | inr same ↦ inr (subst (λ (l : List ℕ). Unshown run (h.parts ++ wholes items) l came) (sym a.kept) same.1)
+                ])
+                (λ came u.
+                let same : length (kept mid) + came - sizes items ≡ length h.covered.bytes + came - sizes_of (h.parts ++ wholes items)
+                = omega (arith, read_parts, both_sizes items) in
+                inr (
+                  omega (arith, u.0, read_parts, both_sizes items, ap length a.kept),
+                  transport (λ i. IsPartial limits (take (same i) (sym a.kept i))) u.1,
+                ));
           };
           count_is = ap (λ (t : Tally). t.count) is;
           size_is = ap (λ (t : Tally). t.size) is;
@@ -384,10 +478,7 @@ module _ {R A S : Type 0} {takes : S → S → List Placed → (told : List ℕ)
           wanted = wanted_next laws run.s0 s1 h.messages h.told h.came more h.wanted a.wanted;
           last = ends_whole h.parts items none;
           enough = a.enough;
-          needed = λ none.
-              let began = first (ap (λ (t : Tally). t.passed) h.tally_is ∙ omega (arith, none, passed-both h.parts (wholes items))) in
-              let all : sizes items ≡ sizes_of (h.parts ++ wholes items) = omega (arith, began.1, size_parts, sizes-both h.parts (wholes items), sizes-wholes items) in
-              transport (λ i. ReadsFor run.left run.calls (all i) (began.0 i) (source_of new)) a.needed;
+          needed = reads_enough first items a.read.bytes a.read.messages none a.needed;
         }
 
     -- not all

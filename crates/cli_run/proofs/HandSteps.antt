@@ -1,6 +1,6 @@
 -- The turns in which a visitor takes the messages of a reader, from where it stands. k is what is
 -- known of its taker, kept is what it kept there, and before is how many messages came before.
-use Rattle.std.proofs.Common.{◌≡◌, ◌⊎◌, IfOk, Bool, false, ℕ, ◌+◌, ◌-◌, List, [], ◌∷◌, ◌++◌, true, None, Some, Ok, Err, Option, Result, length, drop, take, refl, sym, ap, ◌∙◌, subst, arith, append-nil, inl, inr}
+use Rattle.std.proofs.Common.{◌≡◌, ◌⊎◌, IfOk, Bool, false, ℕ, ◌+◌, ◌-◌, ◌<◌, List, [], ◌∷◌, ◌++◌, true, None, Some, Ok, Err, Option, Result, length, drop, take, refl, sym, ap, ◌∙◌, subst, arith, append-nil, inl, inr}
 use Rattle.dbus_value_model.specs.declared.fault.Fault.{Fault}
 use Rattle.dbus_value_model.specs.declared.limits.Limits.{Limits}
 use Rattle.dbus_value_model.specs.declared.order.Order.{Order}
@@ -30,7 +30,7 @@ use Rattle.cli_run.specs.ByName.{ended_by, stopped_by}
 use Rattle.cli_run.specs.Handing.{GivesNext, Stays}
 use Rattle.cli_run.specs.Onward.{AreAll, AreHanded, HasKnownPackets, HasRead, HandsAllOn, HandsRawOn, HandsSomeOn, HandsOn, RawHandsOn, StopsFor}
 use Rattle.cli_run.specs.Inputs.{IsPacketBefore, IsTimeBefore, Placed}
-use Rattle.cli_run.specs.Needed.{ReadsFor}
+use Rattle.cli_run.specs.Needed.{ReadsIf}
 use Rattle.cli_run.specs.Visiting.{AddsUp, AreWanted, FillsBy, IsOfReading, TakesOne}
 use Rattle.cli_run.specs.declared.counted.Counted.{Counted}
 use Rattle.cli_run.specs.declared.counted.NoMessage.{NoMessage}
@@ -42,7 +42,7 @@ use Rattle.dbus_stream.proofs.FaultPackets.{partial_take, raw_read}
 use Rattle.dbus_stream.proofs.RawSteps.{starts, unread}
 use Rattle.cli_run.proofs.OutputSteps.{lent_size, lent_whole}
 use Rattle.cli_run.proofs.PartLaws.{placed_last}
-use Rattle.cli_run.proofs.ReadSteps.{read_none, read_more, read_message, reads_more, sizes-last, length-last}
+use Rattle.cli_run.proofs.ReadSteps.{read_none, read_more, read_message, reads_more, reads_rest, sizes-last, length-last}
 use Rattle.cli_run.proofs.Wanted.{wanted_last}
 
 module _ {R T B A G S : Type 0} {b : Ghosts B} (k : Taking T G) (left : R → Option (List ℕ)) (calls failures : R → ℕ)
@@ -59,7 +59,7 @@ module _ {R T B A G S : Type 0} {b : Ghosts B} (k : Taking T G) (left : R → Op
     pub placed : AreHanded before Are (done_of old) items messages
     pub taken : takes s0 s1 messages []
     pub wanted : AreWanted (FillsBy takes full s0) [] messages
-    pub needed : ReadsFor left calls (sizes items) (source_of old) (source_of new)
+    pub needed : ReadsIf left calls (λ came. length kept + came < sizes items) (source_of old) (source_of new)
 
   pub hands_none : ((a : S) → takes a a [] []) → (reader : Reader R T B A b) (s : S) → limits_of k reader ≡ limits → stopped_of reader ≡ None
       → HasHanded before reader reader kept s s
@@ -172,7 +172,7 @@ module _ {R T B A G S : Type 0} {b : Ghosts B} {k : Taking T G} {left : R → Op
           placed = last_is;
           taken = laws.joins s0 s2 s3 h.messages one_more_message [] [] taken one;
           wanted = wanted_last (FillsBy takes full s0) [] h.messages _ h.wanted still_open;
-          needed = reads_more k left calls limits kept old mid new h.items rest h.read r item whole h.needed;
+          needed = reads_more k left calls limits kept old mid new h.items rest h.read r h.needed item whole;
         }
 
         -- which is not taken
@@ -206,6 +206,7 @@ module _ {R T B A G S : Type 0} {b : Ghosts B} {k : Taking T G} {left : R → Op
       outcome_is = is;
       read_all = read;
       shows_last = shows;
+      needed = reads_rest k left calls limits kept old mid new h.items rest h.read r h.needed;
       ended = ended;
       count_is = count_is ∙ h.count_is;
       size_is = size ∙ (done ∙ h.done);
@@ -273,7 +274,7 @@ module _ {R A S : Type 0} {left : R → Option (List ℕ)} {calls failures : R �
         placed = h.placed;
         taken = h.taken;
         wanted = h.wanted;
-        needed = subst (λ (x : R). ReadsFor left calls (sizes h.items) (source_of old.reader) x) (sym s.unread.source) h.needed;
+        needed = subst (λ (x : R). ReadsIf left calls (λ came. length (kept old) + came < sizes h.items) (source_of old.reader) x) (sym s.unread.source) h.needed;
       }
 
   module _ {packets : R → Option Packets} {packet : R → Option Packet} {count : ℕ} (old mid : RawReader R A) {s0 s1 : S}

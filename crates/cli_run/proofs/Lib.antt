@@ -1,4 +1,5 @@
 pub mod Wanted
+pub mod NeededSteps
 pub mod RuleSets
 pub mod OutputSteps
 pub mod PartLaws

@@ -1,5 +1,5 @@
 -- Parts of an input that follow one another, what is told of them, and the messages among them.
-use Rattle.std.proofs.Common.{is_some, ◌≡◌, ◌⊎◌, ℕ, zero, suc, ◌+◌, ◌*◌, ◌-◌, ◌<◌, ◌≤◌, Bool, true, false, List, [], ◌∷◌, ◌++◌, Option, None, Some, length, take, drop, refl, sym, ap, ◌∙◌, subst, arith, inl, inr, ◌||◌, append_assoc, append-nil, length-append, take-append-drop}
+use Rattle.std.proofs.Common.{is_some, ◌≡◌, ◌⊎◌, ℕ, zero, suc, ◌+◌, ◌*◌, ◌-◌, ◌<◌, ◌≤◌, Bool, true, false, List, [], ◌∷◌, ◌++◌, Option, None, Some, length, take, drop, refl, sym, ap, ◌∙◌, subst, arith, inl, inr, ◌||◌, append_assoc, append-nil, length-append, length-drop, take-append-drop}
 use Rattle.std.proofs.Math.Path.{transport}
 use Rattle.std.proofs.Math.Nat.{le-max_left, le-max_right}
 use Rattle.std.proofs.lemmas.Bool.{cases_lt, false≢true}
@@ -223,6 +223,11 @@ module _ (limits : Limits) where
   pub few_parts : (bytes : List ℕ) (parts : List Part) (rest : List ℕ) → BeginWithParts limits bytes parts rest → length parts ≤ sizes_of parts
   few_parts bytes [] rest b = omega arith
   few_parts bytes (part ∷ parts) rest b = omega (arith, some_bytes bytes part b.0, few_parts (drop (size_of part) bytes) parts rest b.1)
+
+  -- the parts and the rest have all bytes
+  pub parts_length : (bytes : List ℕ) (parts : List Part) (rest : List ℕ) → BeginWithParts limits bytes parts rest → length bytes ≡ sizes_of parts + length rest
+  parts_length bytes [] rest b = omega (arith, ap length b)
+  parts_length bytes (part ∷ parts) rest b = omega (arith, part_inside bytes part b.0, parts_length (drop (size_of part) bytes) parts rest b.1, length-drop (size_of part) bytes)
 
 pub reach_wholes : (items : List CutMessage) → reach_end (wholes items) ≡ false
 reach_wholes [] = refl

@@ -1,16 +1,14 @@
 -- What a reader read and gave so far, from where it stood. k is what is known of its taker, and
 -- kept is what it kept there.
-use Rattle.std.proofs.Common.{◌≡◌, ℕ, zero, suc, ◌+◌, ◌<◌, ◌≤◌, List, [], ◌∷◌, ◌++◌, Bool, true, false, Option, length, drop, inl, inr, sym, ap, ◌∙◌, subst, refl, arith, append_assoc, append-nil, length-append, length-drop}
-use Rattle.std.proofs.lemmas.Bool.{cases_lt}
+use Rattle.std.proofs.Common.{◌≡◌, ℕ, ◌+◌, ◌-◌, ◌<◌, ◌≤◌, List, [], ◌∷◌, ◌++◌, Bool, true, false, Option, length, take, drop, sym, ap, ◌∙◌, subst, refl, arith, append_assoc, append-nil, length-append, length-drop}
+use Rattle.std.proofs.Math.Path.{transport}
+use Rattle.std.proofs.Math.Seq.{take-length}
 use Rattle.std.proofs.lemmas.List.{take-append-le}
 use Rattle.std.specs.Io.KnownBytes.{IsAtEnd}
 use Rattle.std.proofs.KnownBytes.{Consumes-nil, Consumes-trans}
 use Rattle.dbus_value_model.specs.declared.limits.Limits.{Limits}
 use Rattle.dbus_header.specs.MessageOutcomes.{IsWhole, IsPartial}
-use Rattle.dbus_value_model.specs.declared.order.Order.{Order}
-use Rattle.dbus_message_model.specs.Messages.{MessageTree}
-use Rattle.dbus_header.proofs.OutcomeLaws.{one_outcome, whole_inside}
-use Rattle.dbus_validate.proofs.Headed.{alone, followed}
+use Rattle.dbus_header.proofs.OutcomeLaws.{nothing_partial, whole_inside}
 use Rattle.dbus_stream.specs.Cut.{CutMessage, BeginWith}
 use Rattle.dbus_stream.specs.CutEnds.{sizes}
 use Rattle.dbus_stream.specs.Next.{Reads, ReadsWhile}
@@ -19,8 +17,9 @@ use Rattle.dbus_stream.specs.Taking.{Taking}
 use Rattle.dbus_stream.specs.declared.buffer.Buffer.{Ghosts}
 use Rattle.dbus_stream.specs.declared.reader.Reader.{Reader}
 use Rattle.dbus_stream.proofs.CutLaws.{BeginWith-last, BeginWith-more}
-use Rattle.cli_run.specs.Needed.{ReadsFor}
+use Rattle.cli_run.specs.Needed.{IsUnshown, ReadsIf}
 use Rattle.cli_run.specs.Onward.{HasRead, IsTrueEnd}
+use Rattle.cli_run.proofs.NeededSteps.{reads_if, reads_then, whole_past}
 
 pub sizes-last : (items : List CutMessage) (item : CutMessage) → sizes (items ++ item ∷ []) ≡ sizes items + item.size
 sizes-last [] item = omega arith
@@ -43,15 +42,9 @@ begin_length limits bytes (item ∷ items) rest f =
     let inside = (whole_inside limits bytes item.order item.message item.size f.0).1 in
     omega (arith, inside, begin_length limits (drop item.size bytes) items rest f.1, length-drop item.size bytes)
 
--- a message has more bytes than the first ones that are no message yet
-whole_past : (limits : Limits) (held piece : List ℕ) (order : Order) (m : MessageTree) (size : ℕ) → IsPartial limits held → IsWhole limits (held ++ piece) order m size → length held < size
-whole_past limits held piece order m size partial whole = elim (cases_lt (length held) size) [
-  | inl past ↦ past
-  | inr fits ↦ (
-      let front = subst (λ l. IsWhole limits l order m size) (take-append-le size held piece fits) (alone limits (held ++ piece) order m size whole) in
-      absurd ((one_outcome limits held).1 order m size (followed limits held order m size size front) partial)
-      )
-]
+-- a read was made only for the messages
+abbrev pub IsBefore : (kept : List ℕ) → List CutMessage → (came : ℕ) → Type 0
+IsBefore kept items came = length kept + came < sizes items
 
 module _ {R T B A G : Type 0} {b : Ghosts B} (k : Taking T G) (left : R → Option (List ℕ)) (calls : R → ℕ) (limits : Limits) (kept : List ℕ) where
   -- before the first read
@@ -110,22 +103,72 @@ module _ {R T B A G : Type 0} {b : Ghosts B} (k : Taking T G) (left : R → Opti
     settled = h.settled;
   }
 
-  -- no more was read than for the messages
-  pub reads_more : (old mid new : Reader R T B A b) (items : List CutMessage) (rest : List ℕ) (h : HasRead k left calls limits kept old mid items rest) (r : Reads k left calls rest mid new) (item : CutMessage)
-      → IsWhole (limits_of k mid) (rest ++ r.bytes) item.order item.message item.size → ReadsFor left calls (sizes items) (source_of old) (source_of mid) → ReadsFor left calls (sizes (items ++ item ∷ [])) (source_of old) (source_of new)
-  reads_more old mid new items rest h r item whole before = by_count r.count refl
-    where
-      by_count : (n : ℕ) → r.count ≡ n → ReadsFor left calls (sizes (items ++ item ∷ [])) (source_of old) (source_of new)
-      by_count zero none = elim before [
-        | inl unread ↦ inl (let called = r.called in omega (arith, unread, called, none))
-        | inr (bytes, between, came, last, few) ↦ inr (bytes, between, came, (let called = r.called in omega (arith, last, called, none)), omega (arith, few, sizes-last items item))
-      ]
-      by_count (suc n) some =
-          let read : 0 < r.count = omega (arith, some) in
-          let piece : rest ++ r.bytes ≡ (rest ++ r.before) ++ r.last = ap (λ l. rest ++ l) r.joined ∙ sym (append_assoc rest r.before r.last) in
-          let past = whole_past (limits_of k mid) (rest ++ r.before) r.last item.order item.message item.size (r.needed read) (subst (λ l. IsWhole (limits_of k mid) l item.order item.message item.size) piece whole) in
-          let all = begin_length limits (kept ++ h.bytes) items rest h.messages in
-          let call = r.one_call read in
-          let few : length (h.bytes ++ r.before) < sizes (items ++ item ∷ [])
-          = omega (arith, past, all, sizes-last items item, length-append rest r.before, length-append kept h.bytes, length-append h.bytes r.before) in
-          inr (h.bytes ++ r.before, r.between, Consumes-trans _ _ _ _ _ h.consumed r.came, omega (arith, call), few)
+  module _ (old mid new : Reader R T B A b) (items : List CutMessage) (rest : List ℕ)
+      (h : HasRead k left calls limits kept old mid items rest)
+      (r : Reads k left calls rest mid new)
+      (few : ReadsIf left calls (IsBefore kept items) (source_of old) (source_of mid)) where
+    abbrev Partial : List ℕ → Type 0
+    Partial before = IsPartial (limits_of k mid) (rest ++ before)
+
+    begun : length kept + length h.bytes ≡ sizes items + length rest
+    begun =
+        let all = begin_length limits (kept ++ h.bytes) items rest h.messages in
+        omega (arith, all, length-append kept h.bytes)
+
+    joined : rest ++ r.bytes ≡ (rest ++ r.before) ++ r.last
+    joined = ap (λ (l : List ℕ). rest ++ l) r.joined ∙ sym (append_assoc rest r.before r.last)
+
+    -- the rest shows no fault up to there
+    abbrev Unshown : ℕ → Type 0
+    Unshown n = IsPartial limits (take n (rest ++ r.bytes))
+
+    front : take (length rest + length r.before) (rest ++ r.bytes) ≡ rest ++ r.before
+    front =
+        let w = rest ++ r.before in
+        let size : length rest + length r.before ≡ length w = sym (length-append rest r.before) in
+        let there = take-append-le (length w) w r.last (omega arith) in
+        (λ i. take (size i) (joined i)) ∙ (there ∙ take-length w)
+
+    -- or then for what follows them
+    reads_next : (Then Holds : ℕ → Type 0) → (Partial r.before → Then (length r.before))
+        → ((came : ℕ) → IsBefore kept items came → Holds came)
+        → ((came : ℕ) → Then came → Holds (length h.bytes + came))
+        → ReadsIf left calls Holds (source_of old) (source_of new)
+    reads_next Then Holds last f g =
+        reads_then left calls (IsBefore kept items) Then Holds (source_of old) (source_of mid)
+        (source_of new) h.bytes h.consumed few
+        (reads_if k Partial left calls mid new r Then last) f g
+
+    -- that is one more message
+    pub reads_more : (item : CutMessage)
+        → IsWhole (limits_of k mid) (rest ++ r.bytes) item.order item.message item.size
+        → ReadsIf left calls (IsBefore kept (items ++ item ∷ [])) (source_of old) (source_of new)
+    reads_more item whole =
+        let m = limits_of k mid in
+        let all : IsWhole m ((rest ++ r.before) ++ r.last) item.order item.message item.size
+        = subst (λ (l : List ℕ). IsWhole m l item.order item.message item.size) joined whole in
+        reads_next (λ came. length rest + came < item.size) (IsBefore kept (items ++ item ∷ []))
+        (λ partial.
+        let past = whole_past m (rest ++ r.before) r.last _ _ item.size partial all in
+        omega (arith, past, length-append rest r.before))
+        (λ came less. omega (arith, less, sizes-last items item))
+        (λ came less. omega (arith, less, begun, sizes-last items item))
+
+    -- or it shows no fault before the last read
+    pub reads_rest : ReadsIf left calls
+        (λ came. IsUnshown limits (sizes items) (rest ++ r.bytes) (length kept + came))
+        (source_of old) (source_of new)
+    reads_rest =
+        reads_next (λ came. (came ≤ length r.bytes) × Unshown (length rest + came))
+        (λ came. IsUnshown limits (sizes items) (rest ++ r.bytes) (length kept + came))
+        (λ partial. (
+          omega (arith, ap length r.joined, length-append r.before r.last),
+          transport (λ i. IsPartial (h.limits_are i) (sym front i)) partial,
+        ))
+        (λ came less.
+        let none : length kept + came - sizes items ≡ 0 = omega (arith, less) in
+        (omega (arith, less), subst Unshown (sym none) (nothing_partial limits)))
+        (λ came p.
+        let there : length kept + (length h.bytes + came) - sizes items ≡ length rest + came
+        = omega (arith, begun) in
+        (omega (arith, p.0, begun, length-append rest r.bytes), subst Unshown (sym there) p.1))

@@ -25,7 +25,7 @@ use Rattle.cli_report.specs.declared.ending.Cause.TheVariants.{Memory, ReadFaile
 use Rattle.cli_run.specs.Inputs.{Part, Whole, PassedOver, size_of, sizes_of, reach_end, BeginWithParts, IsCutOff, IsLast, IsPassedBy, IsTellable, ArePlaced, Placed, looked_after, looked_in, seek_of}
 use Rattle.cli_run.specs.Output.{ok_line, status_of}
 use Rattle.cli_run.specs.declared.tally.Tally.{Tally}
-use Rattle.cli_run.specs.Needed.{IsReadFor}
+use Rattle.cli_run.specs.Needed.{IsReadFor, WantMore}
 use Rattle.cli_run.specs.Refusals.{IsRefusedIn}
 use Rattle.cli_run.specs.Told.{TellsStop}
 use Rattle.cli_run.specs.Visiting.{AreWanted, FillsBy, IsOfReading}
@@ -279,8 +279,8 @@ module _ (t : Taken) (settings : Settings) (most : ℕ) (is_check : Bool) (fille
     pub placed : ArePlaced t.packets 1 0 parts messages
     pub wanted : AreWanted filled [] messages
     pub enough : IsEnough parts messages line
-    -- no read was made after the last of them had come, at least if none was passed over
-    pub reads : passed_count parts ≡ 0 → needed (sizes_of parts)
+    -- a read was made only if more bytes than had come were wanted for them
+    pub reads : needed 0 ⊎ ((came : ℕ) × WantMore settings.limits 0 parts came × needed (came + 1))
     pub read_failed : t.failures1 ≡ t.failures0
     pub came : done messages (told ++ line)
     pub end_is : end ≡ status_at (passed_count parts) None

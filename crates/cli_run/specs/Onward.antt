@@ -2,7 +2,7 @@
 -- the visitor. kept is what the reader keeps there, and before is how many messages came before. k
 -- is what is known of its taker, and limits are those that each message keeps. Are says what is
 -- known of the packets of the input.
-use Rattle.std.specs.Prelude.{◌≡◌, ◌⊎◌, ℕ, ◌+◌, ◌-◌, Bool, List, [], ◌++◌, true, false, length, take, Option, None, Some, Result, Ok, Err}
+use Rattle.std.specs.Prelude.{◌≡◌, ◌⊎◌, ℕ, ◌+◌, ◌-◌, ◌<◌, Bool, List, [], ◌++◌, true, false, length, take, Option, None, Some, Result, Ok, Err}
 use Rattle.std.specs.Io.KnownBytes.{Consumes, IsAtEnd}
 use Rattle.dbus_value_model.specs.declared.fault.Fault.{Fault}
 use Rattle.dbus_value_model.specs.declared.limits.Limits.{Limits}
@@ -25,7 +25,7 @@ use Rattle.dbus_stream.specs.declared.read_fault.ReadFault.TheVariants.{Format}
 use Rattle.cli_report.specs.declared.ending.Cause.{Cause}
 use Rattle.cli_report.specs.declared.ending.Cause.TheVariants.{ReadFailed, TooManyReads}
 use Rattle.cli_run.specs.Inputs.{ArePlaced, Placed, wholes}
-use Rattle.cli_run.specs.Needed.{ReadsFor}
+use Rattle.cli_run.specs.Needed.{IsUnshown, ReadsIf}
 use Rattle.cli_run.specs.Visiting.{AreWanted, FillsBy, IsOfReading}
 use Rattle.cli_run.specs.declared.counted.Counted.{Counted}
 use Rattle.cli_run.specs.declared.visitor.RunStop.{RunStop}
@@ -85,6 +85,9 @@ module _ {R T B A G : Type 0} {b : Ghosts B} (k : Taking T G) (left : R → Opti
       -- all that was read and not given is the rest, whose fault shows in what the last read gave
       pub read_all : read_of new ≡ done_of new + length rest
       pub shows_last : IsPartial limits (take (length rest - last_of new) rest)
+      -- each read was made only if what had come of it showed none
+      pub needed : ReadsIf left calls (λ came. IsUnshown limits (sizes items) rest (length kept + came))
+          (source_of old) (source_of new)
       -- without a fault that bytes show, all was read
       pub ended : ((f : Fault) → outcome ≡ Refused f → ⊥) → is_ended new ≡ true
       pub count_is : counted.count ≡ before + length items
@@ -146,7 +149,8 @@ module _ {R A S : Type 0} (left : R → Option (List ℕ)) (calls failures : R �
     pub taken : takes s0 s1 messages []
     pub wanted : AreWanted (FillsBy takes full s0) [] messages
     pub enough : full s1 ≡ true
-    pub needed : ReadsFor left calls (sizes items) (raw.source_of old) (raw.source_of new)
+    pub needed : ReadsIf left calls (λ came. length (raw.kept old) + came < sizes items)
+        (raw.source_of old) (raw.source_of new)
     pub failed : failures (raw.source_of new) ≡ failures (raw.source_of old)
 
   abbrev pub RawHandsOn : RawReader R A → RawReader R A → S → S → Result Counted Cause → Type 0
