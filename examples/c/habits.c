@@ -255,6 +255,7 @@ static void rules(void) {
     struct dbus_wire_rule_id signals = {0, 0, 0}, all = {0, 0, 0}, found[2];
     struct dbus_wire_rule_refused told;
     uint64_t count = 7, length = 7;
+    uint32_t may = 7;
 
     expect(dbus_wire_rules_remove(&rules, &signals) == DBUS_WIRE_NO_RULE, "there is no rule");
     expect(dbus_wire_rules_text(&rules, &signals, NULL, 0, &length) == DBUS_WIRE_NO_RULE && length == 7, "and no text is written");
@@ -272,6 +273,10 @@ static void rules(void) {
     expect(dbus_wire_rules_matching(&rules, SIGNAL, SIGNAL_LENGTH, NULL, found, 2, &count, NULL) == DBUS_WIRE_WHOLE && count == 1 &&
                found[0].number == signals.number,
            "it matches the signal");
+    expect(dbus_wire_rules_may_match(&rules, SIGNAL, SIGNAL_LENGTH - 1, NULL, NULL, 0, &may, NULL) == DBUS_WIRE_PARTIAL && may == 7 &&
+               dbus_wire_rules_may_match(&rules, SIGNAL, SIGNAL_LENGTH, NULL, name, sizeof name - 1, &may, NULL) == DBUS_WIRE_WHOLE &&
+               may == 1,
+           "and so it may match it, whoever sends it");
     expect(dbus_wire_rules_add(&rules, NULL, 0, &all, &told) == DBUS_WIRE_OK, "no text is the rule without keys");
     expect(dbus_wire_rules_text(&rules, &all, NULL, 0, &length) == DBUS_WIRE_NO_ROOM && length == 0, "whose text is empty");
     expect(dbus_wire_rules_matching(&rules, SIGNAL, SIGNAL_LENGTH, NULL, found, 1, &count, NULL) == DBUS_WIRE_NO_ROOM &&
@@ -286,6 +291,8 @@ static void rules(void) {
                found[0].number == all.number,
            "the other is left");
     dbus_wire_rules_free(&rules);
+    expect(dbus_wire_rules_may_match(&rules, SIGNAL, SIGNAL_LENGTH, NULL, NULL, 0, &may, NULL) == DBUS_WIRE_WHOLE && may == 0,
+           "without rules none may match");
     dbus_wire_rules_free(&rules);
     dbus_wire_rules_free(NULL), dbus_wire_checker_free(NULL), dbus_wire_handshake_free(NULL);
     expect(rules.inner == NULL && dbus_wire_rules_remove(&rules, &all) == DBUS_WIRE_NO_RULE, "freed rules are none");

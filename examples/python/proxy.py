@@ -1,10 +1,10 @@
 #!/usr/bin/env python3
-"""Stands between clients and a bus: `proxy.py DOOR BUS RULE..` lets in clients of its own user at
-the Unix socket DOOR, connects each to the bus at the addresses BUS, and passes messages on, in
-both directions, each validated. What a client sends that one of the match rules matches does not
-get through: a call is answered by the error org.freedesktop.DBus.Error.AccessDenied. Bytes that are
-no message end the connection, and so does a message of over 1 MiB. Rules keep no client out that
-wants in: a call needs no INTERFACE, and may have a unique name as its DESTINATION."""
+"""Stands between clients and a bus: `proxy.py deny|allow DOOR BUS RULE..` lets in clients of its own
+user at the Unix socket DOOR, connects each to the bus at the addresses BUS, and passes messages on,
+in both directions, each validated. With `deny`, what a client sends does not get through if one of
+the match rules may match it; with `allow`, if none matches it with the SENDER that the bus writes.
+Then a call is answered by the error org.freedesktop.DBus.Error.AccessDenied. Bytes that are no
+message end the connection, and so does a message of over 1 MiB."""
 
 import os
 import select
@@ -13,11 +13,55 @@ import socketserver
 import struct
 import sys
 
-from dbus_wire import Bounds, Client, Limits, Rule, Server, connect, error_to, messages
+from dbus_wire import Bounds, Client, Limits, MessageType, RuleSet, Server, build, connect, error_to, messages, rebuild
 
-DENIED = "org.freedesktop.DBus.Error.AccessDenied"
+DBUS = "org.freedesktop.DBus"
+TO_BUS = {"path": "/", "interface": DBUS, "destination": DBUS}
+DENIED = f"{DBUS}.Error.AccessDenied"
 LIMITS = Limits(message=1 << 20)
-RULES = [Rule(text) for text in sys.argv[3:]]
+POLICY, DOOR, BUS, *TEXTS = sys.argv[1:]
+
+
+class Rules(RuleSet):
+    """The rules, with the owners of all names, which the bus tells a connection of its own. They are
+    known before a client's first message is looked at."""
+
+    def __init__(self, bus):
+        super().__init__()
+        for text in TEXTS:
+            self.add(text)
+        Client(user=os.getuid()).shake_hands(bus)
+        # The file keeps no bytes, which `select` would not see.
+        self.bus, self.incoming, self.serial = bus, messages(bus.makefile("rb", buffering=0)), 0
+        self.ask("Hello")
+        self.ask("AddMatch", "s", f"type='signal',sender='{DBUS}',member='NameOwnerChanged'")
+        for name in self.ask("ListNames").body[0]:
+            owner = self.ask("GetNameOwner", "s", name)
+            self.set_owner(name, None if owner.error_name else owner.body[0])
+
+    def ask(self, member, *body):
+        self.serial += 1
+        call = build(MessageType.METHOD_CALL, self.serial, *body, member=member, **TO_BUS)
+        self.bus.sendall(bytes(call))
+        while (message := self.heard()).reply_serial != self.serial:
+            pass
+        return message
+
+    def heard(self):
+        """The next message from the bus, which may tell a name's owner."""
+        message = next(self.incoming)
+        if message.member == "NameOwnerChanged" and message.sender == DBUS:
+            name, _, owner = message.body
+            self.set_owner(name, owner)
+        return message
+
+    def let_through(self, message, sender):
+        """Whether the policy lets the message through, of the client of this name."""
+        while select.select([self.bus], [], [], 0)[0]:
+            self.heard()
+        if POLICY == "allow":
+            return bool(self.matching(rebuild(message, sender=sender)))
+        return not self.may_match(message, sender)
 
 
 def shake_hands(client, bus):
@@ -28,17 +72,19 @@ def shake_hands(client, bus):
     Server(os.urandom(16).hex(), user, bounds=Bounds(6, 6)).shake_hands(client)
 
 
-def pass_messages(client, bus):
-    # The files keep no bytes, which `select` would not see.
+def pass_messages(client, bus, rules):
     files = {side: side.makefile("rb", buffering=0) for side in (client, bus)}
     incoming = {side: messages(file, LIMITS) for side, file in files.items()}
+    # The client's name, which the bus's first message has.
+    name = None
     while True:
         for side in select.select(incoming, [], [])[0]:
             if not (message := next(incoming[side], None)):
                 return
             if side is bus:
+                name = name or message.destination
                 client.sendall(bytes(message))
-            elif not any(rule.matches(message) for rule in RULES):
+            elif rules.let_through(message, name):
                 bus.sendall(bytes(message))
             elif message.wants_reply:
                 client.sendall(bytes(error_to(message, 1 << 31, DENIED)))
@@ -46,9 +92,11 @@ def pass_messages(client, bus):
 
 class Connection(socketserver.BaseRequestHandler):
     def handle(self):
-        with connect(sys.argv[2]) as bus:
+        with connect(BUS) as asked, connect(BUS) as bus, Rules(asked) as rules:
             shake_hands(self.request, bus)
-            pass_messages(self.request, bus)
+            pass_messages(self.request, bus, rules)
 
 
-socketserver.ThreadingUnixStreamServer(sys.argv[1], Connection).serve_forever()
+if POLICY not in ("deny", "allow"):
+    sys.exit("deny or allow?")
+socketserver.ThreadingUnixStreamServer(DOOR, Connection).serve_forever()

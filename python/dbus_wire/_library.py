@@ -188,6 +188,7 @@ _CALLS = {
     "rules_owner": (c_uint32, POINTER(Rules), c_char_p, c_size_t, c_char_p, c_size_t),
     "rules_share": (c_uint32, POINTER(Rules), POINTER(Rules)),
     "rules_matching": (c_uint32, POINTER(Rules), *_MESSAGE, POINTER(RuleId), c_size_t, POINTER(c_uint64), POINTER(Checked)),
+    "rules_may_match": (c_uint32, POINTER(Rules), *_MESSAGE, c_char_p, c_size_t, POINTER(c_uint32), POINTER(Checked)),
     "rules_text": (c_uint32, POINTER(Rules), POINTER(RuleId), c_char_p, c_size_t, POINTER(c_uint64)),
     "rules_free": (None, POINTER(Rules)),
     "rule_reason_name": (c_size_t, c_uint32, c_char_p, c_size_t),

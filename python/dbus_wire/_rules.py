@@ -107,6 +107,23 @@ class RuleSet:
         _raise_if_failed(answer)
         return [rule.number for rule in found[: count.value]]
 
+    def may_match(self, message: Message, sender: str | None = None) -> bool:
+        """Whether any rule may match the message: whether it matches some message that this one may
+        be taken for, as docs/MATCH-RULES.md says. Whoever forbids messages asks this. `sender` is
+        the unique name that the bus writes as the sender, or None if that is not known.
+
+            if not forbidden.may_match(message, me):
+                bus.sendall(bytes(message))
+        """
+        data, name = message.data, (sender or "").encode("utf-8", "surrogatepass")
+        # What cannot be asked is denied.
+        limits, may, told = limits_struct(None), ctypes.c_uint32(1), _library.Checked()
+        with self._open():
+            library.dbus_wire_rules_may_match(
+                byref(self._handle), data, len(data), byref(limits), name, len(name), byref(may), byref(told)
+            )
+        return may.value == 1
+
     def text(self, number: int) -> str:
         """The canonical text of the rule of this number. Raises KeyError if there is none."""
         room, length = 256, ctypes.c_uint64()
@@ -167,6 +184,10 @@ class Rule:
     def matches(self, message: Message) -> bool:
         """Whether each key of the rule holds of the message, as `RuleSet.matching` says."""
         return bool(self._rules.matching(message))
+
+    def may_match(self, message: Message, sender: str | None = None) -> bool:
+        """Whether the rule may match the message, as `RuleSet.may_match` says."""
+        return self._rules.may_match(message, sender)
 
     def __str__(self) -> str:
         return self._rules.text(self._number)

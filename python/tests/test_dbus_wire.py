@@ -512,6 +512,13 @@ class Rules(unittest.TestCase):
             self.assertEqual(len(rules), len(numbers))
             for message in captured:
                 self.assertEqual(set(rules.matching(message)), {number for number, rule in numbers.items() if rule.matches(message)})
+                for rule in numbers.values():
+                    # What matches may match.
+                    self.assertLessEqual(rule.matches(message), rule.may_match(message, message.sender))
+                self.assertEqual(
+                    rules.may_match(message, message.sender),
+                    any(rule.may_match(message, message.sender) for rule in numbers.values()),
+                )
 
 
 class Handshakes(unittest.TestCase):

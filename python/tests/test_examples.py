@@ -20,6 +20,55 @@ from dbus_wire import Client, MessageType, Rule, Server, Variant, build, message
 EXAMPLES = ROOT / "examples/python"
 GUID = "0" * 32
 DBUS = "org.freedesktop.DBus"
+LAB, OTHER, LATE = (f"org.example.{it}" for it in ("Lab", "Other", "Late"))
+# What stands for the unique name of a service that has the first two names.
+OWN = ""
+# What the proxy denies of these rules, or allows, and calls with whether they get through.
+POLICIES = {
+    "deny": (
+        (
+            f"destination='{LAB}',interface='{LAB}',member='Erase'",
+            f"destination='{DBUS}',member='GetId'",
+            f"destination='{LATE}'",
+        ),
+        (
+            ({"member": "Read", "interface": LAB, "destination": LAB}, True),
+            ({"member": "Erase", "interface": OTHER, "destination": LAB}, True),
+            ({"member": "Erase", "interface": LAB, "destination": LAB}, False),
+            ({"member": "Erase", "destination": LAB}, False),
+            ({"member": "Erase", "interface": LAB, "destination": OWN}, False),
+            ({"member": "Erase", "destination": OWN}, False),
+            ({"member": "Erase", "interface": LAB, "destination": OTHER}, False),
+            ({"member": "Erase", "destination": OTHER, "order": "B"}, False),
+            ({"member": "Erase", "destination": OWN, "sender": DBUS}, False),
+            ({"member": "GetId", "destination": DBUS}, False),
+            ({"member": "GetId", "interface": DBUS}, False),
+            ({"member": "GetId"}, False),
+            # The service has this name from here on.
+            ({"member": "Read", "interface": LAB, "destination": OWN}, True),
+            ({"member": "Read", "interface": LAB, "destination": LATE}, False),
+            ({"member": "Read", "interface": LAB, "destination": OWN}, False),
+        ),
+    ),
+    "allow": (
+        (
+            f"destination='{DBUS}',interface='{DBUS}',member='Hello'",
+            f"destination='{LAB}',interface='{LAB}',member='Read'",
+            f"sender='{OTHER}',destination='{LAB}',member='Write'",
+        ),
+        (
+            ({"member": "Read", "interface": LAB, "destination": LAB}, True),
+            ({"member": "Read", "destination": LAB}, False),
+            ({"member": "Read", "interface": LAB, "destination": OWN}, False),
+            ({"member": "Read", "interface": LAB, "destination": OTHER}, False),
+            ({"member": "Read", "interface": LAB}, False),
+            ({"member": "Write", "interface": LAB, "destination": LAB}, False),
+            ({"member": "Write", "interface": LAB, "destination": LAB, "sender": OWN}, False),
+            ({"member": "Write", "interface": LAB, "destination": LAB, "sender": OTHER}, False),
+            ({"member": "GetId", "destination": DBUS}, False),
+        ),
+    ),
+}
 # The module that this test has.
 ENVIRONMENT = {**os.environ, "PYTHONPATH": str(pathlib.Path(dbus_wire.__file__).parent.parent)}
 
@@ -156,17 +205,24 @@ class AtABus(unittest.TestCase):
     def test_proxy(self):
         listening = self.listen()
 
-        def answer():
-            client, _ = listening.accept()
-            with client:
+        def answer(client):
+            with client, client.makefile("rb") as file:
                 Server(GUID, os.getuid()).shake_hands(client)
-                with client.makefile("rb") as file:
-                    for call in messages(file):
-                        client.sendall(bytes(reply_to(call, call.serial, call.signature, *call.body)))
+                for call in messages(file):
+                    body = ("as", []) if call.member == "ListNames" else (call.signature, *call.body)
+                    client.sendall(bytes(reply_to(call, call.serial, *body)))
 
-        answering = threading.Thread(target=answer)
+        def serve():
+            # That of the client, and one by which the proxy asks for owners.
+            asks, _ = listening.accept()
+            asked_first = threading.Thread(target=answer, args=(asks,))
+            asked_first.start()
+            answer(listening.accept()[0])
+            asked_first.join(20)
+
+        answering = threading.Thread(target=serve)
         answering.start()
-        self.example("proxy.py", self.door, f"unix:path={self.bus}", "member='Secret'", "arg0='secret'")
+        self.example("proxy.py", "deny", self.door, f"unix:path={self.bus}", "member='Secret'", "arg0='secret'")
         with connected(self.door) as client:
             Client(user=os.getuid()).shake_hands(client)
             with client.makefile("rb") as file:
@@ -186,7 +242,7 @@ class AtABus(unittest.TestCase):
         self.start("dbus-daemon", "--session", "--nofork", f"--address=unix:path={self.bus}")
         connected(self.bus).close()
         self.example("service.py", f"unix:path={self.folder.name}/none;tcp:host=x;unix:path={self.bus}")
-        self.example("proxy.py", self.door, f"unix:path={self.bus}", "member='GetId'")
+        self.example("proxy.py", "deny", self.door, f"unix:path={self.bus}", "member='GetId'")
         with connected(self.door) as client:
             Client(user=os.getuid()).shake_hands(client)
             with client.makefile("rb") as file:
@@ -200,6 +256,35 @@ class AtABus(unittest.TestCase):
                     time.sleep(0.1)
                 [entries] = asked(client, incoming, 100, "Get", destination="org.example.Load")
                 self.assertEqual(list(entries), ["Load"])
+
+    @unittest.skipUnless(shutil.which("dbus-daemon"), "dbus-daemon is not there")
+    def test_ways_past_a_policy(self):
+        address, to_bus = f"unix:path={self.bus}", {"destination": DBUS, "interface": DBUS}
+        self.start("dbus-daemon", "--session", "--nofork", f"--address={address}")
+        with connected(self.bus) as service, service.makefile("rb") as file:
+            Client(user=os.getuid()).shake_hands(service)
+            incoming = messages(file)
+            [own] = asked(service, incoming, 1, "Hello", **to_bus)
+            for serial, name in enumerate((LAB, OTHER), 2):
+                asked(service, incoming, serial, "RequestName", "su", name, 0, **to_bus)
+            for policy, (rules, calls) in POLICIES.items():
+                door = self.door + policy
+                self.example("proxy.py", policy, door, address, *rules)
+                with connected(door) as client, client.makefile("rb") as replies:
+                    Client(user=os.getuid()).shake_hands(client)
+                    to_client = messages(replies)
+                    asked(client, to_client, 1, "Hello", **to_bus)
+                    for serial, (parts, is_passed) in enumerate(calls, 2):
+                        parts = {key: value or own for key, value in parts.items()}
+                        with self.subTest(policy, **parts):
+                            if parts.get("destination") == LATE:
+                                asked(service, incoming, 4, "RequestName", "su", LATE, 0, **to_bus)
+                            client.sendall(bytes(build(MessageType.METHOD_CALL, serial, path="/", **parts)))
+                            if is_passed:
+                                call = next(message for message in incoming if message.member == parts["member"])
+                                service.sendall(bytes(reply_to(call, 9, "s", "served")))
+                            reply = next(message for message in to_client if message.reply_serial == serial)
+                            self.assertEqual(reply.error_name, None if is_passed else f"{DBUS}.Error.AccessDenied")
 
 
 if __name__ == "__main__":

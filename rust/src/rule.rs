@@ -172,6 +172,36 @@ impl RuleSet {
         }
     }
 
+    /// Whether any rule may match the message: whether it matches some message that this one may be
+    /// taken for, as docs/MATCH-RULES.md says. Whoever forbids messages asks this. `sender` is the
+    /// unique name that the bus writes as SENDER, if it is known.
+    ///
+    /// ```no_run
+    /// # fn pass(message: &dbus_wire::Message<'_>) -> Result<bool, Box<dyn std::error::Error>> {
+    /// let mut forbidden = dbus_wire::RuleSet::default();
+    /// forbidden.add("interface='org.example.Lab',member='Erase'")?;
+    /// Ok(!forbidden.may_match(message, Some(":1.7")))
+    /// # }
+    /// ```
+    pub fn may_match(&mut self, message: &Message<'_>, sender: Option<&str>) -> bool {
+        let (bytes, sender, mut may, mut told) = (message.bytes(), sender.unwrap_or(""), 0, Default::default());
+        // SAFETY: slices and references, as `sys` says; only calls write `raw`.
+        let answer = unsafe {
+            sys::dbus_wire_rules_may_match(
+                &mut self.raw,
+                bytes.as_ptr(),
+                bytes.len(),
+                &Limits::default().raw(),
+                sender.as_ptr(),
+                sender.len(),
+                &mut may,
+                &mut told,
+            )
+        };
+        assert_eq!(answer, sys::DBUS_WIRE_WHOLE, "rules answer so of a message");
+        may == 1
+    }
+
     /// The canonical text of the rule, if the set has it: each key once in a fixed order, joined by
     /// commas without spaces, each value between apostrophes. It spells the same rule.
     pub fn text(&mut self, id: RuleId) -> Result<Option<String>, OutOfMemory> {

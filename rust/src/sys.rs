@@ -574,6 +574,16 @@ extern "C" {
         count: *mut u64,
         told: *mut dbus_wire_checked,
     ) -> u32;
+    pub fn dbus_wire_rules_may_match(
+        rules: *mut dbus_wire_rules,
+        bytes: *const u8,
+        length: usize,
+        limits: *const dbus_wire_limits,
+        sender: *const u8,
+        sender_length: usize,
+        may: *mut u32,
+        told: *mut dbus_wire_checked,
+    ) -> u32;
     pub fn dbus_wire_rules_text(
         rules: *mut dbus_wire_rules,
         id: *const dbus_wire_rule_id,

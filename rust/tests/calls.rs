@@ -489,8 +489,10 @@ fn rules_match_messages_by_their_keys_and_owners() {
     rules.set_owner("org.a.B", ":1.2").unwrap();
     let found = rules.matching(&message).unwrap();
     assert!(found.len() == 2 && found.contains(&all) && found.contains(&mine));
+    assert!(rules.may_match(&message, None));
     assert!(rules.remove(mine) && !rules.remove(mine) && rules.text(mine).unwrap().is_none());
     assert_eq!(rules.matching(&message).unwrap(), [all]);
+    assert!(rules.remove(all) && !rules.may_match(&message, None));
     assert_eq!(rules.text(errors).unwrap().unwrap(), "type='error'");
 }
 

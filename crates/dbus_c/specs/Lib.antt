@@ -5,6 +5,7 @@ pub mod Parting
 pub mod Outcomes
 pub mod TextChecking
 pub mod Rules
+pub mod MayMatch
 pub mod Handshakes
 pub mod Watching
 pub mod Building

@@ -12,7 +12,8 @@
 //! [`dbus_wire_flatten_whole`] gives the header fields and the values of the body before the fault.
 //! [`dbus_wire_checker_new`] makes a checker that takes one
 //! piece after another, and [`dbus_wire_rules_add`] keeps match rules,
-//! [`dbus_wire_rules_owner`] the owners of names that their senders may be;
+//! [`dbus_wire_rules_owner`] the owners of names, and [`dbus_wire_rules_may_match`] says whether one
+//! may match a message;
 //! [`dbus_wire_server_new`] and [`dbus_wire_client_new`] make an end of a handshake;
 //! [`dbus_wire_client_line`] and [`dbus_wire_server_line`] give the lines of one between others, of
 //! which [`dbus_wire_watch_client`] and [`dbus_wire_watch_server`] say what to pass on;
@@ -95,7 +96,8 @@ pub use rule_reasons::{
 };
 pub use rules::{
     RuleRefused, dbus_wire_rules_add, dbus_wire_rules_free, dbus_wire_rules_matching,
-    dbus_wire_rules_owner, dbus_wire_rules_remove, dbus_wire_rules_share, dbus_wire_rules_text,
+    dbus_wire_rules_may_match, dbus_wire_rules_owner, dbus_wire_rules_remove,
+    dbus_wire_rules_share, dbus_wire_rules_text,
 };
 pub use swapping::dbus_wire_swap;
 pub use texts::{TextChecked, dbus_wire_text_check};

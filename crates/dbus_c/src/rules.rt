@@ -4,6 +4,7 @@
 ghost use Rattle.std.specs.Prelude.{◌≡◌, MatchOption, None, true, false};
 ghost use Rattle.dbus_c.specs.Checking.{IsChecked};
 ghost use Rattle.dbus_c.specs.GivenLimits.{limits_of};
+ghost use Rattle.dbus_c.specs.MayMatch.{TellsMay};
 ghost use Rattle.dbus_c.specs.Outcomes.{with_memory, with_room};
 ghost use Rattle.dbus_c.specs.Rules.{IsOwner, TellsAll, TellsMatching, TellsOwner, TellsRule, TellsRuleText, TellsSharing, removal_told, rule_fault_told};
 ghost use Rattle.dbus_c_handle.specs.Rules.{given_of, is_shared, owners_of, rules_of};
@@ -174,6 +175,37 @@ pub extern "C" fn dbus_wire_rules_matching(
     };
     *count = found.len() as u64;
     tell_all(&found, ids)
+}
+
+/// Whether any of the rules may match the message within the limits that the bytes begin with, as
+/// [`dbus_match::may_match_view`] says: [`WHOLE`], and `may` is 1 if one may, and else 0.
+/// [`crate::PARTIAL`] and [`crate::REFUSED`] as [`crate::dbus_wire_check`], of which `told` has what
+/// it reports; then `may` stays as it is.
+///
+/// `sender` is the name that the bus writes as the message's SENDER; if it is no bus name, as an
+/// empty text is none, that is not known. Owners of names are those that
+/// [`crate::dbus_wire_rules_owner`] noted. It allocates nothing. D-Bus Specification, "Match Rules".
+#[unsafe(no_mangle)]
+pub extern "C" fn dbus_wire_rules_may_match(
+    rules: &mut WireHandle,
+    bytes: &[u8],
+    limits: &WireLimits,
+    sender: &[u8],
+    may: &mut u32,
+    told: &mut Checked,
+) -> u32
+    ensures same { rules.new.state ≡ rules.old.state }
+    ensures checked { IsChecked (limits_of limits.now) bytes.now result told.new }
+    ensures may { TellsMay (rules_of rules.old.state) (owners_of rules.old.state) (limits_of limits.now)
+        bytes.now sender.now result may.old may.new }
+{
+    let validated = match first_validated(bytes, limits, told) {
+        Ok(validated) => validated,
+        Err(answer) => return answer,
+    };
+    let view = first_view(bytes, limits, validated);
+    *may = u32::from(rules.any_may_match(&view, bus_name(sender)));
+    WHOLE
 }
 
 /// Writes the canonical text of the rule that `id` stands for and a 0 after it at the start of

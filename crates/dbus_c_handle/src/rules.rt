@@ -13,11 +13,11 @@ use dbus_view::MessageView;
 use std::alloc::{AllocError, Global};
 
 impl WireHandle {
-    ghost use Rattle.std.specs.Prelude.{◌≡◌, [], IfOk, MatchResult, false, is_some};
+    ghost use Rattle.std.specs.Prelude.{◌≡◌, ◌↔◌, [], IfOk, IsTrue, MatchResult, false, is_some, option_map};
     ghost use Rattle.dbus_value_model.specs.declared.order.Order.{Order};
     ghost use Rattle.dbus_message_model.specs.Messages.{MessageTree};
     ghost use Rattle.dbus_rule.specs.RuleViews.{IsRuleFault};
-    ghost use Rattle.dbus_rule_set.specs.Held.{Collects, EntryMatches, rule_at, without};
+    ghost use Rattle.dbus_rule_set.specs.Held.{Collects, EntryMatches, EntryMayMatch, HoldsOfAny, rule_at, without};
     ghost use Rattle.dbus_view.specs.Views.{Views};
     ghost use Rattle.dbus_c_handle.specs.Rules.{Adds, IsWritten, KeepsAll, SetsOwner, given_of, is_shared, owners_of, rules_of};
 
@@ -102,6 +102,20 @@ impl WireHandle {
         }
     }
 
+    /// Whether any rule that it keeps may match the message that the view is of, with the owners of
+    /// names that it keeps, and this sender, as [`dbus_rule_set::RuleSet::any_may_match`] says.
+    pub fn any_may_match(&mut self, view: &MessageView, sender: Option<&str>) -> bool
+        ensures same { self.new.state ≡ self.old.state }
+        ensures may { (order : Order) (m : MessageTree) → Views view.now order m →
+            IsTrue result ↔ HoldsOfAny (EntryMayMatch m (option_map (λ s. s.now) sender.entry)
+            (owners_of self.old.state)) (rules_of self.old.state) }
+    {
+        match self.kept() {
+            Some(kept) => kept.any_may_match(view, sender),
+            None => false,
+        }
+    }
+
     /// The canonical text of the rule of this handle in the set, as [`rule_text`] writes it, or
     /// that memory ran out; `None` if there is no such rule.
     pub fn canonical_text(
@@ -120,10 +134,10 @@ impl WireHandle {
 }
 
 impl Kept {
-    ghost use Rattle.std.specs.Prelude.{◌≡◌, [], Some, IfOk, MatchOption};
+    ghost use Rattle.std.specs.Prelude.{◌≡◌, ◌↔◌, [], Some, IfOk, IsTrue, MatchOption, option_map};
     ghost use Rattle.dbus_value_model.specs.declared.order.Order.{Order};
     ghost use Rattle.dbus_message_model.specs.Messages.{MessageTree};
-    ghost use Rattle.dbus_rule_set.specs.Held.{Collects, EntryMatches, held, rule_at};
+    ghost use Rattle.dbus_rule_set.specs.Held.{Collects, EntryMatches, EntryMayMatch, HoldsOfAny, held, rule_at};
     ghost use Rattle.dbus_view.specs.Views.{Views};
     ghost use Rattle.dbus_c_handle.specs.Rules.{IsWritten, owners_of, rules_of};
 
@@ -137,6 +151,18 @@ impl Kept {
             own.rules.matching(view, &own.owners, &mut found)?;
         }
         Ok(found)
+    }
+
+    // As `WireHandle::any_may_match`.
+    fn any_may_match(&self, view: &MessageView, sender: Option<&str>) -> bool
+        ensures { (order : Order) (m : MessageTree) → Views view.now order m →
+            IsTrue result ↔ HoldsOfAny (EntryMayMatch m (option_map (λ s. s.now) sender.entry)
+            (owners_of (Some self.now))) (rules_of (Some self.now)) }
+    {
+        match self.rules() {
+            Some(own) => own.rules.any_may_match(view, sender, &own.owners),
+            None => false,
+        }
     }
 
     // As `WireHandle::canonical_text`.
