@@ -41,7 +41,6 @@ mod showing;
 mod streams;
 mod texts;
 mod values;
-mod watching;
 mod whole;
 mod writing;
 

@@ -18,7 +18,6 @@ use crate::running::say_runs;
 use crate::streams::OfStream;
 use crate::texts::OfText;
 use crate::values::OfValue;
-use crate::watching::say_watched;
 use crate::whole::OfWhole;
 use crate::{made, streams, texts, values, whole};
 use case_questions::{Answerer, Memory, Question, Reply, named};
@@ -64,9 +63,8 @@ enum Kind {
     Machine(Side),
     // The lines that bytes are cut into.
     CutLines,
-    // Both ends, and one who looks on.
+    // Both ends.
     Handshake,
-    Watch,
     // A message of which each byte is changed, and streams that are too long to hold.
     Changed,
     Long,
@@ -128,7 +126,6 @@ const KINDS: &[(&str, Kind)] = &[
     ("server-machine", Kind::Machine(Side::Server)),
     ("cut-lines", Kind::CutLines),
     ("handshake", Kind::Handshake),
-    ("watch", Kind::Watch),
     ("changed", Kind::Changed),
     ("long", Kind::Long),
 ];
@@ -171,7 +168,6 @@ impl Answerer for Engines {
             Kind::Machine(side) => say_machine(reply, memory, question, side),
             Kind::CutLines => say_cut(reply, memory, question),
             Kind::Handshake => say_handshake(reply, memory, question),
-            Kind::Watch => say_watched(reply, memory, question),
             Kind::Changed => say_changed(reply, question),
             Kind::Long => say_long(reply, question),
         };
