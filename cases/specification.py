@@ -2,7 +2,8 @@
 """specification.py [--check | FILE.html]: writes docs/SPECIFICATION.md out of specification.txt.
 
 The exit status is 1 if a definition, a case or a row of docs/PEERS.md is not there, a case has another answer, a rule
-or a choice lacks a definition or cases of a side, or a sentence is in no row. With --check nothing is written, and it
+or a choice lacks a definition or cases of a side, a sentence is in no row, or a definition file cites at its head none
+of the sections whose rules it says. With --check nothing is written, and it
 is 1 if the page is not current. With the D-Bus Specification as HTML, which Debian's dbus-1-doc has, each sentence that
 is counted is printed with its rows, and it is 1 if a section that has some is not there or has another number of them.
 """
@@ -10,6 +11,7 @@ is counted is printed with its rows, and it is 1 if a section that has some is n
 import collections
 import functools
 import html
+import itertools
 import pathlib
 import re
 import sys
@@ -149,6 +151,17 @@ def uncounted(counts, rows):
     yield from (f"{row.at}: no section {row.said}" for row in rows if row.kind == "same" and row.said not in counts)
 
 
+def without_section(rows):
+    """The definition files that cite at their head none of the sections whose rules they say."""
+    said = sorted({path_of(*words) for row in rows for words in row.by if not words[1].endswith(".rt")})
+    for path in said:
+        lines = itertools.takewhile(lambda it: it.startswith("--"), text_of(path).splitlines())
+        head = " ".join(it.removeprefix("-- ") for it in lines)
+        titles = {row.section for row in rows if path in map(lambda it: path_of(*it), row.by)}
+        if not any(f'"{it}"' in head for it in titles):
+            yield f"{path} cites none of its sections at its head"
+
+
 def told_row(row):
     words = [KINDS[row.kind].format(row.said)] + [f"[{len(row.numbers)}]"] * bool(row.numbers)
     by = ", ".join(f"`{path_of(*it)}` (`{it[2]}`)" for it in row.by)
@@ -199,7 +212,8 @@ def main(*words):
     head, counts, rows = read_rows(faults)
     if words not in ((), ("--check",)):
         sys.exit(0 if print_sentences(pathlib.Path(*words), counts, rows) else 1)
-    faults += [f"{row.at}: {it}" for row in rows for it in faults_of(row)] + [*uncounted(counts, rows)]
+    faults += [f"{row.at}: {it}" for row in rows for it in faults_of(row)]
+    faults += [*uncounted(counts, rows), *without_section(rows)]
     what = "docs/SPECIFICATION.md is not current: make definitions writes it"
     write_or_check({} if faults else {PAGE: page(head, counts, rows)}, what, [f"{ROWS.name} {it}" for it in faults])
 

@@ -1,5 +1,5 @@
--- Who may answer a call. D-Bus Specification, "Header Fields" (DESTINATION, SENDER) and "Message
--- Bus Names".
+-- Who may answer a call. D-Bus Specification, "Method Calls", "Header Fields" (DESTINATION,
+-- SENDER) and "Message Bus Names".
 use Rattle.std.specs.Prelude.{ℕ, List, [], ◌∷◌, ◌==◌, Bool, true, false, ◌&&◌, not, Option, None, Some, codes, ◌||◌}
 use Rattle.std.specs.Str.{bytes_eq}
 use Rattle.dbus_texts.specs.Characters.{colon}

@@ -1,4 +1,4 @@
--- Who has which name, as the messages of an input tell it one after the other.
+-- Who has which name, as messages tell it in turn. D-Bus Specification, "Message Bus Names".
 use Rattle.std.specs.Prelude.{ℕ, List, [], ◌∷◌, Bool, true, false, Option, None, Some, if◌then◌else◌}
 use Rattle.std.specs.FinSet.{contains}
 use Rattle.std.specs.Option.{option_or}

@@ -1,6 +1,6 @@
 -- The text of a value: the code of its type, a colon and its number or text; an array after its
 -- signature; the other containers in brackets of their own. The codes and signatures are those of
--- the D-Bus Specification, "Type System", "Summary of types".
+-- the D-Bus Specification, "Basic types" and "Container types".
 use Rattle.std.specs.Prelude.{ℕ, List, [], ◌∷◌, ◌++◌, codes, decimal, nat_eq, if◌then◌else◌}
 use Rattle.std.specs.Fmt.{signed_decimal}
 use Rattle.std.specs.Int.{cast_signed, w16, w32, w64}

@@ -1,6 +1,6 @@
 -- Trusted by the headline.
 -- Where values of a type begin, and how many bytes a number and a text's length have.
--- D-Bus Specification, "Marshaling (Wire Format)", "Summary of D-Bus marshaling".
+-- D-Bus Specification, "Marshalling basic types", "Marshalling containers".
 use Rattle.std.specs.Prelude.{ℕ}
 use Rattle.dbus_texts.specs.Types.{NumberCode, BYTE, BOOLEAN, INT16, UINT16, INT32, UINT32, INT64, UINT64, DOUBLE, UNIX_FD, TextCode, STRING, OBJECT_PATH, SIGNATURE, TypeTree, NumberType, TextType, VariantType, ArrayType, StructType, EntryType}
 

@@ -1,6 +1,6 @@
 -- Trusted by the headline.
 -- Bytes, padding, and numbers as bytes in either order.
--- D-Bus Specification, "Marshaling (Wire Format)".
+-- D-Bus Specification, "Byte order and alignment".
 use Rattle.std.specs.Prelude.{ℕ, suc, zero, ◌-◌, ◌/◌, ◌%◌, List, [], ◌∷◌, reverse, replicate}
 use Rattle.dbus_value_model.specs.declared.order.Order.{Order}
 use Rattle.dbus_value_model.specs.declared.order.Order.TheVariants.{Little, Big}

@@ -1,8 +1,8 @@
 -- Trusted by the headline.
 -- The items that a message is read as: how each is passed, and which faults it shows. Every row of
 -- the fault table that speaks of one item alone stands here; a row says which bytes are there, as
--- the prefix of all that are. D-Bus Specification, "Marshaling (Wire Format)"; docs/WIRE-FORMAT.md,
--- "Faults".
+-- the prefix of all that are. D-Bus Specification, "Marshalling basic types", "Marshalling
+-- containers"; docs/WIRE-FORMAT.md, "Faults".
 use Rattle.std.specs.Prelude.{◌≡◌, ℕ, suc, ◌+◌, ◌<◌, ◌≤◌, ◌^◌, ◌⊎◌, List, [], ◌∷◌, ◌++◌, length, replicate, Option, Some, None}
 use Rattle.dbus_texts.specs.Types.{TypeTree, sig, IsSingleType}
 use Rattle.dbus_value_model.specs.WantedTexts.{WantedText, IsWanted, IsBreakOf, Of, Only}

@@ -1,6 +1,6 @@
 -- Trusted by the headline.
 -- The one spelling of each value at an offset: the marshalling relation of one value.
--- D-Bus Specification, "Marshaling (Wire Format)".
+-- D-Bus Specification, "Marshalling basic types", "Marshalling containers".
 use Rattle.std.specs.Prelude.{◌≡◌, ℕ, ◌+◌, ◌≤◌, List, [], ◌∷◌, ◌++◌, length}
 use Rattle.dbus_texts.specs.Types.{TypeTree, sig}
 use Rattle.dbus_types.specs.Alignments.{width, length_width, alignment_of}

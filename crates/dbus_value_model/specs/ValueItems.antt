@@ -3,7 +3,7 @@
 -- aloud. Spelling.antt says which bytes a value has, and so which bytes are accepted. Of bytes that
 -- no value has it says nothing: which fault comes first, and at which place, depends on the order
 -- of reading, and that stands here. That an item is passed is said by the spelling alone. D-Bus
--- Specification, "Marshaling (Wire Format)"; docs/WIRE-FORMAT.md, "Types" and "Faults".
+-- Specification, "Marshalling containers"; docs/WIRE-FORMAT.md, "Types" and "Faults".
 use Rattle.std.specs.Prelude.{ℕ, zero, suc, ◌+◌, if◌then◌else◌, nat_lt, Option, Some, None}
 use Rattle.dbus_texts.specs.Types.{NumberCode, BOOLEAN, UNIX_FD, TypeTree, NumberType, TextType, VariantType, ArrayType, StructType, EntryType, TypeTrees, NoTypes, MoreTypes}
 use Rattle.dbus_types.specs.Alignments.{width, length_width, alignment_of}

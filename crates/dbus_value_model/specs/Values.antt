@@ -1,6 +1,6 @@
 -- Trusted by the headline.
 -- Values as trees, the type of each, and which of them are well formed.
--- D-Bus Specification, "Type System".
+-- D-Bus Specification, "Basic types" and "Container types".
 use Rattle.std.specs.Prelude.{◌≡◌, ℕ, zero, suc, ◌^◌, ◌<◌, List, [], ◌∷◌, length}
 use Rattle.dbus_texts.specs.Types.{NumberCode, BYTE, BOOLEAN, INT16, UINT16, INT32, UINT32, INT64, UINT64, DOUBLE, UNIX_FD, TextCode, TypeTree, NumberType, TextType, VariantType, ArrayType, StructType, EntryType, TypeTrees, NoTypes, MoreTypes, IsSingleType}
 use Rattle.dbus_types.specs.Alignments.{length_width}

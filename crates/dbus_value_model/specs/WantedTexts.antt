@@ -1,7 +1,7 @@
 -- Trusted by the headline.
--- The texts that may stand at a place: those of a kind, or one alone. D-Bus Specification, "Valid
--- Signatures", "Valid Object Paths", "Valid Names"; "Header Fields" for the one signature of a
--- field.
+-- The texts that may stand at a place: those of a kind, or one alone. D-Bus Specification, "Basic
+-- types", "Valid Signatures", "Valid Object Paths", "Valid Names"; "Header Fields" for the one
+-- signature of a field.
 use Rattle.std.specs.Prelude.{◌≡◌, ℕ, List}
 use Rattle.dbus_texts.specs.Types.{TextCode, STRING, OBJECT_PATH, SIGNATURE}
 use Rattle.dbus_texts.specs.declared.text_kind.TextKind.{TextKind}
