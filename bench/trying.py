@@ -38,12 +38,11 @@ DRAWN = 20
 
 @functools.cache
 def logic():
-    """What the kit's name of its program logic is: kits of one logic leave the same goals open."""
     return subprocess.run(["rt", "version"], capture_output=True, text=True, check=True).stdout.split()[-1]
 
 
 def state_of(crate):
-    """The first line of the file: the crate, what it sees of the libraries below, the kit's logic, and the number of blocks."""
+    """The file's first line: the crate, what it sees of the libraries below, the kit's logic, the number of blocks."""
     return " ".join(["TRIED:", *state(crate), logic(), str(len(edits_in(crate)))])
 
 

@@ -3,7 +3,8 @@ use Rattle.std.proofs.Common.{◌≡◌, ℕ, List, Some, inl, inr, refl, sym, a
 use Rattle.clap.specs.Words.{Row, Text, first_of}
 use Rattle.dbus_value_model.specs.declared.order.Order.{Order}
 use Rattle.dbus_match.specs.Matching.{ownership}
-use Rattle.cli_options.specs.Named.{GiveOwners, HasEncoding, HasLines, HasRefused, HasSettings, HasWanted, Names, NamesCommand, IsSelectionGiven, TakesRules, order_word, side_word, words_of}
+use Rattle.cli_options.specs.Named.{GiveOwners, HasEncoding, HasLines, HasRefused, HasSettings, HasWanted, Names, NamesCommand, IsSelectionGiven, TakesRules, words_of}
+use Rattle.cli_options.specs.Worded.{order_word, side_word}
 use Rattle.cli_options.proofs.Numbers.{each_can}
 use Rattle.cli_options.specs.Limiting.{HasWidth}
 use Rattle.cli_options.specs.Told.{IsNoCommand, NamesNothing}

@@ -11,11 +11,14 @@ use Rattle.clap.specs.declared.error.kind.ErrorKind.TheVariants.{DisplayHelp, Di
 use Rattle.clap.proofs.OnLiterals.{clap_on_literals}
 use Rattle.cli_options.specs.CommandLine.{wire_app}
 use Rattle.dbus_match.specs.Matching.{Ownership}
-use Rattle.cli_options.specs.Limiting.{HasWidth, IsGiven, TellsNamed}
+use Rattle.cli_options.specs.Limiting.{HasWidth, IsGiven}
+use Rattle.cli_options.specs.Telling.{TellsNamed, ToldOr}
+use Rattle.cli_options.specs.declared.usage_fault.RefusedRule.{RefusedRule}
 use Rattle.cli_options.specs.Told.{TellsFault, TellsKind, Tells, TellsCommand, TellsOwner, TellsOwners, TellsRules, TellsSelection, IsUsageOrMemory, IsNoCommand, NamesNothing}
-use Rattle.cli_options.specs.Named.{GiveOwners, HasEncoding, HasRuleFault, HasSettings, IsNamedBy, Names, rules_given, words_of}
+use Rattle.cli_options.specs.Named.{GiveOwners, HasEncoding, HasOrder, HasRuleFault, HasSettings, IsNamedBy, Names, rules_given, words_of}
 use Rattle.cli_options.specs.Owners.{IsOwnerWord}
-use Rattle.cli_options.proofs.Nothing.{no_command_names_nothing, unencoded_names_nothing, unset_names_nothing, unowned_is_no_command, unowned_names_nothing}
+use Rattle.cli_options.specs.Worded.{HasWord, side_word}
+use Rattle.cli_options.proofs.Nothing.{no_command_names_nothing, unencoded_names_nothing, unordered_is_no_command, unset_names_nothing, unsided_names_nothing, unowned_is_no_command, unowned_names_nothing}
 use Rattle.cli_options.specs.declared.asked.Asked.{Asked}
 use Rattle.cli_options.specs.declared.settings.Settings.{Settings}
 use Rattle.cli_options.specs.declared.usage_fault.UsageFault.{UsageFault}
@@ -34,113 +37,85 @@ pub same_subcommand : (app : App) (words : List Text) (matches : ArgMatches) →
     → subcommand_of wire_app words ≡ subcommand_rows_of matches
 same_subcommand app words matches is has = ap (λ (a : App). subcommand_of a words) (sym is) ∙ sym (has (ap is_simple is ∙ wire_is_simple)).1
 
--- a text that is told of words that name nothing
+-- what is told of a part is told of the whole
+retold : (Nothing None : Type 0) (Refused Ruled : RefusedRule → Type 0) (told : UsageFault)
+    → (Nothing → None) → ((refused : RefusedRule) → Refused refused → Ruled refused) → ToldOr Nothing Refused told → ToldOr None Ruled told
+retold Nothing None Refused Ruled Memory none ruled h = tt
+retold Nothing None Refused Ruled (Help text) none ruled h = h
+retold Nothing None Refused Ruled (Version text) none ruled h = h
+retold Nothing None Refused Ruled (Usage text) none ruled h = none h
+retold Nothing None Refused Ruled (Rule refused) none ruled h = ruled refused h
+
+-- of words that name nothing
+told_of_none : (None : Type 0) (Ruled : RefusedRule → Type 0) (told : UsageFault) → IsUsageOrMemory told → None → ToldOr None Ruled told
+told_of_none None Ruled told is none = retold _ _ _ _ told (λ u. none) (λ refused bad. absurd bad) is
+
 pub nothing_told : (sub : Option (Text × List Row)) (told : UsageFault) → IsUsageOrMemory told → NamesNothing sub → Tells sub (Err told)
-nothing_told sub Memory is none = tt
-nothing_told sub (Help text) is none = absurd is
-nothing_told sub (Version text) is none = absurd is
-nothing_told sub (Usage text) is none = none
-nothing_told sub (Rule refused) is none = absurd is
+nothing_told sub told is none = told_of_none _ _ told is none
 
--- and of words after a name that are no command
 pub no_command_told : (name : Text) (rows : List Row) (told : UsageFault) → IsUsageOrMemory told → IsNoCommand name rows → TellsCommand name rows (Err told)
-no_command_told name rows Memory is none = tt
-no_command_told name rows (Help text) is none = absurd is
-no_command_told name rows (Version text) is none = absurd is
-no_command_told name rows (Usage text) is none = none
-no_command_told name rows (Rule refused) is none = absurd is
+no_command_told name rows told is none = told_of_none _ _ told is none
 
--- of a word that gives no owner
 pub no_owner_told : (word : Text) (told : UsageFault) → IsUsageOrMemory told → ((o : Ownership) → IsOwnerWord word o → ⊥) → TellsOwner word (Err told)
-no_owner_told word Memory is none = tt
-no_owner_told word (Help text) is none = absurd is
-no_owner_told word (Version text) is none = absurd is
-no_owner_told word (Usage text) is none = none
-no_owner_told word (Rule refused) is none = absurd is
+no_owner_told word told is none = told_of_none _ _ told is none
+
+pub unnamed_told : {A : Type 0} (Is : A → Type 0) (told : UsageFault) → IsUsageOrMemory told → ((x : A) → Is x → ⊥) → TellsNamed Is (Err told)
+unnamed_told Is told is none = told_of_none _ _ told is none
+
+-- of options that are to name more than that
+pub part_told : {A B : Type 0} (Part : A → Type 0) (Is : B → Type 0) → ((y : B) → Is y → (x : A) × Part x) → (told : UsageFault)
+    → TellsNamed Part (Err told) → TellsNamed Is (Err told)
+part_told Part Is has told h = retold _ _ _ _ told (λ none y is. let part = has y is in none part.0 part.1) (λ refused bad. absurd bad) h
 
 -- of words, of which one gives no owner
 pub no_owners_told : (words : List Text) (word : Text) (told : UsageFault) → TellsOwner word (Err told)
     → (AllByRecursion (λ w. (o : Ownership) × IsOwnerWord w o) words → (o : Ownership) × IsOwnerWord word o) → TellsOwners words (Err told)
-no_owners_told words word Memory h at = tt
-no_owners_told words word (Help text) h at = absurd h
-no_owners_told words word (Version text) h at = absurd h
-no_owners_told words word (Usage text) h at = λ all. let one = at all in h one.0 one.1
-no_owners_told words word (Rule refused) h at = absurd h
+no_owners_told words word told h at = retold _ _ _ _ told (λ none all. let one = at all in none one.0 one.1) (λ refused bad. bad) h
 
--- and of the words of a selection that has it
+-- of a selection that has them
 pub unowned_told : (rows : List Row) (told : UsageFault) → TellsOwners (words_of (codes "owner") rows) (Err told) → TellsSelection rows (Err told)
-unowned_told rows Memory h = tt
-unowned_told rows (Help text) h = absurd h
-unowned_told rows (Version text) h = absurd h
-unowned_told rows (Usage text) h = h
-unowned_told rows (Rule refused) h = absurd h
+unowned_told rows told h = retold _ _ _ _ told (λ none. none) (λ refused bad. absurd bad) h
 
--- of those of whose texts one spells no rule
-pub unruled_told : (rows : List Row) (explains : Bool) (told : UsageFault) → GiveOwners rows → ((explains ≡ true) ↔ IsGiven (codes "explain") rows) → TellsRules (rules_given rows) explains (Err told)
-    → TellsSelection rows (Err told)
-unruled_told rows explains Memory owners asked h = tt
-unruled_told rows explains (Help text) owners asked h = absurd h
-unruled_told rows explains (Version text) owners asked h = absurd h
-unruled_told rows explains (Usage text) owners asked h = absurd h
-unruled_told rows explains (Rule refused) owners asked h = record { first = h.0; explains = subst (λ e. (e ≡ true) ↔ IsGiven (codes "explain") rows) (sym h.1) asked; owners = owners }
+-- of one of whose texts one spells no rule
+pub unruled_told : (rows : List Row) (explains : Bool) (told : UsageFault) → GiveOwners rows → ((explains ≡ true) ↔ IsGiven (codes "explain") rows)
+    → TellsRules (rules_given rows) explains (Err told) → TellsSelection rows (Err told)
+unruled_told rows explains told owners asked h = retold _ _ _ _ told (λ bad. absurd bad)
+    (λ refused has. record { first = has.0; explains = subst (λ e. (e ≡ true) ↔ IsGiven (codes "explain") rows) (sym has.1) asked; owners = owners }) h
 
--- and of `filter`
+-- of `filter`
 pub unselected_told : (rows : List Row) (told : UsageFault) → TellsSelection rows (Err told) → TellsCommand (codes "filter") rows (Err told)
-unselected_told rows Memory h = tt
-unselected_told rows (Help text) h = absurd h
-unselected_told rows (Version text) h = absurd h
-unselected_told rows (Usage text) h = unowned_is_no_command rows h
-unselected_told rows (Rule refused) h = record { named = inl refl; refuses = h }
+unselected_told rows told h = retold _ _ _ _ told (unowned_is_no_command rows) (λ refused has. record { named = inl refl; refuses = has }) h
 
--- and of `list`, with this width
-pub unlined_told : (rows : List Row) (settings : Settings) (width : ℕ) (told : UsageFault) → HasSettings rows settings → HasWidth rows width → TellsSelection rows (Err told) → Tells (Some (codes "list", rows)) (Err told)
-unlined_told rows settings width Memory given wide h = tt
-unlined_told rows settings width (Help text) given wide h = absurd h
-unlined_told rows settings width (Version text) given wide h = absurd h
-unlined_told rows settings width (Usage text) given wide h = unowned_names_nothing rows h
-unlined_told rows settings width (Rule refused) given wide h = (record { named = inr (refl, width, wide); refuses = h }, (settings, given))
+-- of `list`, with this width
+pub unlined_told : (rows : List Row) (settings : Settings) (width : ℕ) (told : UsageFault) → HasSettings rows settings → HasWidth rows width
+    → TellsSelection rows (Err told) → Tells (Some (codes "list", rows)) (Err told)
+unlined_told rows settings width told given wide h = retold _ _ _ _ told (unowned_names_nothing rows)
+    (λ refused has. (record { named = inr (refl, width, wide); refuses = has }, (settings, given))) h
 
--- what is told of options that name nothing of which this holds
-pub unnamed_told : {A : Type 0} (Is : A → Type 0) (told : UsageFault) → IsUsageOrMemory told → ((x : A) → Is x → ⊥) → TellsNamed Is (Err told)
-unnamed_told Is Memory is none = tt
-unnamed_told Is (Help text) is none = absurd is
-unnamed_told Is (Version text) is none = absurd is
-unnamed_told Is (Usage text) is none = none
-unnamed_told Is (Rule refused) is none = absurd is
-
--- and where they are to name more than that
-pub part_told : {A B : Type 0} (Part : A → Type 0) (Is : B → Type 0) → ((y : B) → Is y → (x : A) × Part x) → (told : UsageFault)
-    → TellsNamed Part (Err told) → TellsNamed Is (Err told)
-part_told Part Is has Memory h = tt
-part_told Part Is has (Help text) h = h
-part_told Part Is has (Version text) h = h
-part_told Part Is has (Usage text) h = λ y is. let part = has y is in h part.0 part.1
-part_told Part Is has (Rule refused) h = h
-
--- and of `encode`
+-- of `encode`
 pub told_without_encoding : (rows : List Row) (told : UsageFault) → TellsNamed (HasEncoding rows) (Err told) → Tells (Some (codes "encode", rows)) (Err told)
-told_without_encoding rows Memory h = tt
-told_without_encoding rows (Help text) h = h
-told_without_encoding rows (Version text) h = h
-told_without_encoding rows (Usage text) h = unencoded_names_nothing rows h
-told_without_encoding rows (Rule refused) h = absurd h
+told_without_encoding rows told h = retold _ _ _ _ told (unencoded_names_nothing rows) (λ refused bad. absurd bad) h
 
--- and of a command after options that name no settings
-pub told_without_settings : (sub : Text × List Row) (told : UsageFault) → (sub.0 ≡ codes "handshake" → ⊥) → (sub.0 ≡ codes "encode" → ⊥) → TellsNamed (HasSettings sub.1) (Err told) → Tells (Some sub) (Err told)
-told_without_settings sub Memory other unencoded h = tt
-told_without_settings sub (Help text) other unencoded h = h
-told_without_settings sub (Version text) other unencoded h = h
-told_without_settings sub (Usage text) other unencoded h = unset_names_nothing sub other unencoded h
-told_without_settings sub (Rule refused) other unencoded h = absurd h
+-- of `handshake`
+pub told_without_side : (rows : List Row) (told : UsageFault) → TellsNamed (HasWord side_word (codes "side") rows) (Err told)
+    → Tells (Some (codes "handshake", rows)) (Err told)
+told_without_side rows told h = retold _ _ _ _ told (λ none. unsided_names_nothing rows (λ side named. none (Some side) named)) (λ refused bad. absurd bad) h
 
--- what is told of the words after a name, where they name settings
-pub told_under_settings : (sub : Text × List Row) (settings : Settings) (told : UsageFault) → (sub.0 ≡ codes "handshake" → ⊥) → (sub.0 ≡ codes "encode" → ⊥) → (sub.0 ≡ codes "count" → ⊥) → (sub.0 ≡ codes "calls" → ⊥) → (sub.0 ≡ codes "list" → ⊥) → HasSettings sub.1 settings → TellsCommand sub.0 sub.1 (Err told)
+-- of `swap`
+pub told_without_order : (rows : List Row) (told : UsageFault) → TellsNamed (HasOrder rows) (Err told) → TellsCommand (codes "swap") rows (Err told)
+told_without_order rows told h = retold _ _ _ _ told (λ none. unordered_is_no_command rows (λ order named. none (Some order) named)) (λ refused bad. absurd bad) h
+
+-- of a command after options that name no settings
+pub told_without_settings : (sub : Text × List Row) (told : UsageFault) → (sub.0 ≡ codes "handshake" → ⊥) → (sub.0 ≡ codes "encode" → ⊥)
+    → TellsNamed (HasSettings sub.1) (Err told) → Tells (Some sub) (Err told)
+told_without_settings sub told other unencoded h = retold _ _ _ _ told (unset_names_nothing sub other unencoded) (λ refused bad. absurd bad) h
+
+-- of the words after a name that name settings
+pub told_under_settings : (sub : Text × List Row) (settings : Settings) (told : UsageFault) → (sub.0 ≡ codes "handshake" → ⊥) → (sub.0 ≡ codes "encode" → ⊥)
+    → (sub.0 ≡ codes "count" → ⊥) → (sub.0 ≡ codes "calls" → ⊥) → (sub.0 ≡ codes "list" → ⊥) → HasSettings sub.1 settings → TellsCommand sub.0 sub.1 (Err told)
     → Tells (Some sub) (Err told)
-told_under_settings sub settings Memory other unencoded uncounted unlisted unlined given h = tt
-told_under_settings sub settings (Help text) other unencoded uncounted unlisted unlined given h = h
-told_under_settings sub settings (Version text) other unencoded uncounted unlisted unlined given h = h
-told_under_settings sub settings (Usage text) other unencoded uncounted unlisted unlined given h = no_command_names_nothing sub other unencoded uncounted unlisted unlined h
-told_under_settings sub settings (Rule refused) other unencoded uncounted unlisted unlined given h = (h, (settings, given))
+told_under_settings sub settings told other unencoded uncounted unlisted unlined given h = retold _ _ _ _ told
+    (no_command_names_nothing sub other unencoded uncounted unlisted unlined) (λ refused has. (has, (settings, given))) h
 
 pub named_of_matches : (words : List Text) (sub : Option (Text × List Row)) (answer : Result Asked UsageFault) → subcommand_of wire_app words ≡ sub
     → Tells sub answer → IfOk answer (IsNamedBy words)

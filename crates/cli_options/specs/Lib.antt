@@ -1,4 +1,6 @@
 pub mod CommandLine
+pub mod Telling
+pub mod Worded
 pub mod Limiting
 pub mod Owners
 pub mod Selections

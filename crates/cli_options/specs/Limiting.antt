@@ -1,17 +1,15 @@
 -- The limits and the window that the options of a command name.
-use Rattle.std.specs.Prelude.{◌≡◌, ◌↔◌, ◌⊎◌, ◌≤◌, ◌<◌, ◌^◌, ℕ, List, Option, Some, None, Result, Ok, Err, codes, zero, suc, Bool, true, false, ◌||◌}
+use Rattle.std.specs.Prelude.{◌≡◌, ◌↔◌, ◌⊎◌, ◌≤◌, ◌<◌, ◌^◌, ℕ, List, Option, Some, None, codes, zero, suc, Bool, true, false, ◌||◌}
 use Rattle.std.specs.Str.Parse.{IsNumeral, digits_value, without_leading_plus}
 use Rattle.clap.specs.Words.{Row, Text, first_of, one_of}
 use Rattle.dbus_value_model.specs.Specification.{specification}
 use Rattle.dbus_value_model.specs.declared.fd_rule.FdRule.{FdRule}
-use Rattle.dbus_value_model.specs.declared.fd_rule.FdRule.TheVariants.{Any, BelowCount}
 use Rattle.dbus_value_model.specs.declared.limits.Limits.{Limits}
-use Rattle.cli_options.specs.declared.usage_fault.UsageFault.{UsageFault}
-use Rattle.cli_options.specs.declared.usage_fault.UsageFault.TheVariants.{Memory, Help, Version, Usage, Rule}
 use Rattle.cli_options.specs.declared.resync.Resync.{Resync}
 use Rattle.cli_options.specs.declared.resync.Resync.TheVariants.{Off, Within}
 use Rattle.cli_options.specs.declared.window.Window.{Window}
 use Rattle.cli_options.specs.declared.settings.Settings.{Settings}
+use Rattle.cli_options.specs.Worded.{fds_word}
 
 -- the number that the digits of an option's text write; of an option that is not there, the default
 abbrev pub IsNumberOf : Option Text → ℕ → ℕ → Type 0
@@ -24,16 +22,6 @@ IsGivenNumber None None = Unit {0}
 IsGivenNumber None (Some number) = ⊥
 IsGivenNumber (Some text) None = ⊥
 IsGivenNumber (Some text) (Some number) = IsNumberOf (Some text) 0 number × (number < 2 ^ 32)
-
--- the word that stands for a rule on the indexes of descriptors
-abbrev pub fds_word : FdRule → Text
-fds_word Any = codes "any"
-fds_word BelowCount = codes "below-count"
-
--- the word stands for the rule, or for none
-abbrev pub IsFdsOf : Text → Option FdRule → Type 0
-IsFdsOf word (Some rule) = word ≡ fds_word rule
-IsFdsOf word None = (rule : FdRule) → word ≡ fds_word rule → ⊥
 
 -- the rule that an option's word stands for; of an option that is not there, the default
 abbrev pub IsRuleOf : Option Text → FdRule → FdRule → Type 0
@@ -117,16 +105,6 @@ GivesNumber given default None = (number : ℕ) → IsNumberOf given default num
 abbrev pub GivesGiven : Option Text → Option (Option ℕ) → Type 0
 GivesGiven given (Some number) = IsGivenNumber given number
 GivesGiven given None = (number : Option ℕ) → IsGivenNumber given number → ⊥
-
-module _ {A : Type 0} (Is : A → Type 0) where
-  -- what options name, of which Is holds; or a fault of usage if it holds of nothing
-  abbrev pub TellsNamed : Result A UsageFault → Type 0
-  TellsNamed (Ok x) = Is x
-  TellsNamed (Err Memory) = Unit {0}
-  TellsNamed (Err (Help text)) = ⊥
-  TellsNamed (Err (Version text)) = ⊥
-  TellsNamed (Err (Usage text)) = (x : A) → Is x → ⊥
-  TellsNamed (Err (Rule refused)) = ⊥
 
 -- Settings that ask for more than limits and a handshake.
 

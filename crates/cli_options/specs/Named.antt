@@ -4,7 +4,6 @@ use Rattle.std.specs.List.{AllByRecursion, AllZip}
 use Rattle.std.specs.declared.alloc.Global.{Global}
 use Rattle.clap.specs.Words.{Row, Text, all_of, first_of, one_of, subcommand_of}
 use Rattle.dbus_value_model.specs.declared.order.Order.{Order}
-use Rattle.dbus_value_model.specs.declared.order.Order.TheVariants.{Little, Big}
 use Rattle.dbus_rule.specs.declared.rule.Rule.{Rule}
 use Rattle.dbus_rule.specs.Faults.{IsFault}
 use Rattle.dbus_match.specs.Matching.{Ownership}
@@ -13,10 +12,10 @@ use Rattle.dbus_rule.specs.RuleViews.{rule_pairs}
 use Rattle.cli_options.specs.declared.file_form.FileForm.{FileForm}
 use Rattle.cli_options.specs.declared.file_form.FileForm.TheVariants as files
 use Rattle.dbus_handshake_input.specs.declared.side.Side.{Side}
-use Rattle.dbus_handshake_input.specs.declared.side.Side.TheVariants.{Client, Server}
 use Rattle.cli_options.specs.CommandLine.{wire_app}
 use Rattle.cli_options.specs.Limiting.{HasLimits, HasLineLimit, HasResync, HasWidth, HasWindow, IsGiven, IsGivenNumber, is_on}
 use Rattle.cli_options.specs.Owners.{AreOwnersOf, IsOwnerWord}
+use Rattle.cli_options.specs.Worded.{HasWord, order_word, side_word}
 use Rattle.cli_options.specs.declared.asked.Asked.{Asked}
 use Rattle.cli_options.specs.declared.asked.Asked.TheVariants.{Messages, Count, List as Listing, Calls, Encode, Handshake}
 use Rattle.cli_options.specs.declared.command.Command.{Command}
@@ -28,30 +27,10 @@ use Rattle.cli_options.specs.declared.wanted_calls.WantedCalls.{WantedCalls}
 use Rattle.cli_options.specs.declared.wanted_encoding.WantedEncoding.{WantedEncoding}
 use Rattle.cli_options.specs.declared.wanted_lines.WantedLines.{WantedLines}
 
--- the word that stands for a byte order
-abbrev pub order_word : Order → Text
-order_word Little = codes "l"
-order_word Big = codes "B"
-
--- the word stands for the order, or for none
-abbrev pub IsOrderOf : Text → Option Order → Type 0
-IsOrderOf word (Some order) = word ≡ order_word order
-IsOrderOf word None = (order : Order) → word ≡ order_word order → ⊥
-
--- the word that stands for a side of a connection
-abbrev pub side_word : Side → Text
-side_word Client = codes "client"
-side_word Server = codes "server"
-
--- the word stands for the side, or for none
-abbrev pub IsSideOf : Text → Option Side → Type 0
-IsSideOf word (Some side) = word ≡ side_word side
-IsSideOf word None = (side : Side) → word ≡ side_word side → ⊥
-
 -- the side whose handshake comes first is the one that its option is given; without that option
 -- there is none
 abbrev pub HasSide : List Row → Option Side → Type 0
-HasSide rows side = first_of (codes "handshake") rows ≡ option_map side_word side
+HasSide = HasWord side_word (codes "handshake")
 
 -- the words that an option is given, each time that it stands there
 abbrev pub words_of : Text → List Row → List Text
@@ -116,7 +95,7 @@ pub record HasLines (rows : List Row) (wanted : WantedLines) : Type 0 where
 
 -- the order of all messages is the one that `--to` is given; without it there is none
 abbrev pub HasOrder : List Row → Option Order → Type 0
-HasOrder rows order = first_of (codes "to") rows ≡ option_map order_word order
+HasOrder = HasWord order_word (codes "to")
 
 -- what `encode` is to write keeps the limits that its options name, in the order that they name,
 -- of safe integers, and explains what it refuses, and goes on, if those flags are given

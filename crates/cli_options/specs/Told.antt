@@ -13,6 +13,7 @@ use Rattle.dbus_match.specs.Matching.{Ownership, ownership}
 use Rattle.cli_options.specs.CommandLine.{wire_app}
 use Rattle.cli_options.specs.Owners.{AreOwnersOf, IsOwnerWord}
 use Rattle.cli_options.specs.Named.{AreRulesOf, GiveOwners, HasFirstFault, Names, NamesCommand, HasFault, HasRefused, HasRuleFault, IsSelectionGiven}
+use Rattle.cli_options.specs.Telling.{TellsOr, ToldOr}
 use Rattle.cli_options.specs.declared.asked.Asked.{Asked}
 use Rattle.cli_options.specs.declared.command.Command.{Command}
 use Rattle.cli_options.specs.declared.selection.Selection.{Selection}
@@ -30,47 +31,26 @@ TellsKind kind (Usage text) = (kind ≢ DisplayHelp) × (kind ≢ DisplayVersion
 TellsKind kind (Rule refused) = ⊥
 
 abbrev pub IsUsageOrMemory : UsageFault → Type 0
-IsUsageOrMemory Memory = Unit {0}
-IsUsageOrMemory (Help text) = ⊥
-IsUsageOrMemory (Version text) = ⊥
-IsUsageOrMemory (Usage text) = Unit {0}
-IsUsageOrMemory (Rule refused) = ⊥
+IsUsageOrMemory told = ToldOr (Unit {0}) (λ refused. ⊥) told
 
 -- the owner that a word gives; else a fault of usage
 abbrev pub TellsOwner : Text → Result (Owner Global) UsageFault → Type 0
-TellsOwner word (Ok owner) = IsOwnerWord word (ownership owner)
-TellsOwner word (Err Memory) = Unit {0}
-TellsOwner word (Err (Help text)) = ⊥
-TellsOwner word (Err (Version text)) = ⊥
-TellsOwner word (Err (Usage text)) = (o : Ownership) → IsOwnerWord word o → ⊥
-TellsOwner word (Err (Rule refused)) = ⊥
+TellsOwner word answer = TellsOr (λ owner. IsOwnerWord word (ownership owner))
+    ((o : Ownership) → IsOwnerWord word o → ⊥) (λ refused. ⊥) answer
 
 -- the owners that words give; else a fault of usage
 abbrev pub TellsOwners : List Text → Result (Vec (Owner Global) Global) UsageFault → Type 0
-TellsOwners words (Ok owners) = AreOwnersOf words owners.items
-TellsOwners words (Err Memory) = Unit {0}
-TellsOwners words (Err (Help text)) = ⊥
-TellsOwners words (Err (Version text)) = ⊥
-TellsOwners words (Err (Usage text)) = AllByRecursion (λ word. (o : Ownership) × IsOwnerWord word o) words → ⊥
-TellsOwners words (Err (Rule refused)) = ⊥
+TellsOwners words answer = TellsOr (λ owners. AreOwnersOf words owners.items)
+    (AllByRecursion (λ word. (o : Ownership) × IsOwnerWord word o) words → ⊥) (λ refused. ⊥) answer
 
 -- the rules that texts spell; else the first that spells none, to be explained or not
 abbrev pub TellsRules : List Text → Bool → Result (Vec (MatchRule Global) Global) UsageFault → Type 0
-TellsRules texts explains (Ok rules) = AreRulesOf texts rules.items
-TellsRules texts explains (Err Memory) = Unit {0}
-TellsRules texts explains (Err (Help text)) = ⊥
-TellsRules texts explains (Err (Version text)) = ⊥
-TellsRules texts explains (Err (Usage text)) = ⊥
-TellsRules texts explains (Err (Rule refused)) = HasFirstFault texts refused × (refused.explains ≡ explains)
+TellsRules texts explains answer = TellsOr (λ rules. AreRulesOf texts rules.items) ⊥
+    (λ refused. HasFirstFault texts refused × (refused.explains ≡ explains)) answer
 
 -- the selection that words give; else the rule that is refused; else a word gives no owner
 abbrev pub TellsSelection : List Row → Result Selection UsageFault → Type 0
-TellsSelection rows (Ok selection) = IsSelectionGiven rows selection
-TellsSelection rows (Err Memory) = Unit {0}
-TellsSelection rows (Err (Help text)) = ⊥
-TellsSelection rows (Err (Version text)) = ⊥
-TellsSelection rows (Err (Usage text)) = GiveOwners rows → ⊥
-TellsSelection rows (Err (Rule refused)) = HasRefused rows refused
+TellsSelection rows answer = TellsOr (IsSelectionGiven rows) (GiveOwners rows → ⊥) (HasRefused rows) answer
 
 -- the name of a subcommand and the words after it name no command, and no rule that is refused
 pub record IsNoCommand (name : Text) (rows : List Row) : Type 0 where
@@ -79,12 +59,7 @@ pub record IsNoCommand (name : Text) (rows : List Row) : Type 0 where
 
 -- the command that they name; else the rule that is refused; else a fault of usage
 abbrev pub TellsCommand : Text → List Row → Result Command UsageFault → Type 0
-TellsCommand name rows (Ok command) = NamesCommand name rows command
-TellsCommand name rows (Err Memory) = Unit {0}
-TellsCommand name rows (Err (Help text)) = ⊥
-TellsCommand name rows (Err (Version text)) = ⊥
-TellsCommand name rows (Err (Usage text)) = IsNoCommand name rows
-TellsCommand name rows (Err (Rule refused)) = HasFault name rows refused
+TellsCommand name rows answer = TellsOr (NamesCommand name rows) (IsNoCommand name rows) (HasFault name rows) answer
 
 -- the subcommand and the words after it name nothing that is asked for, and no rule that is refused
 pub record NamesNothing (sub : Option (Text × List Row)) : Type 0 where
@@ -94,12 +69,7 @@ pub record NamesNothing (sub : Option (Text × List Row)) : Type 0 where
 -- what the subcommand and the words after it name; else the rule that is refused; else a fault
 -- of usage
 abbrev pub Tells : Option (Text × List Row) → Result Asked UsageFault → Type 0
-Tells sub (Ok asked) = Names sub asked
-Tells sub (Err Memory) = Unit {0}
-Tells sub (Err (Help text)) = ⊥
-Tells sub (Err (Version text)) = ⊥
-Tells sub (Err (Usage text)) = NamesNothing sub
-Tells sub (Err (Rule refused)) = HasRuleFault sub refused
+Tells sub answer = TellsOr (Names sub) (NamesNothing sub) (HasRuleFault sub) answer
 
 -- a kind of fault, other than a wish for help or for the version, that clap finds in the words
 pub record HasUsageFault (words : List Text) : Type 0 where

@@ -1,8 +1,9 @@
 //! The command that the words of a command line name.
 ghost use Rattle.std.specs.Prelude.{◌≡◌, ◌↔◌, true, List, Some, IfOk, MatchOption, map, string_bytes, codes};
 ghost use Rattle.clap.specs.Words.{found_of, kind_of, rows_of, subcommand_rows_of};
-ghost use Rattle.cli_options.specs.Named.{GivesWanted, HasEncoding, HasFileForm, HasOrder, HasSettings, HasSide, IsNamedBy, IsOrderOf, IsSideOf, rules_given, words_of};
-ghost use Rattle.cli_options.specs.Limiting.{IsGiven, TellsNamed};
+ghost use Rattle.cli_options.specs.Named.{GivesWanted, HasEncoding, HasFileForm, HasOrder, HasSettings, IsNamedBy, rules_given, words_of};
+ghost use Rattle.cli_options.specs.Limiting.{IsGiven};
+ghost use Rattle.cli_options.specs.Telling.{TellsNamed};
 ghost use Rattle.cli_options.specs.Told.{TellsKind, Tells, TellsCommand, TellsFault, TellsOwners, TellsRules, TellsSelection};
 
 use crate::asked::Asked;
@@ -16,14 +17,14 @@ use crate::resync::Resync;
 use crate::rules::rules_spelled;
 use crate::selection::Selection;
 use crate::settings::Settings;
-use crate::usage_fault::{UsageFault, bad_value, usage};
+use crate::usage_fault::{UsageFault, usage};
 use crate::wanted_calls::WantedCalls;
 use crate::wanted_encoding::WantedEncoding;
 use crate::wanted_lines::WantedLines;
 use crate::wire::wire;
+use crate::worded::word_named;
 use clap::ArgMatches;
 use clap::error::ErrorKind;
-use dbus_handshake_input::Side;
 use dbus_match::{Owner, Rule};
 use dbus_value_model::Order;
 use std::alloc::Global;
@@ -127,29 +128,21 @@ fn encoding_named(alloc: Global, inner: &ArgMatches) -> Result<WantedEncoding, U
     }
 }
 
-// The order that `encode` is given, if it is given one.
+// The order that is given, if one is.
 fn order_given(alloc: Global, inner: &ArgMatches) -> Result<Option<Order>, UsageFault>
     ensures { TellsNamed (HasOrder (rows_of (found_of inner.now))) result }
 {
-    let Some(word) = inner.get_str("to") else {
-        return Ok(None);
-    };
-    match order_of(word) {
-        Some(order) => Ok(Some(order)),
-        None => Err(bad_value(alloc, word, "--to <ORDER>", "l, B")),
-    }
+    word_named(alloc, inner, "to", "--to <ORDER>", "l, B")
 }
 
 // The side that `handshake` is given.
 fn handshake_named(alloc: Global, inner: &ArgMatches) -> Result<Asked, UsageFault>
     ensures { Tells (Some (codes "handshake", rows_of (found_of inner.now))) result }
 {
-    let Some(word) = inner.get_str("side") else {
-        return Err(usage(alloc, "error: no side\n"));
-    };
-    match side_of(word) {
-        Some(side) => Ok(Asked::Handshake(side)),
-        None => Err(bad_value(alloc, word, "--side <SIDE>", "client, server")),
+    match word_named(alloc, inner, "side", "--side <SIDE>", "client, server") {
+        Ok(Some(side)) => Ok(Asked::Handshake(side)),
+        Ok(None) => Err(usage(alloc, "error: no side\n")),
+        Err(fault) => Err(fault),
     }
 }
 
@@ -182,7 +175,13 @@ fn settings_named(alloc: Global, inner: &ArgMatches) -> Result<Settings, UsageFa
     ensures { TellsNamed (HasSettings (rows_of (found_of inner.now))) result }
 {
     let limits = limits_named(alloc, inner)?;
-    let handshake = side_named(alloc, inner)?;
+    let handshake = word_named(
+        alloc,
+        inner,
+        "handshake",
+        "--handshake <SIDE>",
+        "client, server",
+    )?;
     let window = window_named(alloc, inner)?;
     let resync = resync_named(alloc, inner)?;
     let as_json = is_given(inner, "json");
@@ -196,32 +195,6 @@ fn settings_named(alloc: Global, inner: &ArgMatches) -> Result<Settings, UsageFa
         handshake,
         window,
     })
-}
-
-// The side that `--handshake` is given.
-fn side_named(alloc: Global, inner: &ArgMatches) -> Result<Option<Side>, UsageFault>
-    ensures { TellsNamed (HasSide (rows_of (found_of inner.now))) result }
-{
-    let Some(word) = inner.get_str("handshake") else {
-        return Ok(None);
-    };
-    match side_of(word) {
-        Some(side) => Ok(Some(side)),
-        None => Err(bad_value(alloc, word, "--handshake <SIDE>", "client, server")),
-    }
-}
-
-// The side that a word stands for.
-fn side_of(word: &str) -> Option<Side>
-    ensures { IsSideOf word.now result }
-{
-    if word == "client" {
-        return Some(Side::Client);
-    }
-    if word == "server" {
-        return Some(Side::Server);
-    }
-    None
 }
 
 // The command of this name, which is not `list`, with what comes after it.
@@ -269,12 +242,10 @@ fn list_named(alloc: Global, settings: Settings, inner: &ArgMatches) -> Result<A
 fn order_named(alloc: Global, inner: &ArgMatches) -> Result<Command, UsageFault>
     ensures { TellsCommand (codes "swap") (rows_of (found_of inner.now)) result }
 {
-    let Some(word) = inner.get_str("to") else {
-        return Err(usage(alloc, "error: no order\n"));
-    };
-    match order_of(word) {
-        Some(order) => Ok(Command::Swap(order, file_form_named(inner))),
-        None => Err(bad_value(alloc, word, "--to <ORDER>", "l, B")),
+    match order_given(alloc, inner) {
+        Ok(Some(order)) => Ok(Command::Swap(order, file_form_named(inner))),
+        Ok(None) => Err(usage(alloc, "error: no order\n")),
+        Err(fault) => Err(fault),
     }
 }
 
@@ -287,19 +258,6 @@ fn file_form_named(inner: &ArgMatches) -> FileForm
     } else {
         FileForm::AsRead
     }
-}
-
-// The order that a word stands for.
-fn order_of(word: &str) -> Option<Order>
-    ensures { IsOrderOf word.now result }
-{
-    if word == "l" {
-        return Some(Order::Little);
-    }
-    if word == "B" {
-        return Some(Order::Big);
-    }
-    None
 }
 
 // `filter`, with the selection and the form that it is given.

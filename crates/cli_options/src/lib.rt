@@ -26,6 +26,7 @@ mod wanted_encoding;
 mod wanted_lines;
 mod window;
 mod wire;
+mod worded;
 
 pub use asked::Asked;
 pub use command::Command;

@@ -1,13 +1,15 @@
 //! The limits, the window and the width that the options of a command name.
 ghost use Rattle.clap.specs.Words.{found_of, one_of, rows_of};
-ghost use Rattle.cli_options.specs.Limiting.{GivesGiven, GivesNumber, GivesNumbers, GivesLineLimit, GivesResync, GivesWidth, GivesWindow, HasLimits, HasResync, HasWindow, IsFdsOf, TellsNamed};
+ghost use Rattle.cli_options.specs.Limiting.{GivesGiven, GivesNumber, GivesNumbers, GivesLineLimit, GivesResync, GivesWidth, GivesWindow, HasLimits, HasResync, HasWindow};
+ghost use Rattle.cli_options.specs.Telling.{TellsNamed};
 
 use crate::command_line::is_given;
 use crate::resync::Resync;
-use crate::usage_fault::{UsageFault, bad_value, usage};
+use crate::usage_fault::{UsageFault, usage};
 use crate::window::Window;
+use crate::worded::word_named;
 use clap::ArgMatches;
-use dbus_value_model::{ARRAY_LIMIT, DEPTH_LIMIT, FdRule, Limits, MESSAGE_LIMIT};
+use dbus_value_model::{ARRAY_LIMIT, DEPTH_LIMIT, Limits, MESSAGE_LIMIT};
 use std::alloc::Global;
 
 // The cells of a line, if no width is given: those of most terminals.
@@ -27,12 +29,9 @@ pub(crate) fn limits_named(alloc: Global, inner: &ArgMatches) -> Result<Limits, 
     let Some(limits) = numbers_named(inner) else {
         return Err(usage(alloc, "error: no limits\n"));
     };
-    let Some(word) = inner.get_str("fds") else {
-        return Ok(limits);
-    };
-    match fds_of(word) {
+    match word_named(alloc, inner, "fds", "--fds <RULE>", "any, below-count")? {
         Some(fds) => Ok(limits.with_fds(fds)),
-        None => Err(bad_value(alloc, word, "--fds <RULE>", "any, below-count")),
+        None => Ok(limits),
     }
 }
 
@@ -137,17 +136,4 @@ pub(crate) fn line_limit_named(inner: &ArgMatches) -> Option<u32>
     ensures { GivesLineLimit (rows_of (found_of inner.now)) result }
 {
     number_named(inner, "max-line", USUAL_LINE)
-}
-
-// The rule on indexes of file descriptors that a word stands for.
-fn fds_of(word: &str) -> Option<FdRule>
-    ensures { IsFdsOf word.now result }
-{
-    if word == "any" {
-        return Some(FdRule::Any);
-    }
-    if word == "below-count" {
-        return Some(FdRule::BelowCount);
-    }
-    None
 }

@@ -29,8 +29,9 @@ use Rattle.dbus_rule.specs.declared.rule.Rule.{Rule}
 use Rattle.dbus_match.specs.Matching.{Ownership, ownership, ownerships}
 use Rattle.dbus_rule.specs.RuleViews.{rule_pairs}
 use Rattle.cli_options.specs.CommandLine.{wire_app}
-use Rattle.cli_options.specs.Limiting.{HasLimits, HasResync, HasWindow, IsGiven, IsGivenNumber, IsNumberOf, IsRuleOf, fds_word, is_on}
-use Rattle.cli_options.specs.Named.{AreRulesOf, HasEncoding, HasSettings, HasWanted, IsNamedBy, IsSelectionGiven, Names, NamesCommand, order_word, rules_given, side_word, words_of}
+use Rattle.cli_options.specs.Limiting.{HasLimits, HasResync, HasWindow, IsGiven, IsGivenNumber, IsNumberOf, IsRuleOf, is_on}
+use Rattle.cli_options.specs.Named.{AreRulesOf, HasEncoding, HasSettings, HasWanted, IsNamedBy, IsSelectionGiven, Names, NamesCommand, rules_given, words_of}
+use Rattle.cli_options.specs.Worded.{fds_word, order_word, side_word}
 use Rattle.cli_options.specs.Owners.{AreOwnersOf, IsOwnerWord, lacks_owner, needs_owner, selection_lacks_owner, some_needs_owner, some_owns}
 use Rattle.cli_options.specs.Selections.{AreSameCommand, AreSameSelection}
 use Rattle.cli_options.specs.declared.asked.Asked.{Asked}
@@ -116,11 +117,12 @@ same_side_word Server Client e = let bad : ◌≡◌ {A = ℕ} 115 99 = ap (λ t
 some_is : {A : Type 0} (x y : A) → Some x ≡ Some y → x ≡ y
 some_is x y e = cc
 
-same_side : (a b : Option Side) → option_map side_word a ≡ option_map side_word b → a ≡ b
-same_side None None e = refl
-same_side None (Some b) e = absurd cc
-same_side (Some a) None e = absurd cc
-same_side (Some a) (Some b) e = ap Some (same_side_word a b (some_is (side_word a) (side_word b) e))
+same_word : {T : Type 0} (word_of : T → Text) → ((a b : T) → word_of a ≡ word_of b → a ≡ b)
+    → (a b : Option T) → option_map word_of a ≡ option_map word_of b → a ≡ b
+same_word word_of same None None e = refl
+same_word word_of same None (Some b) e = absurd cc
+same_word word_of same (Some a) None e = absurd cc
+same_word word_of same (Some a) (Some b) e = ap Some (same a b (some_is (word_of a) (word_of b) e))
 
 same_limits : (rows : List Row) (a b : Limits) → HasLimits rows a → HasLimits rows b → a ≡ b
 same_limits rows a b p q =
@@ -173,7 +175,7 @@ same_settings rows a b p q =
     let explains = same_flag a.explains b.explains p.explains q.explains in
     let resync = same_resync rows a.resync b.resync p.resync q.resync in
     let keeps_going = same_flag a.keeps_going b.keeps_going (subst (λ (r : Resync). (a.keeps_going ≡ true) ↔ ((is_on r ≡ true) ⊎ IsGiven (codes "keep-going") rows)) resync p.keeps_going) q.keeps_going in
-    let handshake = same_side a.handshake b.handshake (sym p.handshake ∙ q.handshake) in
+    let handshake = same_word side_word same_side_word a.handshake b.handshake (sym p.handshake ∙ q.handshake) in
     let window = same_window rows a.window b.window p.window q.window in
     λ i. record { limits = limits i; as_json = as_json i; explains = explains i; keeps_going = keeps_going i; resync = resync i; handshake = handshake i; window = window i }
 
@@ -256,12 +258,6 @@ same_order_word Big Big e = refl
 same_order_word Little Big e = let bad : ◌≡◌ {A = ℕ} 108 66 = ap (λ t. slice_index t 0) e in absurd (omega arith)
 same_order_word Big Little e = let bad : ◌≡◌ {A = ℕ} 66 108 = ap (λ t. slice_index t 0) e in absurd (omega arith)
 
-same_order : (a b : Option Order) → option_map order_word a ≡ option_map order_word b → a ≡ b
-same_order None None e = refl
-same_order None (Some b) e = absurd cc
-same_order (Some a) None e = absurd cc
-same_order (Some a) (Some b) e = ap Some (same_order_word a b (some_is (order_word a) (order_word b) e))
-
 -- the first two bytes of a name tell it from the others
 abbrev pub mark : Text → ℕ
 mark t = slice_index t 0 * 256 + slice_index t 1
@@ -307,7 +303,7 @@ same_wanted rows a b p q =
 same_encoding : (rows : List Row) (a b : WantedEncoding) → HasEncoding rows a → HasEncoding rows b → a ≡ b
 same_encoding rows a b p q =
     let limits = same_limits rows a.limits b.limits p.limits q.limits in
-    let order = same_order a.order b.order (sym p.order ∙ q.order) in
+    let order = same_word order_word same_order_word a.order b.order (sym p.order ∙ q.order) in
     let safe_integers = same_flag a.safe_integers b.safe_integers p.safe_integers q.safe_integers in
     let explains = same_flag a.explains b.explains p.explains q.explains in
     let keeps_going = same_flag a.keeps_going b.keeps_going p.keeps_going q.keeps_going in

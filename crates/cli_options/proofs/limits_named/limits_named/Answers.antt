@@ -1,32 +1,20 @@
-use Rattle.std.proofs.Common.{◌≡◌, Some, None, sym, ap, ◌∙◌, subst, option_map, codes}
-use Rattle.clap.specs.Words.{found_of, rows_of, first_of}
-use Rattle.clap.proofs.WalkLemmas.{first_value-rows}
+use Rattle.std.proofs.Common.{◌≡◌, Option, Some, None, option_map, refl, ap, codes}
+use Rattle.std.proofs.lemmas.Result.{err_from_is_err_and}
+use Rattle.clap.specs.Words.{Text, found_of, rows_of}
 use Rattle.dbus_value_model.specs.Specification.{specification}
+use Rattle.dbus_value_model.specs.declared.fd_rule.FdRule.{FdRule}
 use Rattle.cli_options.specs.Limiting.{HasLimits, IsRuleOf}
-use Rattle.cli_options.proofs.Tells.{unnamed_told}
+use Rattle.cli_options.specs.Worded.{HasWord, fds_word}
+use Rattle.cli_options.proofs.Tells.{part_told}
 use Rattle.cli_options.proofs.limits_named.limits_named.Goals as goal
 
-pub returns-in_default-get_str : goal.returns-in_default-get_str
-returns-in_default-get_str c =
-    let given : first_of (codes "fds") (rows_of (found_of c.args.inner.now)) ≡ None
-    = sym (first_value-rows (found_of c.args.inner.now) (codes "fds")) ∙ (sym c.get_str.ensures ∙ ap (option_map (λ s. s.now)) c.in_default-get_str.is) in
-    record {
-      numbers = c.in-Some.ensures.0;
-      fds = subst (λ o. IsRuleOf o specification.fds c.in-Some.limits.fds) (sym given) c.in-Some.ensures.1;
-    }
+-- the rule that the option is given, if it is, is that of a word
+of_rule : (given : Option Text) (default rule : FdRule) → IsRuleOf given default rule → (word : Option FdRule) × (given ≡ option_map fds_word word)
+of_rule None default rule is = (None, refl)
+of_rule (Some word) default rule is = (Some rule, ap Some is)
 
-pub returns-in-Some-fds_of : goal.returns-in-Some-fds_of
-returns-in-Some-fds_of c =
-    let given : first_of (codes "fds") (rows_of (found_of c.args.inner.now)) ≡ Some c.in-Some-get_str.word.now
-    = sym (first_value-rows (found_of c.args.inner.now) (codes "fds")) ∙ (sym c.get_str.ensures ∙ ap (option_map (λ s. s.now)) c.in-Some-get_str.is) in
-    subst (HasLimits (rows_of (found_of c.args.inner.now))) (sym c.with_fds.ensures) (record {
-      numbers = record { message = c.in-Some.ensures.0.message; array = c.in-Some.ensures.0.array; depth = c.in-Some.ensures.0.depth };
-      fds = subst (λ o. IsRuleOf o specification.fds c.in-Some-fds_of.fds) (sym given) c.in-Some-fds_of.ensures;
-    })
-
-pub returns-in-None : goal.returns-in-None
-returns-in-None c =
-    let given : first_of (codes "fds") (rows_of (found_of c.args.inner.now)) ≡ Some c.in-Some-get_str.word.now
-    = sym (first_value-rows (found_of c.args.inner.now) (codes "fds")) ∙ (sym c.get_str.ensures ∙ ap (option_map (λ s. s.now)) c.in-Some-get_str.is) in
-    unnamed_told _ c.bad_value.result c.bad_value.ensures
-    (λ limits named. c.in-None.ensures limits.fds (subst (λ o. IsRuleOf o specification.fds limits.fds) given named.fds))
+pub returns-in_err-fds : goal.returns-in_err-fds
+returns-in_err-fds c =
+    let rows = rows_of (found_of c.args.inner.now) in
+    let p = err_from_is_err_and c.from_residual.result c.from_residual.ensures.1 in
+    rw (p.1, p.2) (part_told (HasWord fds_word (codes "fds") rows) (HasLimits rows) (λ limits has. of_rule _ _ limits.fds has.fds) c.in_err-fds.field-0.0 c.in_err-fds.ensures)
