@@ -22,21 +22,24 @@ CASES = DATA.parent
 ROOT = CASES.parent
 READERS = ("read_cases.py", "read_cases.pl", "rewritten.py")
 ASKERS = ("run.py", "report.py", "ask_plain.py", "questions.py", "handshakes.py", "seen.py", "streams.py")
-SCRIPTS = ("README.md", *ASKERS, *READERS)
-DOCS = ("AUTHENTICATION.md", "FAULTS.md", "MATCH-RULES.md", "PEERS.md", "WIRE-FORMAT.md")
-PEERS = (".c", ".h", ".py")
+DOCS = ("AUTHENTICATION", "DECISIONS", "FAULTS", "MATCH-RULES", "PEERS", "SPECIFICATION", "WIRE-FORMAT")
+PEERS = ("answer.py", "peer.h", "main.c", "libdbus.c", "gdbus.c", "sdbus.c")
+IN_PYTHON = ("with_jeepney.py", "with_dbus_next.py", "with_dbus_fast.py")
+# What is behind this in README.md is not about the archive, which has no folder `cases`.
+OURS, FOLDER = "## In this repository", "cases/"
 
 
 def files(cases):
     """The files of the archive by their names, in order."""
     yield "LICENSE", (ROOT / "LICENSE").read_bytes()
     yield "VERSION", f"{VERSION}\n".encode()
+    text = (CASES / "README.md").read_text().partition(OURS)[0].replace(FOLDER, "")
+    yield "README.md", f"{text.rstrip()}\n".encode()
     yield "cases.jsonl", cases
     yield "rules.json", json.dumps(rules(), indent=1).encode()
-    names = [*SCRIPTS, *(f"data/{name}" for name in FILES)]
-    names += [f"peers/{it.name}" for it in (CASES / "peers").iterdir() if it.suffix in PEERS]
+    names = [*ASKERS, *READERS, *(f"data/{it}" for it in FILES), *(f"peers/{it}" for it in PEERS + IN_PYTHON)]
     yield from ((name, (CASES / name).read_bytes()) for name in sorted(names))
-    yield from ((f"docs/{name}", (ROOT / "docs" / name).read_bytes()) for name in DOCS)
+    yield from ((f"docs/{name}.md", (ROOT / "docs" / f"{name}.md").read_bytes()) for name in DOCS)
 
 
 def archive(cases):

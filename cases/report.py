@@ -16,9 +16,17 @@ from run import Answered, Asked, asked_of, difference, shown
 RULES = DATA.parent / "rules.json"
 # How many bytes are shown on both sides of a fault's place.
 AROUND = 24
-# What is mended first comes first.
-STOPS, TAKES, REFUSES = "gives no answer", "takes what is refused", "refuses what is right"
-ORDER = (STOPS, TAKES, REFUSES, OTHERWISE := "answers otherwise")
+# What is mended first comes first: it loses right messages, or those behind them.
+ORDER = (
+    STOPS := "gives no answer",
+    REFUSES := "refuses what is right",
+    WAITS := "waits for more of what is refused",
+    CHANGES := "encodes another body",
+    TAKES := "takes what is refused",
+    OTHERWISE := "answers otherwise",
+)
+# How many groups a summary shows an example of, and how many characters it has for each other.
+SHOWN, WIDTH = 4, 56
 BY_HEX = ("text", "line")
 
 
@@ -55,6 +63,12 @@ def rule_of(it):
 
 def name_of(it):
     return f"{it.case.file.removesuffix('.txt')}/{it.case.name}/{it.question.engine}"
+
+
+def is_named(asked, name):
+    """Whether a case has the name, or an answer to it is called so."""
+    whole = f"{asked.file.removesuffix('.txt')}/{asked.name}"
+    return name in (asked.name, whole) or name.startswith(f"{whole}/")
 
 
 def lines():
@@ -109,7 +123,8 @@ def counts_of(outcome, known, cases, is_plain):
     if not is_plain:
         return f"{cases} cases, {outcome.count} questions, {len(outcome.differing)} differ"
     by = f"{told} differ, {chosen} by choice, {len(outcome.differing) - told - chosen} known"
-    return f"{cases} cases: {outcome.agree} agree, {by}, {outcome.skipped} skipped"
+    left = f", {outcome.left} not asked" if outcome.left else ""
+    return f"{cases} cases: {outcome.agree} agree, {by}, {outcome.skipped} skipped{left}"
 
 
 def in_lines(outcome, known, cases, is_plain):
@@ -148,14 +163,19 @@ def verdict(answer):
 
 def kind_of(it):
     """What is wrong with an answer, and the reason, of the right answer or in the program's words."""
-    if it.answer in (None, "aborted"):
+    kind, answer = it.question.words.split(" ")[0], it.answer
+    if answer in (None, "aborted"):
         return STOPS, ""
+    if kind == "again":
+        return CHANGES, ""
     word, *rest = it.wanted.split(" ")
-    wanted, found = verdict(it.wanted), verdict(it.answer)
-    why = rest[1] if word == "refused" else f"{it.question.words.split(' ')[0]}: {word}"
+    why = rest[1] if word == "refused" else "the beginning of a message" if word == "partial" else f"{kind}: {word}"
+    wanted, found = verdict(it.wanted), verdict(answer)
+    if answer == "partial":
+        return (REFUSES, "waits for more") if wanted == "yes" else (WAITS, why)
     if wanted == found or "" in (wanted, found):
-        return OTHERWISE, why if wanted else it.question.words.split(" ")[0]
-    return (REFUSES, re.sub(r"\d+", "N", it.answer.partition(":")[2].strip())) if wanted == "yes" else (TAKES, why)
+        return OTHERWISE, why if wanted else kind
+    return (REFUSES, re.sub(r"\d+", "N", answer.partition(":")[2].strip())) if wanted == "yes" else (TAKES, why)
 
 
 def example(it):
@@ -169,22 +189,31 @@ def example(it):
     return f"{kind} {'..' if place and first else ''}{marked}{'..' if place and last < len(data) else ''}"
 
 
+def in_full(what, its, it):
+    places = ", ".join(f'"{section}"' for section in sections_for(it))
+    yield f"\n{what} ({len(its)} answers{'; ' if places else ''}{places})"
+    yield from (f"    {rule}" for rule in rule_of(it)[:1])
+    yield f"    for instance {name_of(it)}"
+    yield f"    {example(it)}"
+    yield f"    wanted {shown(it.wanted)}, found {shown(it.answer or 'no answer')}"
+
+
 def summary(outcome, known, cases, is_plain):
-    """What differs by what is wrong, worst first and then by how much: a line for each, and then an example of each."""
+    """What differs by what is wrong, worst first and then by how much: an example of each of the first, and then a line
+    for each other."""
     found = collections.defaultdict(list)
     for it in faults(outcome, known):
         found[kind_of(it)].append(it)
     groups = sorted(found.items(), key=lambda item: (ORDER.index(item[0][0]), -len(item[1])))
-    yield from (f"{len(its):5} {what}{': ' if why else ''}{why}" for (what, why), its in groups)
-    for (what, why), its in groups:
-        it = min(its, key=lambda it: len(it.question.words))
-        places = ", ".join(f'"{section}"' for section in sections_for(it))
-        yield f"\n{what}{': ' if why else ''}{why} ({len(its)} answers{'; ' if places else ''}{places})"
-        yield from (f"    {rule}" for rule in rule_of(it)[:1])
-        yield f"    for instance {name_of(it)}"
-        yield f"    {example(it)}"
-        yield f"    wanted {shown(it.wanted)}, found {shown(it.answer or 'no answer')}"
-    yield from ("", *outcome.ends, counts_of(outcome, known, cases, is_plain))
+    shortest = lambda its: min(its, key=lambda it: len(it.question.words))
+    told = [(": ".join(filter(None, kind)), its, shortest(its)) for kind, its in groups]
+    yield counts_of(outcome, known, cases, is_plain)
+    yield from (f"{text}{f', {n} times' * (n > 1)}" for text, n in collections.Counter(outcome.ends).items())
+    yield from ("\nMend first:",) if told else ()
+    yield from itertools.chain(*(in_full(*it) for it in told[:SHOWN]))
+    yield from ("\nThen these, of which --case shows more:\n",) if told[SHOWN:] else ()
+    for what, its, it in told[SHOWN:]:
+        yield f"{len(its):5} {what:{WIDTH}.{WIDTH}} {name_of(it).rpartition('/')[0]}"
 
 
 FORMS = {"summary": summary, "lines": in_lines, "json": in_json, "names": names, "junit": junit}

@@ -130,7 +130,7 @@ class Draft:
         self.put(usual_value(usual[0], usual[1:], self.order))
         types = self.text(1, b"y").decode()
         if types == "g" and code == SIGNATURE:
-            self.types = self.value("g").decode()
+            self.types = self.value("g").decode("latin1")
         elif types == "s" and code in NAMES_WITH_DOTS:
             self.value("s", b".")
         elif types == "u" and code == REPLY_SERIAL:

@@ -69,9 +69,9 @@ def peers():
 
 def judge(command, asked):
     """What differs, and how many refused inputs the peer waits behind, as they were and as rewritten."""
-    said, status = answers_of(command, asked, stderr=subprocess.DEVNULL)
-    if status:
-        sys.exit(f"{command}: status {status}")
+    said, ends = answers_of(command, asked, stderr=subprocess.DEVNULL)
+    if ends:
+        sys.exit(f"{command}: {ends[0]}")
     told, waits = [], [0, 0]
     for case, question, answer, wanted in said:
         was = not question.engine.endswith("rewritten")
