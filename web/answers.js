@@ -4,11 +4,13 @@
 // is still an experiment.
 
 const fs = require("node:fs");
-const { Reader, entries } = require("./reader.js");
-const { readRule, matchesRule } = require("./rule.js");
-const { handshakeLength } = require("./side.js");
-const { Rows, answersOf } = require("./tables.js");
 
+// The page's scripts but page.js, as build.py puts them together.
+const read = (it) => fs.readFileSync(`${__dirname}/${it}`, "utf8");
+const source = ["reader.js", "tables.js", "side.js", "rule.js"].map(read).join("\n");
+const { Reader, Rows, answersOf, entries, handshakeLength, matchesRule, readRule } = new Function(
+  `${source}\nreturn { Reader, Rows, answersOf, entries, handshakeLength, matchesRule, readRule };`,
+)();
 const compiled = new WebAssembly.Module(fs.readFileSync(process.argv[2]));
 
 // The numbers of the messages that match, or why the rule is none.
@@ -27,7 +29,7 @@ function answer(data, rule) {
     return null;
   }
   const reader = new Reader(compiled, data.subarray(skipped)), rows = new Rows(reader);
-  for (const entry of entries(reader)) {
+  for (const entry of [...entries(reader)].filter((it) => !it.isPause)) {
     rows.learn(rows.add(entry));
   }
   return { ...answersOf(reader, rows), matching: rule === undefined ? null : matching(rows, rule) };

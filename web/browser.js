@@ -83,32 +83,28 @@ class Browser {
       const row = find(\`row-\${state.active}\`);
       return row ? [[...row.children].map((cell) => cell.textContent), find("details").querySelector("pre").textContent, find("details").querySelector(".line").textContent] : null;
     }) })`));
-    return { ...answers, ...(await this.shownBy("type='method_call'", "DBus")), chosen: await this.chosen() };
+    return { ...answers, ...(await this.tried("type='method_call'", "DBus")) };
   }
 
-  // The numbers of the messages that are shown by a match rule and a word; what is saved of them; and their command.
-  async shownBy(rule, word) {
+  // The numbers of the messages that are shown by a match rule and a word, what is saved of them, and their command; and
+  // those of the calls that each choice shows, by the words of `calls`, with the tables of members and of counts.
+  async tried(rule, word) {
     return this.value(`(async () => {
       [find("rule").value, find("words").value] = ${JSON.stringify([rule, word])};
       await filter();
       const calls = state.shown.map((it) => state.rows.at(it)).filter((it) => it.isWhole).map((it) => it.number);
-      const shown = { calls, saved: [...new Uint8Array(await pcap().arrayBuffer())], command: command() };
+      const tried = { calls, saved: [...new Uint8Array(await pcap().arrayBuffer())], command: command(), chosen: {} };
       find("rule").value = find("words").value = "";
-      return shown;
-    })()`);
-  }
-
-  // The numbers of the calls that each choice shows, by the words of `calls`, and the table of members.
-  async chosen() {
-    return this.value(`(async () => {
-      const chosen = {};
       for (const choice of [...Object.keys(CALLS), ""]) {
         find("only").value = choice;
         await filter();
-        chosen[CALLS[choice] ?? "all"] = state.shown.map((it) => it + 1);
+        Object.assign(tried.chosen, choice && { [CALLS[choice]]: state.shown.map((it) => it + 1) });
       }
-      await members();
-      return { ...chosen, all: undefined, members: find("details").querySelector("pre").textContent };
+      for (const table of [members, counts]) {
+        await table();
+        tried.chosen[table.name] = find("details").querySelector("pre").textContent;
+      }
+      return tried;
     })()`);
   }
 }

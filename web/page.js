@@ -34,7 +34,7 @@ async function readBytes(bytes, name, isGzip = false) {
     state.isGzip = isGzip;
     const { reader, rows } = state;
     const far = (what, part, all) => tell(`${what} ${name}: ${percent(part, all)}, ${rows.count} messages`);
-    const show = (entry) => state.shown.push(rows.add(entry));
+    const show = (entry) => entry.isPause || state.shown.push(rows.add(entry));
     await inTurns(run, entries(reader), show, (it) => far("Reading", it.offset + it.length, reader.length));
     // The list is there; then its lines get what other messages tell.
     const learn = (row) => rows.learn(row);
@@ -75,7 +75,7 @@ async function inTurns(run, items, take, tellItem) {
     take(item);
     if (performance.now() > end) {
       tellItem(item);
-      draw();
+      draw(true);
       await new Promise((resume) => setTimeout(resume));
       if (run !== state.run) {
         return false;
@@ -130,8 +130,8 @@ async function filter() {
     return;
   }
   const run = (state.run += 1), count = countRows(), only = find("only").value;
-  state.shown = [];
-  state.active = -1;
+  Object.assign(state, { shown: [], active: -1 });
+  draw();
   const isDone = await inTurns(run, Array(count).keys(), (row) => {
     const it = state.rows.at(row);
     if (CHOICES[only](it) && (isWanted(row) || (only === "pairs" && it.pair >= 0 && isWanted(it.pair)))) {
@@ -198,9 +198,13 @@ function firstRow() {
   return way <= 0 ? 0 : Math.min(lastTop(), Math.round((find("list").scrollTop / way) * lastTop()));
 }
 
-function draw() {
+// If rows came behind those that were shown, these are drawn anew only if there is room.
+function draw(hasMore) {
   const list = find("list"), first = firstRow();
   find("space").style.height = `${listHeight()}px`;
+  if (hasMore === true && find("seen").children.length > wholeRows()) {
+    return;
+  }
   const rows = state.shown.slice(first, first + wholeRows() + 1).map((row, at) => rowElement(seenOf(row), first + at));
   const top = Math.min(list.scrollTop, Math.max(0, listHeight() - rows.length * rowHeight()));
   find("seen").style.transform = `translateY(${top}px)`;
@@ -275,17 +279,10 @@ function scrollTo(place) {
 
 function pressKey(event) {
   const page = wholeRows(), last = state.shown.length - 1;
-  const places = {
-    ArrowDown: Math.min(last, state.active + 1),
-    ArrowUp: Math.max(0, state.active - 1),
-    PageDown: Math.min(last, state.active + page),
-    PageUp: Math.max(0, state.active - page),
-    Home: 0,
-    End: last,
-  };
-  if (event.key in places) {
+  const steps = { ArrowDown: 1, ArrowUp: -1, PageDown: page, PageUp: -page, Home: -Infinity, End: Infinity };
+  if (event.key in steps) {
     event.preventDefault();
-    choose(places[event.key]);
+    choose(Math.max(0, Math.min(last, state.active + steps[event.key])));
   } else if (event.key === "Enter" && state.active >= 0) {
     find("details").focus();
   }
@@ -308,11 +305,40 @@ const milliseconds = (time) => {
   return `${time < 0n ? "-" : ""}${digits.slice(0, -3)}.${digits.slice(-3)}`;
 };
 
+// Hands each row on, and then shows the lines that are made of them.
+async function showTable(title, rows, take, linesOf) {
+  if (state.rows && (await inTurns(state.run, rows, take, () => tell("Counting …")))) {
+    find("details").replaceChildren(element("h2", title), element("pre", linesOf().join(""), { tabindex: 0 }));
+    tellEnd(state.name);
+  }
+}
+
+const compare = (a, b) => Number(a > b) - Number(a < b);
+const memberOf = ({ interface: its, member }) => (its && member ? `${its}.${member}` : member);
+const shownRows = () => state.shown.map((it) => state.rows.at(it));
+
+// The tables of `count` of the messages shown.
+function counts() {
+  const words = ["type", "sender", "destination", "interface", "member", "error"], tables = words.map(() => new Map());
+  const take = ({ index, length }) => {
+    const said = state.rows.said(index), type = Number.isInteger(said.type) ? `kind${said.type}` : said.type;
+    const names = { ...said, type, member: memberOf(said), error: said.error_name };
+    words.map((it) => names[it]).forEach((name, at) => {
+      const { messages, bytes } = tables[at].get(name) ?? { messages: 0, bytes: 0 };
+      tables[at].set(name, { word: words[at], name, messages: messages + 1, bytes: bytes + length });
+    });
+  };
+  const sorted = (table) => [...table.values()].sort((a, b) => b.messages - a.messages || compare(a.name, b.name));
+  const line = ({ word, name, messages, bytes }) => `${messages} messages ${bytes} bytes ${word} ${name}\n`;
+  const lines = () => tables.flatMap(sorted).filter((it) => it.name !== undefined).map(line);
+  return showTable("Messages shown, by name", shownRows().filter((it) => it.isWhole), take, lines);
+}
+
 // The table of `calls --members` of the calls shown.
-async function members() {
-  const sums = new Map(), calls = state.shown.map((it) => state.rows.at(it)).filter((it) => it.isCall || it.isUnwanted);
-  const isDone = await inTurns(state.run, calls, (row) => {
-    const said = state.rows.said(row.index), name = said.interface ? `${said.interface}.${said.member}` : said.member;
+function members() {
+  const sums = new Map(), calls = shownRows().filter((it) => it.isCall || it.isUnwanted);
+  const take = (row) => {
+    const name = memberOf(state.rows.said(row.index));
     const sum = sums.get(name) ?? { name, calls: 0, replies: 0, errors: 0, open: 0, unwanted: 0, times: [] };
     const answered = row.pair < 0 ? "open" : state.rows.at(row.pair).isError ? "errors" : "replies";
     const time = answered === "replies" ? took(row) : null;
@@ -320,20 +346,17 @@ async function members() {
     sum[row.isUnwanted ? "unwanted" : answered] += 1;
     sum.times.push(...(time === null ? [] : [time > 0n ? time : 0n]));
     sums.set(name, sum);
-  }, () => tell("Counting the calls …"));
-  if (isDone && state.rows) {
-    const sum = (times) => times.reduce((a, b) => a + b, 0n), compare = (a, b) => Number(a > b) - Number(a < b);
-    const rows = [...sums.values()].map((it) => ({ ...it, total: sum(it.times) }));
+  };
+  const lines = () => {
+    const rows = [...sums.values()].map((it) => ({ ...it, total: it.times.reduce((a, b) => a + b, 0n) }));
     rows.sort((a, b) => compare(b.total, a.total) || b.calls - a.calls || compare(a.name, b.name));
-    const lines = rows.map(({ name, calls, replies, errors, open, total, times }) => {
+    return rows.map(({ name, calls, replies, errors, open, total, times }) => {
       const each = [["total", total], ["mean", total / BigInt(times.length || 1)], ["longest", times.sort(compare).at(-1)]];
       const lasted = times.length ? each.map(([word, it]) => `${milliseconds(it)} ms ${word} `).join("") : "";
       return `${calls} calls ${replies} replies ${errors} errors ${open} no reply ${lasted}${name}\n`;
     });
-    const title = element("h2", "Calls shown, by member");
-    find("details").replaceChildren(title, element("pre", lines.join(""), { tabindex: 0 }));
-    tellEnd(state.name);
-  }
+  };
+  return showTable("Calls shown, by member", calls, take, lines);
 }
 
 // ---- Taking away what is shown
@@ -356,7 +379,7 @@ function command() {
 // The messages shown as a pcap file, with times in nanoseconds: 0 of those that have none.
 function pcap() {
   const parts = [Uint32Array.of(0xa1b23c4d, 0x00040002, 0, 0, 0x08000000, 231)];
-  for (const { index, offset, length } of state.shown.map((it) => state.rows.at(it)).filter((it) => it.isWhole)) {
+  for (const { index, offset, length } of shownRows().filter((it) => it.isWhole)) {
     const time = state.rows.time(index) ?? 0n;
     const head = [Number(time / NANOSECONDS), Number(time % NANOSECONDS), length, length];
     parts.push(Uint32Array.from(head), state.reader.part(offset, offset + length));
@@ -498,14 +521,13 @@ function hexElement(offset, end, fault) {
 
 function hexLine(offset, start, end, fault) {
   const bytes = state.reader.part(offset + start, offset + end);
-  const parts = [document.createTextNode(`${start.toString(16).padStart(8, "0")} `)];
-  const marked = start <= fault && fault < start + HEX_BYTES ? fault - start : -1;
-  for (let at = 0; at < HEX_BYTES; at += 1) {
-    const text = at < bytes.length ? bytes[at].toString(16).padStart(2, "0") : at === marked ? "[]" : "  ";
-    parts.push(document.createTextNode(" "), at === marked ? element("mark", text) : document.createTextNode(text));
-  }
+  const cells = Array.from({ length: HEX_BYTES }, (_, at) => {
+    const isAtFault = start + at === fault;
+    const text = at < bytes.length ? bytes[at].toString(16).padStart(2, "0") : isAtFault ? "[]" : "  ";
+    return [" ", isAtFault ? element("mark", text) : text];
+  });
   const letters = [...bytes].map((it) => (it > 31 && it < 127 ? String.fromCharCode(it) : ".")).join("");
-  return [...parts, document.createTextNode(`  ${letters}\n`)];
+  return [`${start.toString(16).padStart(8, "0")} `, ...cells.flat(), `  ${letters}\n`];
 }
 
 // ---- The page
@@ -534,18 +556,15 @@ async function begin() {
     return;
   }
   const take = ({ files }) => files[0] && readFile(files[0]);
+  const acts = { "read-hex": readHex, sample: () => readBytes(bytesOf(SAMPLE), "calls.pcap"), members, counts, save };
+  Object.entries(acts).forEach(([id, act]) => find(id).addEventListener("click", act));
   find("file").addEventListener("change", (event) => take(event.target));
-  find("read-hex").addEventListener("click", readHex);
-  find("words").addEventListener("input", typeFilter);
-  find("rule").addEventListener("input", typeFilter);
+  ["words", "rule"].forEach((id) => find(id).addEventListener("input", typeFilter));
   find("only").addEventListener("change", filter);
-  find("members").addEventListener("click", members);
   find("diagram").addEventListener("change", showDiagram);
   find("list").addEventListener("scroll", draw);
   find("list").addEventListener("keydown", pressKey);
   document.querySelector("main").addEventListener("keydown", pressAnyKey);
-  find("sample").addEventListener("click", () => readBytes(bytesOf(SAMPLE), "calls.pcap"));
-  find("save").addEventListener("click", save);
   find("save").before(copyButton("Copy command", command));
   document.addEventListener("dragover", (event) => event.preventDefault());
   document.addEventListener("drop", (event) => [event.preventDefault(), take(event.dataTransfer)]);

@@ -55,17 +55,9 @@ class Reader {
   }
 
   // Places as the module takes them.
-  toldAt(place) {
-    return BigInt(this.told + place);
-  }
-
-  input(offset, length) {
-    return slice(this.data + offset, length);
-  }
-
-  number(place) {
-    return Number(this.view.getBigUint64(this.told + place, true));
-  }
+  toldAt = (place) => BigInt(this.told + place);
+  input = (offset, length) => slice(this.data + offset, length);
+  number = (place) => Number(this.view.getBigUint64(this.told + place, true));
 
   // Takes the messages' bytes out of the file, and returns them and their parts.
   unpack(partsRoom, length) {
@@ -86,12 +78,8 @@ class Reader {
   timeAt(offset) {
     let low = 0, high = this.partCount;
     while (high - low > 1) {
-      const middle = (low + high) >> 1;
-      if (Number(this.view.getBigUint64(this.parts + middle * PART_BYTES, true)) <= offset) {
-        low = middle;
-      } else {
-        high = middle;
-      }
+      const middle = (low + high) >> 1, start = this.view.getBigUint64(this.parts + middle * PART_BYTES, true);
+      [low, high] = start <= offset ? [middle, high] : [low, middle];
     }
     const part = this.parts + low * PART_BYTES;
     return high > low && this.view.getBigUint64(part + 16, true) ? this.view.getBigUint64(part + 8, true) : null;
@@ -104,9 +92,7 @@ class Reader {
   }
 
   // Whether the byte may be a message's first one.
-  isOrder(offset) {
-    return this.bytes[this.data + offset] === LITTLE || this.bytes[this.data + offset] === BIG;
-  }
+  isOrder = (offset) => [LITTLE, BIG].includes(this.bytes[this.data + offset]);
 
   // The size that 16 bytes state, whatever else they say, or 0.
   stated(offset) {
@@ -119,22 +105,26 @@ class Reader {
     return fields > MOST_FIELDS || size > MOST_BYTES ? 0 : size;
   }
 
-  // Where messages begin again behind a refused one, or null: in a capture by its size, else as `--resync` does.
-  goOn(offset, at) {
+  // Where messages begin again behind a refused one, or null: in a capture by its size, else as `--resync` does, with a
+  // pause before each message that is tried.
+  *goOn(offset, at) {
     const stated = this.stated(offset), behind = offset + stated, isThere = stated > 0 && behind <= this.length;
     if (!this.isRaw) {
       return isThere ? behind : null;
     }
     const most = Math.max(0, EFFORT * WINDOW - Math.max(0, this.looked + at - EFFORT * offset));
-    const { found, looked } = this.seek(offset, Math.min(this.length, offset + WINDOW), behind, most);
+    const { found, looked } = yield* this.seek(offset, Math.min(this.length, offset + WINDOW), behind, most);
     this.looked = Math.min(this.looked + at + looked, Math.max(this.looked, EFFORT * (offset + WINDOW)));
     return found ?? (stated > WINDOW && isThere ? behind : null);
   }
 
   // The same within an effort: where the size leads, if messages go on there, or else at the first one.
-  seek(offset, end, behind, most) {
+  *seek(offset, end, behind, most) {
     let looked = 0, isLed = behind > offset && behind <= end;
     for (let at = isLed ? behind : offset; isLed || at < end; at = isLed ? offset : at + 1, isLed = false) {
+      if (this.isOrder(at)) {
+        yield { isPause: true, offset: at, length: 0 };
+      }
       const { answer, length } = at < end && this.isOrder(at) ? this.next(at, end) : { answer: REFUSED, length: 0 };
       const left = end - at, size = length <= left ? length : 0;
       if (size > most - looked) {
@@ -150,9 +140,7 @@ class Reader {
   }
 
   // Writes numbers at a place, one after another.
-  tell(place, numbers) {
-    numbers.forEach((it, at) => this.view.setBigUint64(this.told + place + 8 * at, BigInt(it), true));
-  }
+  tell = (place, all) => all.forEach((it, at) => this.view.setBigUint64(this.told + place + 8 * at, BigInt(it), true));
 
   tellPlace(number, offset, length) {
     const time = this.timeAt(offset + length - 1);
@@ -195,9 +183,8 @@ class Reader {
   }
 
   // The name of the reason why no message begins at the offset.
-  reason(offset) {
-    return this.written((...room) => this.calls.dbus_page_reason(...this.input(offset, this.length - offset), ...room));
-  }
+  reason = (offset) =>
+    this.written((...room) => this.calls.dbus_page_reason(...this.input(offset, this.length - offset), ...room));
 
   // Why no message begins at the offset: the lines of `dbus-wire check --explain`.
   explain(number, offset) {
@@ -206,9 +193,7 @@ class Reader {
   }
 
   // The text that a call writes, with as much room as it takes.
-  written(call) {
-    return DECODER.decode(this.writtenBytes(call));
-  }
+  written = (call) => DECODER.decode(this.writtenBytes(call));
 
   writtenBytes(call) {
     for (;;) {
@@ -222,15 +207,11 @@ class Reader {
   }
 
   // A copy of bytes of the input.
-  part(start, end) {
-    return this.bytes.slice(this.data + start, this.data + Math.min(end, this.length));
-  }
+  part = (start, end) => this.bytes.slice(this.data + start, this.data + Math.min(end, this.length));
 }
 
 // A slice as the module takes it.
-function slice(address, length) {
-  return [BigInt(address), BigInt(length)];
-}
+const slice = (address, length) => [BigInt(address), BigInt(length)];
 
 // The pages are a number of 64 bits, but older engines take a plain one.
 function growMemory(memory, pages) {
@@ -241,16 +222,12 @@ function growMemory(memory, pages) {
   }
 }
 
-// Each message of the input, and each place at which there is none, with what is passed over there.
+// Each message of the input, and each place at which there is none, with what is passed over there; and pauses.
 function* entries(reader) {
   reader.looked = 0;
   for (let offset = 0, end = 0; end !== null && offset < reader.length; offset = end) {
     const { answer, length, at } = reader.next(offset);
-    end = answer === WHOLE ? offset + length : reader.goOn(offset, at);
+    end = answer === WHOLE ? offset + length : yield* reader.goOn(offset, at);
     yield { offset, length: (end ?? reader.length) - offset, isWhole: answer === WHOLE, isPartial: answer === PARTIAL };
   }
-}
-
-if (typeof module !== "undefined") {
-  module.exports = { Reader, entries };
 }

@@ -1,4 +1,3 @@
-"use strict";
 // Match rules, read from their text and asked of the line of JSON of a message. docs/MATCH-RULES.md says what they mean. No name has an owner here: `sender` is
 // compared with the sender alone.
 
@@ -38,16 +37,9 @@ function keyOf(name) {
   if (digits === undefined || at > 63) {
     return null;
   }
-  if (!path) {
-    return [() => true, (said, value) => textAt(said, at, ["s"]) === value];
-  }
-  return [
-    () => true,
-    (said, value) => {
-      const text = textAt(said, at, ["s", "o"]);
-      return text !== undefined && (text === value || isStart(text, value) || isStart(value, text));
-    },
-  ];
+  const types = path ? ["s", "o"] : ["s"], isWithin = (text, value) => isStart(text, value) || isStart(value, text);
+  const holds = (text, value) => text === value || (path !== undefined && text !== undefined && isWithin(text, value));
+  return [() => true, (said, value) => holds(textAt(said, at, types), value)];
 }
 
 // Why a text is no rule: the reason, and its place in bytes.
@@ -84,14 +76,10 @@ function pairAt(text, start, names) {
     throw new RuleFault(text, end, "NoEquals");
   }
   const name = text.slice(start, end), key = keyOf(name);
-  if (!key) {
-    throw new RuleFault(text, start, "KeyName");
-  }
-  if (names.includes(name)) {
-    throw new RuleFault(text, start, "KeyTwice");
-  }
-  if (["path", "path_namespace"].every((it) => it === name || names.includes(it))) {
-    throw new RuleFault(text, start, "PathAndNamespace");
+  const isBoth = ["path", "path_namespace"].every((it) => it === name || names.includes(it));
+  const reason = !key ? "KeyName" : names.includes(name) ? "KeyTwice" : isBoth ? "PathAndNamespace" : null;
+  if (reason) {
+    throw new RuleFault(text, start, reason);
   }
   const [value, after] = valueAt(text, end + 1);
   if (!key[0](value)) {
@@ -107,18 +95,15 @@ function readRule(text) {
     throw new RuleFault(text, nul, "Nul");
   }
   const pairs = [];
-  for (let at = 0; ; at += 1) {
+  for (let at = 0; at < text.length; at += 1) {
     at += text.slice(at).search(/[^ ]|$/);
-    if (at === text.length) {
-      return pairs;
-    }
-    const [pair, end] = pairAt(text, at, pairs.map((it) => it.name));
-    pairs.push(pair);
-    at = end;
-    if (at === text.length) {
-      return pairs;
+    if (at < text.length) {
+      const [pair, end] = pairAt(text, at, pairs.map((it) => it.name));
+      pairs.push(pair);
+      at = end;
     }
   }
+  return pairs;
 }
 
 // The code of each value's type by its first character, of a signature.
@@ -144,8 +129,4 @@ function matchesRule(pairs, line) {
   const said = JSON.parse(line);
   said.types = firstCodes(said.signature ?? "");
   return pairs.every((it) => it.holds(said, it.value));
-}
-
-if (typeof module !== "undefined") {
-  module.exports = { readRule, matchesRule };
 }

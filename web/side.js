@@ -1,8 +1,6 @@
-"use strict";
 // The handshake at the start of what one side of a connection sent. docs/AUTHENTICATION.md has its lines.
 
-const MOST_LINES = 1024, MOST_LINE_BYTES = 16384;
-const LF = 10;
+const MOST_LINES = 1024, MOST_LINE_BYTES = 16384, LF = 10;
 const CLIENT_LINE = /^(AUTH( +[^ ]+( +([0-9A-Fa-f]{2})+)?)? *|CANCEL *|BEGIN *|DATA( +([0-9A-Fa-f]{2})+)? *|ERROR( .*)?|NEGOTIATE_UNIX_FD *)$/s;
 const SERVER_LINE = /^(REJECTED( .*)?|OK +[0-9A-Fa-f]{32} *|DATA( +([0-9A-Fa-f]{2})+)? *|ERROR( .*)?|AGREE_UNIX_FD *)$/s;
 // No message and no captured file begins so.
@@ -38,8 +36,4 @@ function handshakeLength(bytes) {
     }
   }
   return null;
-}
-
-if (typeof module !== "undefined") {
-  module.exports = { handshakeLength };
 }

@@ -1,4 +1,3 @@
-"use strict";
 // What is kept of an input: a row of numbers for each message, which calls wait, and who has which name. The module
 // says what each message tells of it; here are the tables, by the rules of the crates dbus_calls and dbus_names.
 
@@ -21,9 +20,7 @@ function mayAnswer(destinationOf, sender) {
 
 // The calls that wait for a reply, at most one of each caller and serial.
 class OpenCalls {
-  constructor() {
-    this.callers = new Map();
-  }
+  callers = new Map();
 
   // The call that the event of a message answers, or null. A call that it is opens, if there is one to keep.
   take(event, call) {
@@ -45,12 +42,10 @@ class OpenCalls {
 
 // Who has which name, and by which name each connection is known, from which row on.
 class Names {
-  constructor() {
-    this.calls = new OpenCalls();
-    this.owners = new Map();
-    this.first = new Map();
-    this.known = new Map();
-  }
+  calls = new OpenCalls();
+  owners = new Map();
+  first = new Map();
+  known = new Map();
 
   take(event, row) {
     const { says, name, unique } = event;
@@ -99,9 +94,7 @@ class Names {
   }
 
   // The same at a row.
-  at(unique, row) {
-    return this.known.get(unique)?.findLast((it) => it.row <= row)?.name ?? null;
-  }
+  at = (unique, row) => this.known.get(unique)?.findLast((it) => it.row <= row)?.name ?? null;
 }
 
 // A row for each entry of an input: where and what it is, and the number of its call or its reply, or 0.
@@ -164,18 +157,10 @@ class Rows {
     };
   }
 
-  json(row) {
-    return this.reader.json(row + 1, this.offsets[row], this.lengths[row]);
-  }
-
-  said(row) {
-    return JSON.parse(this.json(row));
-  }
-
+  json = (row) => this.reader.json(row + 1, this.offsets[row], this.lengths[row]);
+  said = (row) => JSON.parse(this.json(row));
   // When it was captured, in nanoseconds, or null.
-  time(row) {
-    return this.reader.timeAt(this.offsets[row] + this.lengths[row] - 1);
-  }
+  time = (row) => this.reader.timeAt(this.offsets[row] + this.lengths[row] - 1);
 
   // The line of `list` of a message, of at most so many cells, or 0. `said` is its JSON.
   line(row, said, width) {
@@ -203,8 +188,4 @@ function answersOf(reader, rows) {
     }
   }
   return answers;
-}
-
-if (typeof module !== "undefined") {
-  module.exports = { Rows, answersOf };
 }

@@ -8,8 +8,8 @@ it begins as one side of a connection; those of `list` with it, of 100 cells and
 fault; its explanation, of which the bytes are left out if the input is a capture, since dbus-wire shows only those that it
 has read; and the place of the fault of a file. Of the page also: the cells of the first row and the last; which messages it
 shows by a rule and a word, what it saves of them, and what the command that it gives writes; and which calls its choices
-show, and its table of members, by what `calls` writes. It reads each second input by gzip. Of rules: which messages of
-the samples `filter` writes; and what the cases say of rules and of messages that match.
+show, and its tables of members and of counts, by what `calls` and `count` write. It reads each second input by gzip. Of
+rules: which messages of the samples `filter` writes; and what the cases say of rules and of messages that match.
 """
 
 import concurrent.futures as futures
@@ -35,6 +35,8 @@ from read_cases import DATA, read_bytes, read_cases, read_parts  # noqa: E402
 REFUSED = re.compile(r"refused at (\d+): (\S+) in message (\d+) at (\d+)(?: in packet \d+)?\n((?:  .*\n){3,4})?")
 CUT = re.compile(rb"^capture: \d+ cut packets? passed over$", re.M)
 FAULT = re.compile(r"^capture refused at (\d+): ", re.M)
+# The last line of `count`, if messages have times.
+TIMES = re.compile(r"^\d+ messages in .*\n", re.M)
 # The files with bytes of messages, and the columns that have them.
 COLUMNS = {"messages": (2, 3), "faults": (2, 3), "streams": (2,), "printed": (2,)}
 # What is asked of each message of the samples.
@@ -113,13 +115,13 @@ def written(program, data):
 
 
 def calls_of(program, data, how):
-    """The numbers of the calls that `calls` lists, the slowest first, and its table."""
-    run = lambda *words: subprocess.run([program, "calls", *words, *how], input=data, capture_output=True).stdout.decode()
-    rows = {it: [json.loads(row) for row in run(*it.split(), "--json").splitlines()] for it in CHOICES}
+    """The numbers of the calls that `calls` lists, the slowest first, its table, and those of `count`."""
+    run = lambda *words: subprocess.run([program, *words, *how], input=data, capture_output=True).stdout.decode()
+    rows = {it: [json.loads(row) for row in run("calls", *it.split(), "--json").splitlines()] for it in CHOICES}
     for it in CHOICES:
         rows[it].sort(key=lambda row: (-row["milliseconds"] if it == CHOICES[0] else 0, row["number"]))
     numbers = {it: [row["number"] for row in rows[it]] for it in CHOICES}
-    return {**numbers, "members": run("--members")}
+    return {**numbers, "members": run("calls", "--members"), "counts": TIMES.sub("", run("count"))}
 
 
 def compared(answers, data):
