@@ -10,9 +10,8 @@ use Rattle.dbus_capture.specs.Scans.{place, fresh}
 use Rattle.dbus_capture.specs.Steps.{run, given, packet_given, ended}
 use Rattle.dbus_capture.specs.Reading.{IsReadOf}
 use Rattle.dbus_capture.specs.CutPackets.{whole_payload, whole_count, cut_count}
-use Rattle.dbus_capture.specs.BlockFiles.{FitsBody, FileBlock, block_body, FitsBlock, FileSection, FitsSection, AllFitSections, sections_bytes}
+use Rattle.dbus_capture.specs.BlockFiles.{FitsBody, FileBlock, block_body, FitsBlock, FileSection, FitsSection, AllFitSections, sections_bytes, interfaces_all, last_section}
 use Rattle.dbus_capture.specs.BlockPackets.{sections_packets}
-use Rattle.dbus_capture.specs.BlockFaults.{interfaces_all, last_section}
 use Rattle.dbus_capture.specs.Packets.{Reports, IsTimed, interface_of, packet_original, packet_bytes, packet_time, block_front, pcapng_packet_reported}
 use Rattle.dbus_device.specs.declared.packet.Packet.{Packet}
 use Rattle.dbus_capture.proofs.PacketSteps.{packet_after}

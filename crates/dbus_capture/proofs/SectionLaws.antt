@@ -14,10 +14,9 @@ use Rattle.dbus_capture.specs.Scans.{place, fresh, refused}
 use Rattle.dbus_capture.specs.Blocks.{is_length, order_mark, section_by, section_head, decoded, decoded_by}
 use Rattle.dbus_capture.specs.Steps.{Turn, Gathers, run, told, given, turn_of, may_end, ended}
 use Rattle.dbus_capture.specs.Reading.{Ready, InSection}
-use Rattle.dbus_capture.specs.BlockFiles.{FitsBody, framed_bytes, FileBlock, InterfaceBlock, PacketBlock, ObsoleteBlock, SimpleBlock, OtherBlock, block_bytes, block_body, blocks_bytes, interfaces_after, FitsBlock, AllFitBlocks, FileSection, section_body, section_bytes, FitsSection, sections_bytes, AllFitSections}
+use Rattle.dbus_capture.specs.BlockFiles.{FitsBody, framed_bytes, FileBlock, InterfaceBlock, PacketBlock, ObsoleteBlock, SimpleBlock, OtherBlock, block_bytes, block_body, blocks_bytes, interfaces_after, FitsBlock, AllFitBlocks, FileSection, section_body, section_bytes, FitsSection, sections_bytes, AllFitSections, interfaces_all, last_section}
 use Rattle.dbus_capture.specs.CutPackets.{Captured, whole_payload}
 use Rattle.dbus_capture.specs.BlockPackets.{block_packets, blocks_packets, sections_packets}
-use Rattle.dbus_capture.specs.BlockFaults.{interfaces_all, last_section}
 use Rattle.dbus_capture.proofs.Choices.{eq_is, both_true, when_true}
 use Rattle.dbus_capture.proofs.KeptLaws.{kept_then, kept_as, kept_moved, kept_still, payload_both, whole_both, cut_both}
 use Rattle.dbus_capture.proofs.NumberLaws.{u32_size, u16_size, u32_after, u16_after, part_after}

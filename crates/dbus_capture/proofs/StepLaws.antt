@@ -1,11 +1,13 @@
 -- How many bytes at once are read as they are one by one.
-use Rattle.std.proofs.Common.{◌≡◌, ℕ, zero, suc, ◌-◌, ◌≤◌, Bool, true, false, List, [], ◌∷◌, ◌++◌, length, Option, Some, None, is_some, refl, ap, ◌∙◌, arith}
+use Rattle.std.proofs.Common.{◌≡◌, ℕ, zero, suc, ◌+◌, ◌-◌, ◌≤◌, ◌^◌, Bool, true, false, cond, List, [], ◌∷◌, ◌++◌, length, Option, Some, None, is_some, refl, ap, ◌∙◌, arith}
 use Rattle.dbus_capture.specs.declared.fault.CaptureFault.{CaptureFault}
 use Rattle.dbus_capture.specs.declared.stage.Stage.{Stage}
 use Rattle.dbus_capture.specs.declared.stage.Stage.TheVariants.{Raw}
 use Rattle.dbus_capture.specs.Stages.{is_raw, is_filed}
 use Rattle.dbus_capture.specs.declared.scan.Scan.{Scan}
-use Rattle.dbus_capture.specs.Steps.{Turn, Stays, Passes, Gives, Skips, Gathers, turn_by, turn_of, stepped, with_byte, step, run, told, given}
+use Rattle.dbus_capture.specs.Steps.{Turn, Stays, Passes, Gives, Skips, Gathers, turn_by, turn_of, stepped, with_byte, step, run, told, given, may_end, ended}
+use Rattle.dbus_capture.specs.Scans.{place}
+use Rattle.dbus_capture.specs.declared.fault.CaptureReason.TheVariants.{Truncated}
 
 -- ---- any pieces
 
@@ -132,3 +134,15 @@ run_skips s (x ∷ xs) p q z h =
       run_first s x Skips xs t ∙ rest.0 ∙ ap (λ (n : ℕ). record s { skip = n }) left,
       given_first s x Skips xs t ∙ rest.1,
     )
+
+-- ---- after a fault
+
+ended_stopped : (s : Scan) (f : CaptureFault) → s.fault ≡ Some f → (ended s).fault ≡ Some f
+ended_stopped s f e =
+    let cut : Scan = record s { fault = Some (record { at = place (s.next + length s.head.bytes + 2 ^ 64 - place (s.give + s.skip)); reason = Truncated }) } in
+    ap (λ (v : Option CaptureFault). (cond (may_end (turn_by v (is_raw s.head.stage) s.give s.skip) s.head.stage s.head.bytes) s cut).fault) e ∙ e
+
+pub stopped_after : (s t : Scan) (h more : List ℕ) (f : CaptureFault) → run s h ≡ t → t.fault ≡ Some f → (ended (run s (h ++ more))).fault ≡ Some f
+stopped_after s t h more f e p =
+    let stops = (run_stopped t more (ap is_some p)).0 in
+    ap (λ (v : Scan). (ended v).fault) (run-append s h more ∙ ap (λ (v : Scan). run v more) e ∙ stops) ∙ ended_stopped t f p

@@ -159,3 +159,13 @@ AllFitSections passes_cut (s ∷ sections) = FitsSection passes_cut s × AllFitS
 abbrev pub sections_bytes : List FileSection → List ℕ
 sections_bytes [] = []
 sections_bytes (s ∷ sections) = section_bytes s ++ sections_bytes sections
+
+-- the interfaces after blocks
+abbrev pub interfaces_all : List Interface → List FileBlock → List Interface
+interfaces_all interfaces [] = interfaces
+interfaces_all interfaces (block ∷ blocks) = interfaces_all (interfaces_after interfaces block) blocks
+
+-- the last section of a file
+abbrev pub last_section : FileSection → List FileSection → FileSection
+last_section x [] = x
+last_section x (y ∷ sections) = last_section y sections

@@ -8,10 +8,9 @@ pub mod Steps
 pub mod Captures
 pub mod CaptureTexts
 pub mod PcapFiles
-pub mod PcapFaults
 pub mod CutPackets
 pub mod BlockFiles
 pub mod BlockPackets
-pub mod BlockFaults
+pub mod Outcomes
 pub mod Packets
 pub mod Reading

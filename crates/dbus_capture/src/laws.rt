@@ -4,18 +4,16 @@
 //! clause `part`.
 //!
 //! [`Source::read`]: dbus_device::Source::read
-ghost use Rattle.std.specs.Prelude.{◌≡◌, ◌<◌, ◌+◌, ℕ, ◌++◌, List, [], ◌∷◌, length, Bool, Option, Some, None, slice_get};
+ghost use Rattle.std.specs.Prelude.{◌≡◌, ◌<◌, ◌+◌, ℕ, ◌++◌, List, [], ◌∷◌, length, Bool, Some, None, slice_get};
 ghost use Rattle.dbus_capture.specs.Beginnings.{first_stage, first_scan, IsFirstOfStream};
 ghost use Rattle.dbus_capture.specs.Steps.{run, given, packet_given, ended};
 ghost use Rattle.dbus_capture.specs.Reading.{IsReadOf};
 ghost use Rattle.dbus_capture.specs.PcapFiles.{PcapHeader, PcapPacket, FitsHeader, FitsPacket, AllFitPackets, packet_header_bytes, pcap_bytes, captures};
-ghost use Rattle.dbus_capture.specs.BlockFiles.{FileBlock, FitsBlock, FitsBody, block_body, FileSection, FitsSection, AllFitSections, sections_bytes};
-ghost use Rattle.dbus_capture.specs.PcapFaults.{AreBytes, IsPcapOutcome};
+ghost use Rattle.dbus_capture.specs.BlockFiles.{FileBlock, FitsBlock, FitsBody, block_body, FileSection, FitsSection, AllFitSections, sections_bytes, interfaces_all, last_section};
 ghost use Rattle.dbus_capture.specs.CutPackets.{whole_payload};
 ghost use Rattle.dbus_capture.specs.BlockPackets.{sections_packets};
-ghost use Rattle.dbus_capture.specs.BlockFaults.{interfaces_all, last_section, IsPcapngOutcome};
+ghost use Rattle.dbus_capture.specs.Outcomes.{AreBytes, IsPcap, IsPcapng, IsOutcome};
 ghost use Rattle.dbus_capture.specs.Packets.{Reports, IsTimed, interface_of, packet_original, packet_bytes, pcap_packet_reported, block_front, pcapng_packet_reported};
-ghost use Rattle.dbus_capture.specs.declared.fault.CaptureFault.{CaptureFault};
 ghost use Rattle.dbus_capture.specs.declared.interface.Interface.{Interface};
 ghost use Rattle.dbus_capture.specs.declared.stage.Stage.TheVariants as stages;
 
@@ -29,23 +27,13 @@ pub fn pcap_is_read()
 {}
 
 /// Bytes that begin as a pcap file are such a file, and the capture gives the bytes of its packets
-/// that were captured whole; or they have one fault, at one place and for one reason, and the
-/// capture gives the bytes of those packets before it. If the bytes end within such a packet, it
-/// also gives those of it.
+/// that were captured whole; or they are refused, at a place behind the last packet that is whole,
+/// and the capture gives the bytes of those packets first.
 pub fn pcap_outcome()
     ensures { (passes_cut : Bool) (bytes : List ℕ) →
         AreBytes bytes → first_stage bytes ≡ stages.FileHeader →
-        IsPcapOutcome passes_cut bytes (given (first_scan passes_cut bytes) bytes)
+        IsOutcome (IsPcap passes_cut) bytes (given (first_scan passes_cut bytes) bytes)
         (ended (run (first_scan passes_cut bytes) bytes)).fault }
-{}
-
-/// It comes to this only: it has no second fault, and is no file if it has one.
-pub fn one_pcap_outcome()
-    ensures { (passes_cut : Bool) (bytes out more : List ℕ)
-        (fault other : Option CaptureFault) →
-        AreBytes bytes → first_stage bytes ≡ stages.FileHeader →
-        IsPcapOutcome passes_cut bytes out fault → IsPcapOutcome passes_cut bytes more other →
-        (out ≡ more) × (fault ≡ other) }
 {}
 
 /// A pcapng file of one section or more is read whole, if all of its packets of link type 231 were
@@ -58,24 +46,13 @@ pub fn pcapng_is_read()
 {}
 
 /// Bytes that begin as a pcapng file are such a file, and the capture gives the bytes of its packets
-/// of link type 231 that were captured whole; or they have one fault, at one place and for one
-/// reason, and the capture gives the bytes of those packets before it. If the fault is the end of
-/// the bytes within such a packet's block, or the length at its end, it also gives those bytes of
-/// the packet that are there.
+/// of link type 231 that were captured whole; or they are refused, at a place behind the last block
+/// that is whole, and the capture gives the bytes of those packets first.
 pub fn pcapng_outcome()
     ensures { (passes_cut : Bool) (bytes : List ℕ) →
         AreBytes bytes → first_stage bytes ≡ stages.Section →
-        IsPcapngOutcome passes_cut bytes (given (first_scan passes_cut bytes) bytes)
+        IsOutcome (IsPcapng passes_cut) bytes (given (first_scan passes_cut bytes) bytes)
         (ended (run (first_scan passes_cut bytes) bytes)).fault }
-{}
-
-/// It comes to this only: it has no second fault, and is no file if it has one.
-pub fn one_pcapng_outcome()
-    ensures { (passes_cut : Bool) (bytes out more : List ℕ)
-        (fault other : Option CaptureFault) →
-        AreBytes bytes → first_stage bytes ≡ stages.Section →
-        IsPcapngOutcome passes_cut bytes out fault →
-        IsPcapngOutcome passes_cut bytes more other → (out ≡ more) × (fault ≡ other) }
 {}
 
 /// While a capture gives the bytes of a packet of a pcap file, it reports its number, place, time

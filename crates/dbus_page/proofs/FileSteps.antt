@@ -10,9 +10,8 @@ use Rattle.dbus_capture.specs.Steps.{ended, run}
 use Rattle.dbus_capture.specs.declared.capture.Capture.{Capture}
 use Rattle.dbus_capture.specs.declared.fault.CaptureFault.{CaptureFault}
 use Rattle.dbus_capture.specs.declared.scan.Scan.{Scan}
-use Rattle.dbus_capture.proofs.StepLaws.{run-append}
+use Rattle.dbus_capture.proofs.StepLaws.{run-append, stopped_after}
 use Rattle.dbus_capture.proofs.BeginSteps.{fetched_file, opened_chosen, opened_known, opened_waiting, waiting_fault}
-use Rattle.dbus_capture.proofs.PcapFaultLaws.{stopped_after}
 
 front_of : (a b : Option (List ℕ)) (used bytes : List ℕ) → Consumes a b used → a ≡ Some bytes → (rest : List ℕ) × (b ≡ Some rest) × (bytes ≡ used ++ rest)
 front_of None b used bytes c is = absurd cc

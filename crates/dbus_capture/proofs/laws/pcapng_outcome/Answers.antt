@@ -1,4 +1,4 @@
-use Rattle.dbus_capture.proofs.BlockOutcomes.{pcapng_outcome}
+use Rattle.dbus_capture.proofs.Outcomes.{pcapng_outcome}
 use Rattle.dbus_capture.proofs.laws.pcapng_outcome.Goals as goal
 
 pub returns : goal.returns
