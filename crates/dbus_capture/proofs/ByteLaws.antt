@@ -1,6 +1,6 @@
 -- Bytes that are a number are those that spell it.
-use Rattle.std.proofs.Common.{◌≡◌, ℕ, zero, suc, ◌+◌, ◌-◌, ◌<◌, ◌≤◌, ◌^◌, List, [], ◌∷◌, ◌++◌, length, take, drop, get_or, refl, sym, ap, ◌∙◌, arith, append-nil, take-append-drop}
-use Rattle.std.specs.List.{slice_range}
+use Rattle.std.proofs.Common.{◌≡◌, ℕ, zero, suc, ◌+◌, ◌-◌, ◌<◌, ◌≤◌, ◌^◌, List, [], ◌∷◌, ◌++◌, length, take, drop, get_or, refl, sym, ap}
+use Rattle.std.proofs.Common.{◌∙◌, arith, append-nil, take-append-drop}
 use Rattle.std.proofs.lemmas.List.{length-take-le, length-drop, drop-drop, drop_all}
 use Rattle.std.proofs.lemmas.Nat.{le_bytes_2, be_bytes_2, le_bytes_4, be_bytes_4}
 use Rattle.dbus_capture.specs.declared.byte_order.ByteOrder.{ByteOrder}
@@ -36,8 +36,10 @@ u16_respelled Little bytes size h = le_bytes_2 bytes _ size (byte_at bytes h) re
 u16_respelled Big bytes size h = be_bytes_2 bytes _ size (byte_at bytes h) refl
 
 u32_fits : (o : ByteOrder) (bytes : List ℕ) → AreBytes bytes → u32_of o bytes < 2 ^ 32
-u32_fits Little bytes h = let a = byte_at bytes h 0 in let b = byte_at bytes h 1 in let c = byte_at bytes h 2 in let d = byte_at bytes h 3 in omega (arith, a, b, c, d)
-u32_fits Big bytes h = let a = byte_at bytes h 0 in let b = byte_at bytes h 1 in let c = byte_at bytes h 2 in let d = byte_at bytes h 3 in omega (arith, a, b, c, d)
+u32_fits Little bytes h = let a = byte_at bytes h 0 in let b = byte_at bytes h 1 in let c = byte_at bytes h 2 in
+    let d = byte_at bytes h 3 in omega (arith, a, b, c, d)
+u32_fits Big bytes h = let a = byte_at bytes h 0 in let b = byte_at bytes h 1 in let c = byte_at bytes h 2 in
+    let d = byte_at bytes h 3 in omega (arith, a, b, c, d)
 
 u16_fits : (o : ByteOrder) (bytes : List ℕ) → AreBytes bytes → u16_of o bytes < 2 ^ 16
 u16_fits Little bytes h = let a = byte_at bytes h 0 in let b = byte_at bytes h 1 in omega (arith, a, b)
@@ -57,7 +59,8 @@ module _ (o : ByteOrder) (bytes : List ℕ) (are : AreBytes bytes) (k : ℕ) whe
       let z : k + 4 - k ≡ 4 = omega arith in
       sym (take-append-drop 4 (drop k bytes)) ∙ ap (λ l. take 4 (drop k bytes) ++ l) (drop-drop 4 k bytes)
       ∙ ap (λ l. l ++ drop (k + 4) bytes)
-      (sym (ap (λ m. u32_bytes o (u32_of o (take m (drop k bytes)))) z ∙ u32_respelled o _ (length-take-le 4 (drop k bytes) (omega (arith, size, left))) (are_take 4 _ (are_drop k bytes are))))
+      (sym (ap (λ m. u32_bytes o (u32_of o (take m (drop k bytes)))) z
+          ∙ u32_respelled o _ (length-take-le 4 (drop k bytes) (omega (arith, size, left))) (are_take 4 _ (are_drop k bytes are))))
       ∙ ap (λ m. u32_bytes o m ++ drop (k + 4) bytes) e
 
   pub u16_there : (n : ℕ) → u16_at o k bytes ≡ n → k + 2 ≤ length bytes → drop k bytes ≡ u16_bytes o n ++ drop (k + 2) bytes
@@ -66,12 +69,15 @@ module _ (o : ByteOrder) (bytes : List ℕ) (are : AreBytes bytes) (k : ℕ) whe
       let z : k + 2 - k ≡ 2 = omega arith in
       sym (take-append-drop 2 (drop k bytes)) ∙ ap (λ l. take 2 (drop k bytes) ++ l) (drop-drop 2 k bytes)
       ∙ ap (λ l. l ++ drop (k + 2) bytes)
-      (sym (ap (λ m. u16_bytes o (u16_of o (take m (drop k bytes)))) z ∙ u16_respelled o _ (length-take-le 2 (drop k bytes) (omega (arith, size, left))) (are_take 2 _ (are_drop k bytes are))))
+      (sym (ap (λ m. u16_bytes o (u16_of o (take m (drop k bytes)))) z
+          ∙ u16_respelled o _ (length-take-le 2 (drop k bytes) (omega (arith, size, left))) (are_take 2 _ (are_drop k bytes are))))
       ∙ ap (λ m. u16_bytes o m ++ drop (k + 2) bytes) e
 
   -- the last one
   pub u32_ends : (n : ℕ) → u32_at o k bytes ≡ n → length bytes ≡ k + 4 → drop k bytes ≡ u32_bytes o n
-  u32_ends n e size = u32_there n e (omega (arith, size)) ∙ ap (λ l. u32_bytes o n ++ l) (drop_all (k + 4) bytes (omega (arith, size))) ∙ append-nil (u32_bytes o n)
+  u32_ends n e size = u32_there n e (omega (arith, size)) ∙ ap (λ l. u32_bytes o n ++ l) (drop_all (k + 4) bytes (omega (arith, size)))
+      ∙ append-nil (u32_bytes o n)
 
   pub u16_ends : (n : ℕ) → u16_at o k bytes ≡ n → length bytes ≡ k + 2 → drop k bytes ≡ u16_bytes o n
-  u16_ends n e size = u16_there n e (omega (arith, size)) ∙ ap (λ l. u16_bytes o n ++ l) (drop_all (k + 2) bytes (omega (arith, size))) ∙ append-nil (u16_bytes o n)
+  u16_ends n e size = u16_there n e (omega (arith, size)) ∙ ap (λ l. u16_bytes o n ++ l) (drop_all (k + 2) bytes (omega (arith, size)))
+      ∙ append-nil (u16_bytes o n)

@@ -1,23 +1,26 @@
 -- What may follow bytes of a file: the bytes that its grammar spells from there on. A head is read as
 -- its grammar says it, so bytes that are read with no fault are spelled; and a fault is at a place
 -- that was read.
-use Rattle.std.proofs.Common.{◌≡◌, ℕ, zero, suc, ◌+◌, ◌-◌, ◌<◌, ◌≤◌, ◌%◌, ◌^◌, Bool, true, false, cond, nat_eq, List, [], ◌∷◌, ◌++◌, length, Option, None, Some, refl, sym, ap, subst, ◌∙◌, arith, append_assoc, append-nil, length-append}
+use Rattle.std.proofs.Common.{◌≡◌, ℕ, zero, suc, ◌+◌, ◌-◌, ◌<◌, ◌≤◌, ◌%◌, ◌^◌, Bool, true, false, cond, nat_eq, List, [], ◌∷◌, ◌++◌, length}
+use Rattle.std.proofs.Common.{Option, None, Some, refl, sym, ap, subst, ◌∙◌, arith, append_assoc, length-append}
 use Rattle.dbus_capture.specs.declared.byte_order.ByteOrder.{ByteOrder}
 use Rattle.dbus_capture.specs.declared.stage.Stage.{Stage}
-use Rattle.dbus_capture.specs.declared.stage.Stage.TheVariants.{Raw, FileHeader, Record, Section, Block, InterfaceHead, OptionHead, Resolution, InterfaceTrailer, Enhanced, ObsoletePacket, Simple, Trailer}
+use Rattle.dbus_capture.specs.declared.stage.Stage.TheVariants.{Raw, FileHeader, Record, Section, Block, InterfaceHead, OptionHead}
+use Rattle.dbus_capture.specs.declared.stage.Stage.TheVariants.{Resolution, InterfaceTrailer, Enhanced, ObsoletePacket, Simple, Trailer}
 use Rattle.dbus_capture.specs.declared.fault.CaptureFault.{CaptureFault}
-use Rattle.dbus_capture.specs.declared.fault.CaptureReason.{CaptureReason}
 use Rattle.dbus_capture.specs.declared.fault.CaptureReason.TheVariants.{Truncated}
 use Rattle.dbus_capture.specs.declared.interface.Interface.{Interface}
 use Rattle.dbus_capture.specs.declared.scan.Scan.{Scan}
 use Rattle.dbus_capture.specs.Numbers.{u32_bytes}
 use Rattle.dbus_capture.specs.Stages.{want, is_raw, begun}
-use Rattle.dbus_capture.specs.Scans.{place, refused}
+use Rattle.dbus_capture.specs.Scans.{place}
 use Rattle.dbus_capture.specs.Blocks.{decoded}
-use Rattle.dbus_capture.specs.Steps.{Gathers, turn_by, turn_of, gathered, stepped, step, run, may_end, ended}
+use Rattle.dbus_capture.specs.Steps.{Gathers, turn_by, stepped, step, run, may_end, ended}
 use Rattle.dbus_capture.specs.Outcomes.{AreBytes}
 use Rattle.dbus_capture.specs.PcapFiles.{PcapHeader, PcapPacket, pcap_bytes, packets_bytes, FitsHeader, AllFitPackets}
-use Rattle.dbus_capture.specs.BlockFiles.{InterfaceOption, options_bytes, end_bytes, AllFitOptions, FitsEnd, with_options, FileBlock, block_kind, block_body, blocks_bytes, interfaces_after, FitsBlock, AllFitBlocks, FileSection, sections_bytes, FitsSection, AllFitSections}
+use Rattle.dbus_capture.specs.BlockFiles.{InterfaceOption, options_bytes, end_bytes, AllFitOptions, FitsEnd, with_options, FileBlock}
+use Rattle.dbus_capture.specs.BlockFiles.{block_kind, block_body, blocks_bytes, interfaces_after, FitsBlock, AllFitBlocks, FileSection}
+use Rattle.dbus_capture.specs.BlockFiles.{sections_bytes, FitsSection, AllFitSections}
 use Rattle.dbus_capture.proofs.Choices.{eq_told, when}
 use Rattle.dbus_capture.proofs.ByteLaws.{are_joined}
 
@@ -155,19 +158,23 @@ pub record Goes (stage : Stage) (p w : ℕ) (s : Scan) (h : List ℕ) (t : Scan)
 
 -- nothing is given or skipped before what follows
 pub unfilled : (t : Scan) (bytes : List ℕ) → t.give ≡ 0 → t.skip ≡ 0 → Follows t bytes → FollowsFrom t.head.stage t (t.head.bytes ++ bytes)
-unfilled t bytes g k f = subst (λ l. FollowsFrom t.head.stage t (t.head.bytes ++ l)) (sym (f.joined ∙ ap (λ l. l ++ f.more) (no_bytes f.fill (f.size ∙ let z : t.give + t.skip ≡ 0 = omega (arith, g, k) in z)))) f.rest
+unfilled t bytes g k f = subst (λ l. FollowsFrom t.head.stage t (t.head.bytes ++ l))
+    (sym (f.joined ∙ ap (λ l. l ++ f.more) (no_bytes f.fill (f.size ∙ let z : t.give + t.skip ≡ 0 = omega (arith, g, k) in z)))) f.rest
   where
     no_bytes : (l : List ℕ) → length l ≡ 0 → l ≡ []
     no_bytes [] e = refl
     no_bytes (x ∷ xs) e = absurd (omega (arith, e))
 
-pub filled : (s : Scan) (bytes : List ℕ) → s.fault ≡ None → s.give ≡ 0 → s.skip ≡ 0 → FollowsFrom s.head.stage s (s.head.bytes ++ bytes) → Follows s bytes
-filled s bytes u g k f = record { unfaulted = u; fill = []; more = bytes; size = let z : 0 ≡ s.give + s.skip = omega (arith, g, k) in z; joined = refl; rest = f }
+pub filled : (s : Scan) (bytes : List ℕ) → s.fault ≡ None → s.give ≡ 0 → s.skip ≡ 0 → FollowsFrom s.head.stage s (s.head.bytes ++ bytes)
+    → Follows s bytes
+filled s bytes u g k f = record { unfaulted = u; fill = []; more = bytes;
+    size = let z : 0 ≡ s.give + s.skip = omega (arith, g, k) in z; joined = refl; rest = f }
 
 -- ---- one byte, if a whole head goes on
 
 abbrev pub HeadsGo : Type 0
-HeadsGo = (stage : Stage) (p w : ℕ) (s : Scan) (h : List ℕ) → is_raw stage ≡ false → IsSound stage s.total s.rest → s.fault ≡ None → s.give ≡ 0 → s.skip ≡ 0 → s.next ≡ place (p + w) → AreBytes h → length h ≡ want stage
+HeadsGo = (stage : Stage) (p w : ℕ) (s : Scan) (h : List ℕ) → is_raw stage ≡ false → IsSound stage s.total s.rest → s.fault ≡ None
+    → s.give ≡ 0 → s.skip ≡ 0 → s.next ≡ place (p + w) → AreBytes h → length h ≡ want stage
     → Goes stage p w s h (decoded (record s { head = begun stage }) h)
 
 record Steps (p n : ℕ) (s : Scan) (b : ℕ) (t : Scan) : Type 0 where
@@ -178,7 +185,8 @@ module _ (heads : HeadsGo) (p n : ℕ) (s : Scan) (z : Standing p n s) where
   at_none : s.fault ≡ None → IsAt p n s None
   at_none e = subst (IsAt p n s) e z.at
 
-  steps_by : (b : ℕ) → b < 256 → (f : Option CaptureFault) (raw : Bool) (give skip : ℕ) → s.fault ≡ f → is_raw s.head.stage ≡ raw → s.give ≡ give → s.skip ≡ skip → Steps p n s b (stepped s b (turn_by f raw give skip))
+  steps_by : (b : ℕ) → b < 256 → (f : Option CaptureFault) (raw : Bool) (give skip : ℕ) → s.fault ≡ f → is_raw s.head.stage ≡ raw
+      → s.give ≡ give → s.skip ≡ skip → Steps p n s b (stepped s b (turn_by f raw give skip))
   steps_by b low (Some f) raw give skip e r g k =
       let at : IsAt p n s (Some f) = subst (IsAt p n s) e z.at in
       let later : at.0 ≤ suc n = omega arith in
@@ -191,15 +199,19 @@ module _ (heads : HeadsGo) (p n : ℕ) (s : Scan) (z : Standing p n s) where
       let at = at_none e in
       let even = at.2 in
       record {
-        stands = record { filed = z.filed; sound = z.sound; are = z.are; at = subst (IsAt p (suc n) (record s { give = s.give - 1 })) (sym e) (at.0, at.1, omega (arith, even, g)) };
-        follows = λ bytes x. record { unfaulted = e; fill = b ∷ x.fill; more = x.more; size = let size = x.size in omega (arith, size, g); joined = ap (λ l. b ∷ l) x.joined; rest = x.rest };
+        stands = record { filed = z.filed; sound = z.sound; are = z.are; at = subst (IsAt p (suc n) (record s { give = s.give - 1 }))
+            (sym e) (at.0, at.1, omega (arith, even, g)) };
+        follows = λ bytes x. record { unfaulted = e; fill = b ∷ x.fill; more = x.more; size = let size = x.size in
+        omega (arith, size, g); joined = ap (λ l. b ∷ l) x.joined; rest = x.rest };
       }
   steps_by b low None false zero (suc skip) e r g k =
       let at = at_none e in
       let even = at.2 in
       record {
-        stands = record { filed = z.filed; sound = z.sound; are = z.are; at = subst (IsAt p (suc n) (record s { skip = s.skip - 1 })) (sym e) (at.0, at.1, omega (arith, even, g, k)) };
-        follows = λ bytes x. record { unfaulted = e; fill = b ∷ x.fill; more = x.more; size = let size = x.size in omega (arith, size, g, k); joined = ap (λ l. b ∷ l) x.joined; rest = x.rest };
+        stands = record { filed = z.filed; sound = z.sound; are = z.are; at = subst (IsAt p (suc n) (record s { skip = s.skip - 1 }))
+            (sym e) (at.0, at.1, omega (arith, even, g, k)) };
+        follows = λ bytes x. record { unfaulted = e; fill = b ∷ x.fill; more = x.more; size = let size = x.size in
+        omega (arith, size, g, k); joined = ap (λ l. b ∷ l) x.joined; rest = x.rest };
       }
   steps_by b low None false zero zero e r g k =
       let at = at_none e in
@@ -216,9 +228,11 @@ module _ (heads : HeadsGo) (p n : ℕ) (s : Scan) (z : Standing p n s) where
         let size : length h ≡ want s.head.stage = eq_told _ _ whole in
         let go = heads s.head.stage p at.0 s h z.filed z.sound e g k at.1 are size in
         let more : at.0 + length h ≡ suc n = omega (arith, even, longer, g, k) in
-        record { stands = subst (λ m. Standing p m (decoded (record s { head = begun s.head.stage }) h)) more go.stands; follows = λ bytes x. head_then bytes (go.follows bytes x) })
+        record { stands = subst (λ m. Standing p m (decoded (record s { head = begun s.head.stage }) h)) more go.stands; follows =
+            λ bytes x. head_then bytes (go.follows bytes x) })
       (λ less. record {
-        stands = record { filed = z.filed; sound = z.sound; are = are; at = subst (IsAt p (suc n) part) (sym e) (at.0, at.1, omega (arith, even, longer)) };
+        stands = record { filed = z.filed; sound = z.sound; are = are; at = subst (IsAt p (suc n) part) (sym e)
+            (at.0, at.1, omega (arith, even, longer)) };
         follows = λ bytes x. head_then bytes (unfilled part bytes g k x);
       })
 
@@ -231,7 +245,8 @@ EndsAt p n s (Some f) = (w : ℕ) × (f.at ≡ place (p + w)) × (w ≤ n)
 
 module _ (p n : ℕ) (s : Scan) (z : Standing p n s) where
   abbrev cut : Scan
-  cut = record s { fault = Some (record { at = place (s.next + length s.head.bytes + 2 ^ 64 - place (s.give + s.skip)); reason = Truncated }) }
+  cut = record s { fault =
+      Some (record { at = place (s.next + length s.head.bytes + 2 ^ 64 - place (s.give + s.skip)); reason = Truncated }) }
 
   cut_at : s.fault ≡ None → EndsAt p n s cut.fault
   cut_at e =

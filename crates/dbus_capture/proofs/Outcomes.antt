@@ -26,8 +26,10 @@ record Fronted (s : Scan) (front payload : List ℕ) (stage : Stage) : Type 0 wh
   skip : final.skip ≡ 0
   next : final.next ≡ place (length front + 0)
 
-module _ (passes : Bool) (first next : Stage) (filed : is_raw first ≡ false) (sound : IsSound first 0 0) (filed_next : is_raw next ≡ false) (sound_next : (total rest : ℕ) → IsSound next total rest) (IsFile : List ℕ → List ℕ → Type 0)
-    (fronted : (front payload : List ℕ) → IsFile front payload → Fronted (fresh passes first) front payload next) (bytes : List ℕ) (are : AreBytes bytes) where
+module _ (passes : Bool) (first next : Stage) (filed : is_raw first ≡ false) (sound : IsSound first 0 0)
+    (filed_next : is_raw next ≡ false) (sound_next : (total rest : ℕ) → IsSound next total rest) (IsFile : List ℕ → List ℕ → Type 0)
+    (fronted : (front payload : List ℕ) → IsFile front payload → Fronted (fresh passes first) front payload next) (bytes : List ℕ)
+    (are : AreBytes bytes) where
   abbrev s : Scan
   s = fresh passes first
 
@@ -52,12 +54,14 @@ module _ (passes : Bool) (first next : Stage) (filed : is_raw first ≡ false) (
   are_rest (x ∷ front) rest [] e h = absurd (cc)
   are_rest (x ∷ front) rest (y ∷ all) e h = are_rest front rest all (let tails : all ≡ front ++ rest = cc in tails) h.1
 
-  behind : (front rest payload : List ℕ) (f : CaptureFault) → (ended (run s bytes)).fault ≡ Some f → IsFile front payload → bytes ≡ front ++ rest → IsBehind front rest payload (given s bytes) f
+  behind : (front rest payload : List ℕ) (f : CaptureFault) → (ended (run s bytes)).fault ≡ Some f → IsFile front payload
+      → bytes ≡ front ++ rest → IsBehind front rest payload (given s bytes) f
   behind front rest payload f e file joined =
       let w = fronted front payload file in
       let runs : run s bytes ≡ run w.final rest = ap (run s) joined ∙ run-append s front rest ∙ ap (λ (v : Scan). run v rest) w.ran in
       let gives = ap (given s) joined ∙ given-append s front rest ∙ ap (λ l. l ++ given (run s front) rest) w.gave in
-      let k = (reaches heads_go (length front) 0 w.final rest (stands_after front payload w) (are_rest front rest bytes joined are)).within f (sym (ap (λ (v : Scan). (ended v).fault) runs) ∙ e) in
+      let k = (reaches heads_go (length front) 0 w.final rest (stands_after front payload w)
+      (are_rest front rest bytes joined are)).within f (sym (ap (λ (v : Scan). (ended v).fault) runs) ∙ e) in
       let low = k.2 in
       record { within = k.0; at = k.1; there = omega (arith, low); more = given (run s front) rest; gives = gives }
 
@@ -71,7 +75,8 @@ module _ (passes : Bool) (first next : Stage) (filed : is_raw first ≡ false) (
         behind = λ front rest payload file joined. behind front rest payload f e file joined;
       }
 
-pcap_fronted : (passes : Bool) (front payload : List ℕ) → IsPcap passes front payload → Fronted (fresh passes FileHeader) front payload Record
+pcap_fronted : (passes : Bool) (front payload : List ℕ) → IsPcap passes front payload
+    → Fronted (fresh passes FileHeader) front payload Record
 pcap_fronted passes front payload f =
     let t = file_taken passes f.head f.packets f.fits f.fit in
     let s = fresh passes FileHeader in
@@ -86,7 +91,8 @@ pcap_fronted passes front payload f =
       next = t.kept.next refl ∙ ap place (let size = ap length f.joined in omega (arith, size));
     }
 
-pcapng_fronted : (passes : Bool) (front payload : List ℕ) → IsPcapng passes front payload → Fronted (fresh passes Section) front payload Block
+pcapng_fronted : (passes : Bool) (front payload : List ℕ) → IsPcapng passes front payload
+    → Fronted (fresh passes Section) front payload Block
 pcapng_fronted passes front payload f =
     let t = file_read passes f.first f.sections f.fits f.fit in
     let s = fresh passes Section in
@@ -104,15 +110,33 @@ pcapng_fronted passes front payload f =
 pub pcap_outcome : (passes : Bool) (bytes : List ℕ) → AreBytes bytes → first_stage bytes ≡ FileHeader
     → IsOutcome (IsPcap passes) bytes (given (first_scan passes bytes) bytes) (ended (run (first_scan passes bytes) bytes)).fault
 pcap_outcome passes bytes are first =
-    subst (λ (v : Stage). IsOutcome (IsPcap passes) bytes (given (fresh passes v) bytes) (ended (run (fresh passes v) bytes)).fault) (sym first)
+    subst (λ (v : Stage). IsOutcome (IsPcap passes) bytes (given (fresh passes v) bytes) (ended (run (fresh passes v) bytes)).fault)
+    (sym first)
     (outcome passes FileHeader Record refl tt refl (λ total rest. tt) (IsPcap passes) (pcap_fronted passes) bytes are (λ f.
-      let t = file_taken passes f.head f.packets f.fits f.fit in
-      record { head = f.head; packets = f.packets; fits = f.fits; fit = f.fit; joined = f.joined; gives = ap (given (fresh passes FileHeader)) f.joined ∙ t.gave }))
+    let t = file_taken passes f.head f.packets f.fits f.fit in
+    record {
+      head = f.head;
+      packets = f.packets;
+      fits = f.fits;
+      fit = f.fit;
+      joined = f.joined;
+      gives =
+          ap (given (fresh passes FileHeader)) f.joined ∙ t.gave;
+    }))
 
 pub pcapng_outcome : (passes : Bool) (bytes : List ℕ) → AreBytes bytes → first_stage bytes ≡ Section
     → IsOutcome (IsPcapng passes) bytes (given (first_scan passes bytes) bytes) (ended (run (first_scan passes bytes) bytes)).fault
 pcapng_outcome passes bytes are first =
-    subst (λ (v : Stage). IsOutcome (IsPcapng passes) bytes (given (fresh passes v) bytes) (ended (run (fresh passes v) bytes)).fault) (sym first)
+    subst (λ (v : Stage). IsOutcome (IsPcapng passes) bytes (given (fresh passes v) bytes) (ended (run (fresh passes v) bytes)).fault)
+    (sym first)
     (outcome passes Section Block refl tt refl (λ total rest. tt) (IsPcapng passes) (pcapng_fronted passes) bytes are (λ f.
-      let t = file_read passes f.first f.sections f.fits f.fit in
-      record { first = f.first; sections = f.sections; fits = f.fits; fit = f.fit; joined = f.joined; gives = ap (given (fresh passes Section)) f.joined ∙ t.gave }))
+    let t = file_read passes f.first f.sections f.fits f.fit in
+    record {
+      first = f.first;
+      sections = f.sections;
+      fits = f.fits;
+      fit = f.fit;
+      joined = f.joined;
+      gives =
+          ap (given (fresh passes Section)) f.joined ∙ t.gave;
+    }))
