@@ -1,5 +1,3 @@
 pub mod Finding
-pub mod ValidatedFields
-pub mod PartEnds
+pub mod SoundParts
 pub mod Built
-pub mod Accepting

@@ -1,12 +1,10 @@
 -- Why parts make no message: the cases, and which of them is the first that holds. D-Bus
 -- Specification, "Message Format", "Header Fields" and "Invalid Protocol and Spec Extensions".
-use Rattle.std.specs.Prelude.{◌≡◌, ℕ, ◌+◌, ◌^◌, ◌<◌, ◌≤◌, List, [], ◌∷◌, length, map, Option, Some, None, ◌⊎◌, ◌++◌, true, false, ◌&&◌, if◌then◌else◌, Result, Ok, Err, ◌↔◌}
+use Rattle.std.specs.Prelude.{◌≡◌, ℕ, ◌+◌, ◌^◌, ◌<◌, List, [], ◌∷◌, Option, Some, None, ◌⊎◌, true, false, ◌&&◌, if◌then◌else◌, Result, Ok, Err, ◌↔◌}
 use Rattle.dbus_value_model.specs.declared.limits.Limits.{Limits}
-use Rattle.dbus_value_model.specs.declared.order.Order.TheVariants.{Little}
 use Rattle.dbus_value_model.specs.Verdicts.{HoldsNumbers, HoldNumbers}
-use Rattle.dbus_value_model.specs.Spelling.{spellings, AreWithinLimits}
-use Rattle.dbus_value_model.specs.Values.{value_trees, ValueTree, NumberValue, type_of, types_of}
-use Rattle.dbus_message_model.specs.Messages.{FieldTree, MessageTree, field_struct, Want, Anything, OfType, Name, Serial, want, is_known, has_code, lacks, required, text_in, body_signature, body_fds, KeepsIndexes, IsValidMessage}
+use Rattle.dbus_value_model.specs.Values.{ValueTree, NumberValue, type_of, types_of}
+use Rattle.dbus_message_model.specs.Messages.{FieldTree, MessageTree, Want, Anything, OfType, Name, Serial, want, is_known, has_code, lacks, required, text_in, body_signature, body_fds, KeepsIndexes, IsValidMessage}
 use Rattle.dbus_texts.specs.Types.{UINT32, STRING, TypeTree, NumberType, TextType, sigs}
 use Rattle.dbus_value_model.specs.declared.fault.Reason.TheVariants as reasons
 use Rattle.dbus_value_model.specs.Checks.{IsTyped}
@@ -17,7 +15,7 @@ use Rattle.dbus_value_model.specs.declared.value.Value.{Value}
 use Rattle.dbus_value_model.specs.WantedTexts.{WantedText, IsWanted, kind_of}
 use Rattle.dbus_message_model.specs.KeptLimits.{IsShallow, KeepsArrays, IsLong, KeepsLimits}
 use Rattle.dbus_message_model.specs.PackedParts.{PartsKeepBytes}
-use Rattle.dbus_message_model.specs.PartsViews.{field_tree, parts_tree}
+use Rattle.dbus_message_model.specs.PartsViews.{field_trees, parts_tree}
 use Rattle.dbus_message_model.specs.MessageViews.{message_tree}
 use Rattle.dbus_message_model.specs.declared.header_field.HeaderField.{HeaderField}
 use Rattle.dbus_message_model.specs.declared.parts.Parts.{Parts}
@@ -27,21 +25,10 @@ use Rattle.dbus_value_model.specs.declared.verdict.Verdict.TheVariants.{TooDeep,
 use Rattle.dbus_value_model.specs.Specification.{specification}
 use Rattle.dbus_build.specs.declared.build_fault.BuildFault.{BuildFault}
 use Rattle.dbus_build.specs.declared.build_fault.BuildFault.TheVariants as faults
+use Rattle.dbus_build.specs.declared.faulty_fields.Rule.{Rule}
+use Rattle.dbus_build.specs.declared.faulty_fields.Rule.TheVariants as rules
 
--- Where the fields of a header end, and the numbers that parts hold.
--- D-Bus Specification, "Marshaling (Wire Format)" and "Message Format".
-
--- The end n, where what stands before it keeps the limits on arrays and it is not past the end of
--- the longest field array; else nothing. Both orders spell fields in as many bytes.
-abbrev pub IsEnd : Limits → Type 0 → ℕ → Option ℕ → Type 0
-IsEnd limits kept n None = kept → 16 + limits.array < n
-IsEnd limits kept n (Some e) = kept × (e ≡ n) × (n ≤ 16 + limits.array)
-
--- the fields begin at 16
-abbrev pub AreFieldEnds : Limits → List FieldTree → Option ℕ → Type 0
-AreFieldEnds limits fs end =
-    let structs = value_trees (map field_struct fs) in
-    IsEnd limits (AreWithinLimits limits.array Little 16 structs) (16 + length (spellings Little 16 structs)) end
+-- The numbers that parts hold. D-Bus Specification, "Marshaling (Wire Format)", "Message Format".
 
 -- a code is one byte, and a field's value holds numbers of their types
 abbrev pub HoldFieldNumbers : List FieldTree → Type 0
@@ -56,22 +43,25 @@ pub record HoldTheirNumbers (m : MessageTree) : Type 0 where
   pub fields : HoldFieldNumbers m.fields
   pub body : HoldNumbers m.body
 
--- ---- fields
+-- ---- the first of some items
 
--- r is the code of the first field without the property, or nothing where all have it
-abbrev pub IsFirstWithout : (FieldTree → Type 0) → List FieldTree → Option ℕ → Type 0
-IsFirstWithout P [] r = r ≡ None
-IsFirstWithout P (f ∷ fs) r = ((P f → ⊥) × (r ≡ Some f.code)) ⊎ (P f × IsFirstWithout P fs r)
+-- r is the key of the first item without the property, or nothing where all have it; n is the
+-- number of the first item
+abbrev pub IsFirstWithout : {X : Type 0} → (X → Type 0) → (key : ℕ → X → ℕ) → ℕ → List X → Option ℕ → Type 0
+IsFirstWithout P key n [] r = r ≡ None
+IsFirstWithout P key n (x ∷ xs) r = ((P x → ⊥) × (r ≡ Some (key n x))) ⊎ (P x × IsFirstWithout P key (n + 1) xs r)
 
--- no REPLY_SERIAL of 0
-abbrev pub IsNonzero : FieldTree → Type 0
-IsNonzero f = want f.code ≡ Serial → f.value ≡ NumberValue UINT32 0 → ⊥
+-- its key is the field's code
+abbrev pub IsFirstField : {A : Type 0} → (HeaderField A → Type 0) → List (HeaderField A) → Option ℕ → Type 0
+IsFirstField P fs r = IsFirstWithout P (λ n f. f.code) 0 fs r
 
 -- the code of the first known field that stands after one of its code; before are those in front,
--- none of them for all fields of a message
+-- the last first, and none of them for all fields of a message
 abbrev pub twice : List FieldTree → List FieldTree → Option ℕ
 twice before [] = None
-twice before (f ∷ fs) = if is_known f.code && has_code f.code before then Some f.code else twice (before ++ f ∷ []) fs
+twice before (f ∷ fs) = if is_known f.code && has_code f.code before then Some f.code else twice (f ∷ before) fs
+
+-- ---- fields
 
 -- the type that is wanted, where one is
 abbrev pub type_wanted : Want → Option TypeTree
@@ -84,10 +74,6 @@ abbrev pub IsOfType : Option TypeTree → ValueTree → Type 0
 IsOfType None v = Unit {0}
 IsOfType (Some t) v = type_of v ≡ t
 
--- a known field is of its own type
-abbrev pub HasOwnType : FieldTree → Type 0
-HasOwnType f = IsOfType (type_wanted (want f.code)) f.value
-
 -- the texts that are wanted, where a text is
 abbrev pub text_wanted : Want → Option WantedText
 text_wanted (OfType (TextType k)) = Some (kind_of k)
@@ -98,9 +84,14 @@ abbrev pub IsOf : Option WantedText → List ℕ → Type 0
 IsOf None t = Unit {0}
 IsOf (Some k) t = IsWanted k t
 
--- the text of a known field is of its kind
-abbrev pub HasOwnKind : FieldTree → Type 0
-HasOwnKind f = IsOf (text_wanted (want f.code)) (text_in f.value)
+-- No REPLY_SERIAL is 0, a known field is of its own type, and its text is of its kind.
+abbrev pub Suffices : Rule → Want → ValueTree → Type 0
+Suffices rules.Nonzero w v = w ≡ Serial → v ≡ NumberValue UINT32 0 → ⊥
+Suffices rules.OwnType w v = IsOfType (type_wanted w) v
+Suffices rules.OwnKind w v = IsOf (text_wanted w) (text_in v)
+
+abbrev pub Keeps : {A : Type 0} → Rule → HeaderField A → Type 0
+Keeps rule f = Suffices rule (want f.code) (value_tree f.value)
 
 -- ---- values
 
@@ -112,16 +103,9 @@ IsSound v = IsTyped v × IsNamed (value_tree v)
 abbrev pub HoldsSound : {A : Type 0} → HeaderField A → Type 0
 HoldsSound f = is_known f.code ≡ false → IsSound f.value
 
--- r is the code of the first unknown field whose value is not sound, or nothing where all are
-abbrev pub IsFirstUnsoundField : {A : Type 0} → List (HeaderField A) → Option ℕ → Type 0
-IsFirstUnsoundField [] r = r ≡ None
-IsFirstUnsoundField (f ∷ fs) r = ((HoldsSound f → ⊥) × (r ≡ Some f.code)) ⊎ (HoldsSound f × IsFirstUnsoundField fs r)
-
--- r is the number of the first value that is not sound, or nothing where all are; n is the number
--- of the first value
-abbrev pub IsFirstUnsound : {A : Type 0} → ℕ → List (Value A) → Option ℕ → Type 0
-IsFirstUnsound n [] r = r ≡ None
-IsFirstUnsound n (v ∷ vs) r = ((IsSound v → ⊥) × (r ≡ Some n)) ⊎ (IsSound v × IsFirstUnsound (n + 1) vs r)
+-- r is the number of the first value that is not sound, or nothing where all are
+abbrev pub IsFirstUnsound : {A : Type 0} → List (Value A) → Option ℕ → Type 0
+IsFirstUnsound vs r = IsFirstWithout IsSound (λ n v. n) 0 vs r
 
 -- ---- values and fields, one and all
 
@@ -140,45 +124,44 @@ IsFound shallow IsFirst ranged (Err fault) = (fault ≡ faults.TooDeep) × (shal
 
 -- a field of its own type holds a number of its type
 abbrev pub HoldsTypedNumber : {A : Type 0} → HeaderField A → Type 0
-HoldsTypedNumber f = (f.code < 256) × (HasOwnType (field_tree f) → HoldsNumbers (value_tree f.value))
+HoldsTypedNumber f = (f.code < 256) × (Keeps rules.OwnType f → HoldsNumbers (value_tree f.value))
 
 -- fields of their own types hold numbers of their types
-abbrev pub HoldTypedNumbers : List FieldTree → Type 0
-HoldTypedNumbers fs = IsFirstWithout HasOwnType fs None → HoldFieldNumbers fs
+abbrev pub HoldTypedNumbers : {A : Type 0} → List (HeaderField A) → Type 0
+HoldTypedNumbers fs = (n : ℕ) → IsFirstWithout (Keeps rules.OwnType) (λ m f. f.code) n fs None → HoldFieldNumbers (field_trees fs)
 
 -- ---- none of the cases holds, from the first up to one
 
-abbrev pub KindPasses : MessageTree → Type 0
-KindPasses m = m.kind ≡ 0 → ⊥
+-- That an array of bytes is not an `Array` is no matter of trees, so that the parts are spoken of.
+abbrev pub KindPasses : {A : Type 0} → Parts A → Type 0
+KindPasses p = p.kind ≡ 0 → ⊥
 
-abbrev pub SerialsPass : MessageTree → Type 0
-SerialsPass m = KindPasses m × (m.serial ≡ 0 → ⊥) × IsFirstWithout IsNonzero m.fields None
+abbrev pub SerialsPass : {A : Type 0} → Parts A → Type 0
+SerialsPass p = KindPasses p × (p.serial ≡ 0 → ⊥) × IsFirstField (Keeps rules.Nonzero) p.fields.items None
 
-abbrev pub CodesPass : MessageTree → Type 0
-CodesPass m = SerialsPass m × (has_code 0 m.fields ≡ false)
+abbrev pub CodesPass : {A : Type 0} → Parts A → Type 0
+CodesPass p = SerialsPass p × (has_code 0 (parts_tree p).fields ≡ false)
 
-abbrev pub NoneIsTwice : MessageTree → Type 0
-NoneIsTwice m = CodesPass m × (twice [] m.fields ≡ None)
+abbrev pub NoneIsTwice : {A : Type 0} → Parts A → Type 0
+NoneIsTwice p = CodesPass p × (twice [] (parts_tree p).fields ≡ None)
 
-abbrev pub TypesPass : MessageTree → Type 0
-TypesPass m = NoneIsTwice m × IsFirstWithout HasOwnType m.fields None
+abbrev pub TypesPass : {A : Type 0} → Parts A → Type 0
+TypesPass p = NoneIsTwice p × IsFirstField (Keeps rules.OwnType) p.fields.items None
 
-abbrev pub NoneIsMissing : MessageTree → Type 0
-NoneIsMissing m = TypesPass m × (lacks (required m.kind) m.fields ≡ None)
+abbrev pub NoneIsMissing : {A : Type 0} → Parts A → Type 0
+NoneIsMissing p = TypesPass p × (lacks (required p.kind) (parts_tree p).fields ≡ None)
 
-abbrev pub DepthPasses : Limits → MessageTree → Type 0
-DepthPasses limits m = NoneIsMissing m × IsShallow limits m
+abbrev pub DepthPasses : {A : Type 0} → Limits → Parts A → Type 0
+DepthPasses limits p = NoneIsMissing p × IsShallow limits (parts_tree p)
 
-abbrev pub NamesPass : Limits → MessageTree → Type 0
-NamesPass limits m = DepthPasses limits m × IsFirstWithout HasOwnKind m.fields None
+abbrev pub NamesPass : {A : Type 0} → Limits → Parts A → Type 0
+NamesPass limits p = DepthPasses limits p × IsFirstField (Keeps rules.OwnKind) p.fields.items None
 
--- That an array of bytes is not an `Array` is no matter of trees, so that from here on the parts
--- are spoken of.
 abbrev pub FieldValuesPass : {A : Type 0} → Limits → Parts A → Type 0
-FieldValuesPass limits p = NamesPass limits (parts_tree p) × IsFirstUnsoundField p.fields.items None
+FieldValuesPass limits p = NamesPass limits p × IsFirstField HoldsSound p.fields.items None
 
 abbrev pub ValuesPass : {A : Type 0} → Limits → Parts A → Type 0
-ValuesPass limits p = FieldValuesPass limits p × IsFirstUnsound 0 p.body.items None
+ValuesPass limits p = FieldValuesPass limits p × IsFirstUnsound p.body.items None
 
 abbrev pub HasOwnSignature : MessageTree → Type 0
 HasOwnSignature m = sigs (types_of m.body) ≡ body_signature m.fields
@@ -200,15 +183,15 @@ NoFault limits p = SizePasses limits p × KeepsIndexes limits (parts_tree p)
 abbrev pub IsFirstFault : {A : Type 0} → Limits → Parts A → BuildFault → Type 0
 IsFirstFault limits p faults.Memory = ⊥
 IsFirstFault limits p faults.Kind = p.kind ≡ 0
-IsFirstFault limits p faults.ZeroSerial = let m = parts_tree p in KindPasses m × ((m.serial ≡ 0) ⊎ ((c : ℕ) × IsFirstWithout IsNonzero m.fields (Some c)))
-IsFirstFault limits p faults.FieldCode = let m = parts_tree p in SerialsPass m × (has_code 0 m.fields ≡ true)
-IsFirstFault limits p (faults.FieldTwice c) = let m = parts_tree p in CodesPass m × (twice [] m.fields ≡ Some c)
-IsFirstFault limits p (faults.FieldType c) = let m = parts_tree p in NoneIsTwice m × IsFirstWithout HasOwnType m.fields (Some c)
-IsFirstFault limits p (faults.FieldMissing c) = let m = parts_tree p in TypesPass m × (lacks (required m.kind) m.fields ≡ Some (reasons.FieldMissing c))
-IsFirstFault limits p faults.TooDeep = let m = parts_tree p in NoneIsMissing m × (IsShallow limits m → ⊥)
-IsFirstFault limits p (faults.Name c) = let m = parts_tree p in DepthPasses limits m × IsFirstWithout HasOwnKind m.fields (Some c)
-IsFirstFault limits p (faults.FieldValue c) = NamesPass limits (parts_tree p) × IsFirstUnsoundField p.fields.items (Some c)
-IsFirstFault limits p (faults.Value n) = FieldValuesPass limits p × IsFirstUnsound 0 p.body.items (Some n)
+IsFirstFault limits p faults.ZeroSerial = KindPasses p × ((p.serial ≡ 0) ⊎ ((c : ℕ) × IsFirstField (Keeps rules.Nonzero) p.fields.items (Some c)))
+IsFirstFault limits p faults.FieldCode = SerialsPass p × (has_code 0 (parts_tree p).fields ≡ true)
+IsFirstFault limits p (faults.FieldTwice c) = CodesPass p × (twice [] (parts_tree p).fields ≡ Some c)
+IsFirstFault limits p (faults.FieldType c) = NoneIsTwice p × IsFirstField (Keeps rules.OwnType) p.fields.items (Some c)
+IsFirstFault limits p (faults.FieldMissing c) = TypesPass p × (lacks (required p.kind) (parts_tree p).fields ≡ Some (reasons.FieldMissing c))
+IsFirstFault limits p faults.TooDeep = NoneIsMissing p × (IsShallow limits (parts_tree p) → ⊥)
+IsFirstFault limits p (faults.Name c) = DepthPasses limits p × IsFirstField (Keeps rules.OwnKind) p.fields.items (Some c)
+IsFirstFault limits p (faults.FieldValue c) = NamesPass limits p × IsFirstField HoldsSound p.fields.items (Some c)
+IsFirstFault limits p (faults.Value n) = FieldValuesPass limits p × IsFirstUnsound p.body.items (Some n)
 IsFirstFault limits p faults.SignatureDiffers = ValuesPass limits p × (HasOwnSignature (parts_tree p) → ⊥)
 IsFirstFault limits p faults.ArrayTooLong = SignaturePasses limits p × (KeepsArrays limits (parts_tree p) → ⊥)
 IsFirstFault limits p faults.MessageTooLong = ArraysPass limits p × IsLong limits (parts_tree p)

@@ -2,29 +2,27 @@
 #![tactic(auto)]
 
 ghost use Rattle.std.specs.Prelude.{◌≡◌, length, MatchResult};
+ghost use Rattle.dbus_value_model.specs.FirstPast.{IsFirstPast};
 ghost use Rattle.dbus_value_model.specs.declared.order.Order.TheVariants.{Little};
 ghost use Rattle.dbus_value_model.specs.Specification.{specification};
 ghost use Rattle.dbus_value_model.specs.declared.limits.Limits.{Limits};
 ghost use Rattle.dbus_build.specs.BuildFaults.{IsAccepted, IsBuilt, IsTaken, IsFirstFault, NoFault, NoneIsMissing, SignaturePasses, SizePasses, HoldTheirNumbers};
-ghost use Rattle.dbus_message_model.specs.Messages.{message_bytes, IsValidMessage};
+ghost use Rattle.dbus_message_model.specs.Messages.{body_fds, message_bytes, IsValidMessage};
 ghost use Rattle.dbus_message_model.specs.PartsViews.{parts_tree};
 
 use crate::build_fault::BuildFault;
 use crate::faulty_body::{first_unsound, has_types};
-use crate::faulty_fields::{
-    first_misnamed, first_mistyped, first_twice, first_unsound_field, first_zero_reply,
-};
-use crate::message_size::fields_end;
-use dbus_marshal::measure_all;
+use crate::faulty_fields::{Rule, first_twice, first_unsound_field, first_without};
+use crate::message_size::message_end;
 use dbus_message_model::known_fields::{body_signature, fd_count, has_field, missing_field};
 use dbus_message_model::{Message, Parts};
-use dbus_value_model::{Limits, first_past, padding_length};
+use dbus_value_model::{Limits, first_past};
 use std::alloc::Allocator;
 
 /// Validates the type, the serial, and which fields there are.
 fn check_header<A: Allocator>(parts: &Parts<A>) -> Result<(), BuildFault>
     ensures { (limits : Limits) →
-        MatchResult result (λ _. NoneIsMissing (parts_tree parts.now)) (λ f.
+        MatchResult result (λ _. NoneIsMissing parts.now) (λ f.
         IsFirstFault limits parts.now f) }
 {
     if parts.kind == 0 {
@@ -33,7 +31,7 @@ fn check_header<A: Allocator>(parts: &Parts<A>) -> Result<(), BuildFault>
     if parts.serial == 0 {
         return Err(BuildFault::ZeroSerial);
     }
-    match first_zero_reply(&parts.fields) {
+    match first_without(&parts.fields, Rule::Nonzero) {
         Some(_) => return Err(BuildFault::ZeroSerial),
         None => {}
     }
@@ -44,20 +42,19 @@ fn check_header<A: Allocator>(parts: &Parts<A>) -> Result<(), BuildFault>
         Some(code) => return Err(BuildFault::FieldTwice(code)),
         None => {}
     }
-    match first_mistyped(&parts.fields) {
+    match first_without(&parts.fields, Rule::OwnType) {
         Some(code) => return Err(BuildFault::FieldType(code)),
         None => {}
     }
     match missing_field(parts.kind, &parts.fields) {
-        Some(code) => return Err(BuildFault::FieldMissing(code)),
-        None => {}
+        Some(code) => Err(BuildFault::FieldMissing(code)),
+        None => Ok(()),
     }
-    Ok(())
 }
 
 /// Validates how deep the values nest, the texts of the fields, the values, and their types.
 fn check_contents<A: Allocator>(parts: &Parts<A>, limits: Limits) -> Result<(), BuildFault>
-    requires header { NoneIsMissing (parts_tree parts.now) }
+    requires header { NoneIsMissing parts.now }
     ensures { MatchResult result
         (λ _. SignaturePasses limits parts.now × HoldTheirNumbers (parts_tree parts.now)) (λ f.
         IsFirstFault limits parts.now f) }
@@ -65,7 +62,7 @@ fn check_contents<A: Allocator>(parts: &Parts<A>, limits: Limits) -> Result<(), 
     let (_kind, _flags, _serial) = (parts.kind, parts.flags, parts.serial);
     let field = first_unsound_field(&parts.fields, limits.depth)?;
     let value = first_unsound(&parts.body, limits.depth)?;
-    match first_misnamed(&parts.fields) {
+    match first_without(&parts.fields, Rule::OwnKind) {
         Some(code) => return Err(BuildFault::Name(code)),
         None => {}
     }
@@ -93,12 +90,7 @@ fn measure<A: Allocator>(parts: &Parts<A>, limits: Limits) -> Result<usize, Buil
         (n ≡ length (message_bytes Little (parts_tree parts.now))) × SizePasses limits parts.now)
         (λ f. IsFirstFault limits parts.now f) }
 {
-    let fields = match fields_end(&parts.fields, limits) {
-        Some(end) => end,
-        None => return Err(BuildFault::ArrayTooLong),
-    };
-    let start = fields + u64::from(padding_length(8, fields));
-    match measure_all(&parts.body, start, limits) {
+    match message_end(parts, limits) {
         None => Err(BuildFault::ArrayTooLong),
         Some(end) => {
             if end > u64::from(limits.message) {
@@ -109,22 +101,37 @@ fn measure<A: Allocator>(parts: &Parts<A>, limits: Limits) -> Result<usize, Buil
     }
 }
 
-/// Validates the indexes of descriptors.
-fn check_indexes<A: Allocator>(parts: &Parts<A>, limits: Limits) -> Result<(), BuildFault>
-    requires passed { SizePasses limits parts.now }
-    ensures { MatchResult result (λ _. NoFault limits parts.now) (λ f.
-        IsFirstFault limits parts.now f) }
+/// The number of the first value of the body that holds an index of a descriptor not below the
+/// number that the limits' rule asks for.
+pub(crate) fn first_index_past<A: Allocator>(parts: &Parts<A>, limits: Limits) -> Option<usize>
+    ensures { IsFirstPast (body_fds limits (parts_tree parts.now).fields) 0
+        (parts_tree parts.now).body result }
 {
     let fds = limits.fds.index_limit(fd_count(&parts.fields));
-    match first_past(&parts.body, fds) {
+    first_past(&parts.body, fds)
+}
+
+/// The number of bytes that spell the parts, or the first case of [`BuildFault`] that holds of them
+/// under the limits.
+fn check<A: Allocator>(parts: &Parts<A>, limits: Limits) -> Result<usize, BuildFault>
+    ensures { MatchResult result
+        (λ n.
+        IsValidMessage specification (parts_tree parts.now) ×
+        (n ≡ length (message_bytes Little (parts_tree parts.now))) × NoFault limits parts.now)
+        (λ f. IsFirstFault limits parts.now f) }
+{
+    check_header(parts)?;
+    check_contents(parts, limits)?;
+    let size = measure(parts, limits)?;
+    match first_index_past(parts, limits) {
         Some(n) => Err(BuildFault::FdIndex(n)),
-        None => Ok(()),
+        None => Ok(size),
     }
 }
 
 /// The message of these parts, or the parts and the first case of [`BuildFault`] that holds of them
 /// under the limits.
-#[tactic(auto, using(crate::proofs::Accepting::parts_packed))]
+#[tactic(auto, using(crate::proofs::SoundParts::parts_packed))]
 pub(crate) fn build_within<A: Allocator>(
     parts: Parts<A>,
     limits: Limits,
@@ -133,18 +140,8 @@ pub(crate) fn build_within<A: Allocator>(
     ensures accepted { IsAccepted limits parts result }
     ensures taken { IsTaken limits parts result }
 {
-    if let Err(fault) = check_header(&parts) {
-        return Err((parts, fault));
-    }
-    if let Err(fault) = check_contents(&parts, limits) {
-        return Err((parts, fault));
-    }
-    let size = match measure(&parts, limits) {
-        Err(fault) => return Err((parts, fault)),
-        Ok(size) => size,
-    };
-    match check_indexes(&parts, limits) {
+    match check(&parts, limits) {
+        Ok(size) => Ok(Message::of_valid(parts, size)),
         Err(fault) => Err((parts, fault)),
-        Ok(()) => Ok(Message::of_valid(parts, size)),
     }
 }

@@ -21,7 +21,7 @@ pub fn first_unsound<A: Allocator>(
     depth_left: u8,
 ) -> Result<Option<usize>, BuildFault>
     ensures { IsFound (NestWithin depth_left (value_trees_of values.now))
-        (IsFirstUnsound 0 values.now) (HoldNumbers (value_trees_of values.now)) result }
+        (IsFirstUnsound values.now) (HoldNumbers (value_trees_of values.now)) result }
 {
     let mut first = None;
     for (i, value) in values.iter().enumerate() {
@@ -36,7 +36,7 @@ pub fn first_unsound<A: Allocator>(
 
 /// Whether the values, each of them sound, are of the types that the signature spells.
 pub fn has_types<A: Allocator>(values: &[Value<A>], signature: &[u8]) -> bool
-    requires sound { IsFirstUnsound 0 values.now None }
+    requires sound { IsFirstUnsound values.now None }
     requires short { length signature.now < 256 }
     ensures { IsTrue result ↔ (sigs (types_of (value_trees_of values.now)) ≡ signature.now) }
 {

@@ -4,7 +4,8 @@
 ghost use Rattle.std.specs.Prelude.{◌≡◌, ◌↔◌, [], IsTrue, option_map};
 ghost use Rattle.dbus_value_model.specs.Forming.{NestsWithin};
 ghost use Rattle.dbus_value_model.specs.WantedTexts.{Of};
-ghost use Rattle.dbus_build.specs.BuildFaults.{IsFirstWithout, IsFirstUnsoundField, IsFound, IsNonzero, IsSoundness, HasOwnType, HasOwnKind, HoldTypedNumbers, HoldsSound, HoldsTypedNumber, text_wanted, twice};
+ghost use Rattle.dbus_build.specs.BuildFaults.{IsFirstField, IsFound, IsSoundness, HoldTypedNumbers, HoldsSound, HoldsTypedNumber, Keeps, text_wanted, twice};
+ghost use Rattle.dbus_build.specs.declared.faulty_fields.Rule.TheVariants.{Nonzero, OwnType, OwnKind};
 ghost use Rattle.dbus_message_model.specs.Messages.{field_array, field_struct, want};
 ghost use Rattle.dbus_message_model.specs.PartsViews.{field_tree, field_trees};
 
@@ -16,9 +17,20 @@ use dbus_types::{TextKind, text_break};
 use dbus_value_model::{Value, Verdict, basic_in_range, check_nested};
 use std::alloc::Allocator;
 
+/// What the value of a known field is asked for.
+#[derive(Clone, Copy)]
+pub enum Rule {
+    /// It is not 0, if it is a REPLY_SERIAL.
+    Nonzero,
+    /// It is of the field's own type.
+    OwnType,
+    /// Its text is of the field's kind.
+    OwnKind,
+}
+
 /// Whether a field is no REPLY_SERIAL of 0.
 fn is_nonzero<A: Allocator>(field: &HeaderField<A>) -> bool
-    ensures { IsTrue result ↔ IsNonzero (field_tree field.now) }
+    ensures { IsTrue result ↔ Keeps Nonzero field.now }
 {
     match want(field.code) {
         Wanted::Serial => !matches!(field.value, Value::U32(0)),
@@ -28,7 +40,7 @@ fn is_nonzero<A: Allocator>(field: &HeaderField<A>) -> bool
 
 /// Whether a field is of its own type, if it is known.
 fn has_own_type<A: Allocator>(field: &HeaderField<A>) -> bool
-    ensures { IsTrue result ↔ HasOwnType (field_tree field.now) }
+    ensures { IsTrue result ↔ Keeps OwnType field.now }
 {
     match want(field.code) {
         Wanted::Anything => true,
@@ -53,7 +65,7 @@ fn own_kind(code: u8) -> Option<TextKind>
 
 /// Whether the text of a field is of its kind, if it is known.
 fn has_own_kind<A: Allocator>(field: &HeaderField<A>) -> bool
-    ensures { IsTrue result ↔ HasOwnKind (field_tree field.now) }
+    ensures { IsTrue result ↔ Keeps OwnKind field.now }
 {
     match own_kind(field.code) {
         None => true,
@@ -61,12 +73,23 @@ fn has_own_kind<A: Allocator>(field: &HeaderField<A>) -> bool
     }
 }
 
-/// The code of the first REPLY_SERIAL of 0.
-pub fn first_zero_reply<A: Allocator>(fields: &[HeaderField<A>]) -> Option<u8>
-    ensures { IsFirstWithout IsNonzero (field_trees fields.now) result }
+/// Whether a field keeps a rule.
+fn keeps<A: Allocator>(field: &HeaderField<A>, rule: Rule) -> bool
+    ensures { IsTrue result ↔ Keeps rule field.now }
+{
+    match rule {
+        Rule::Nonzero => is_nonzero(field),
+        Rule::OwnType => has_own_type(field),
+        Rule::OwnKind => has_own_kind(field),
+    }
+}
+
+/// The code of the first field that does not keep a rule.
+pub fn first_without<A: Allocator>(fields: &[HeaderField<A>], rule: Rule) -> Option<u8>
+    ensures { IsFirstField (Keeps rule) fields.now result }
 {
     for field in fields {
-        if !is_nonzero(field) {
+        if !keeps(field, rule) {
             return Some(field.code);
         }
     }
@@ -79,30 +102,6 @@ pub fn first_twice<A: Allocator>(fields: &[HeaderField<A>]) -> Option<u8>
 {
     for (i, field) in fields.iter().enumerate() {
         if is_again(&fields[..i], field.code) {
-            return Some(field.code);
-        }
-    }
-    None
-}
-
-/// The code of the first known field of another type than its own.
-pub fn first_mistyped<A: Allocator>(fields: &[HeaderField<A>]) -> Option<u8>
-    ensures { IsFirstWithout HasOwnType (field_trees fields.now) result }
-{
-    for field in fields {
-        if !has_own_type(field) {
-            return Some(field.code);
-        }
-    }
-    None
-}
-
-/// The code of the first known field whose text is not of its kind.
-pub fn first_misnamed<A: Allocator>(fields: &[HeaderField<A>]) -> Option<u8>
-    ensures { IsFirstWithout HasOwnKind (field_trees fields.now) result }
-{
-    for field in fields {
-        if !has_own_kind(field) {
             return Some(field.code);
         }
     }
@@ -141,7 +140,7 @@ pub fn first_unsound_field<A: Allocator>(
     depth_left: u8,
 ) -> Result<Option<u8>, BuildFault>
     ensures { IsFound (NestsWithin depth_left (field_array (field_trees fields.now)))
-        (IsFirstUnsoundField fields.now) (HoldTypedNumbers (field_trees fields.now)) result }
+        (IsFirstField HoldsSound fields.now) (HoldTypedNumbers fields.now) result }
 {
     if depth_left == 0 {
         return Err(BuildFault::TooDeep);

@@ -7,7 +7,7 @@ use std::alloc::Allocator;
 
 /// No case of [`BuildFault`](crate::BuildFault) holds of the parts of a message exactly if the
 /// message keeps the limits.
-#[tactic(auto, using(crate::proofs::Accepting::kept_parts))]
+#[tactic(auto, using(crate::proofs::SoundParts::kept_parts))]
 pub fn kept_parts<A: Allocator>()
     ensures { KeptParts A }
 {}

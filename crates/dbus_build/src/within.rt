@@ -9,13 +9,12 @@ ghost use Rattle.dbus_message_model.specs.Messages.{field_struct, KeepsIndexes};
 ghost use Rattle.dbus_message_model.specs.MessageViews.{message_tree};
 ghost use Rattle.dbus_message_model.specs.PartsViews.{parts_tree};
 
+use crate::building::first_index_past;
 use crate::faulty_body::first_unsound;
 use crate::faulty_fields::first_unsound_field;
-use crate::message_size::fields_end;
-use dbus_marshal::measure_all;
-use dbus_message_model::known_fields::fd_count;
+use crate::message_size::message_end;
 use dbus_message_model::{Message, Parts};
-use dbus_value_model::{Limits, first_past, padding_length};
+use dbus_value_model::Limits;
 use std::alloc::Allocator;
 
 /// Whether no more arrays, structs and variants are open at once than the limits' depth.
@@ -33,12 +32,7 @@ fn keeps_arrays<A: Allocator>(parts: &Parts<A>, limits: Limits) -> bool
     requires body_signed { HaveShortSignatures (parts_tree parts.now).body }
     ensures { IsTrue result ↔ KeepsArrays limits (parts_tree parts.now) }
 {
-    let end = match fields_end(&parts.fields, limits) {
-        Some(end) => end,
-        None => return false,
-    };
-    let start = end + u64::from(padding_length(8, end));
-    match measure_all(&parts.body, start, limits) {
+    match message_end(parts, limits) {
         Some(_) => true,
         None => false,
     }
@@ -49,8 +43,7 @@ fn keeps_arrays<A: Allocator>(parts: &Parts<A>, limits: Limits) -> bool
 fn keeps_indexes<A: Allocator>(parts: &Parts<A>, limits: Limits) -> bool
     ensures { IsTrue result ↔ KeepsIndexes limits (parts_tree parts.now) }
 {
-    let fds = limits.fds.index_limit(fd_count(&parts.fields));
-    first_past(&parts.body, fds).is_none()
+    first_index_past(parts, limits).is_none()
 }
 
 /// Whether the message keeps the limits.
