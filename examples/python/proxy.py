@@ -4,7 +4,9 @@ user at the Unix socket DOOR, connects each to the bus at the addresses BUS, and
 in both directions, each validated. With `deny`, what a client sends does not get through if one of
 the match rules may match it; with `allow`, if none matches it with the SENDER that the bus writes.
 Then a call is answered by the error org.freedesktop.DBus.Error.AccessDenied. Bytes that are no
-message end the connection, and so does a message of over 1 MiB."""
+message end the connection, and so does a message of over 1 MiB. If a name changes hands after the
+rules are asked, and before the bus routes the message, this reaches the new owner: no proxy beside
+the bus can prevent it."""
 
 import os
 import select

@@ -69,6 +69,8 @@ POLICIES = {
         ),
     ),
 }
+# Another proxy that takes the same words, and the socket of a bus that is there.
+PROXY, BUS = os.environ.get("DBUS_WIRE_PROXY"), os.environ.get("DBUS_WIRE_BUS")
 # The module that this test has.
 ENVIRONMENT = {**os.environ, "PYTHONPATH": str(pathlib.Path(dbus_wire.__file__).parent.parent)}
 
@@ -257,11 +259,13 @@ class AtABus(unittest.TestCase):
                 [entries] = asked(client, incoming, 100, "Get", destination="org.example.Load")
                 self.assertEqual(list(entries), ["Load"])
 
-    @unittest.skipUnless(shutil.which("dbus-daemon"), "dbus-daemon is not there")
+    @unittest.skipUnless(BUS or shutil.which("dbus-daemon"), "dbus-daemon is not there")
     def test_ways_past_a_policy(self):
-        address, to_bus = f"unix:path={self.bus}", {"destination": DBUS, "interface": DBUS}
-        self.start("dbus-daemon", "--session", "--nofork", f"--address={address}")
-        with connected(self.bus) as service, service.makefile("rb") as file:
+        bus, to_bus = BUS or self.bus, {"destination": DBUS, "interface": DBUS}
+        address = f"unix:path={bus}"
+        if not BUS:
+            self.start("dbus-daemon", "--session", "--nofork", f"--address={address}")
+        with connected(bus) as service, service.makefile("rb") as file:
             Client(user=os.getuid()).shake_hands(service)
             incoming = messages(file)
             [own] = asked(service, incoming, 1, "Hello", **to_bus)
@@ -269,7 +273,7 @@ class AtABus(unittest.TestCase):
                 asked(service, incoming, serial, "RequestName", "su", name, 0, **to_bus)
             for policy, (rules, calls) in POLICIES.items():
                 door = self.door + policy
-                self.example("proxy.py", policy, door, address, *rules)
+                self.start(*([PROXY] if PROXY else [sys.executable, EXAMPLES / "proxy.py"]), policy, door, address, *rules)
                 with connected(door) as client, client.makefile("rb") as replies:
                     Client(user=os.getuid()).shake_hands(client)
                     to_client = messages(replies)
