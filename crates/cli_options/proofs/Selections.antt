@@ -12,12 +12,18 @@ use mathlib.Core.Bool.{beq}
 use Rattle.dbus_message_model.specs.Messages.{MessageTree}
 use Rattle.dbus_rule.specs.declared.rule.Rule.{Rule}
 use Rattle.dbus_match.specs.Matching.{Ownership, ownership}
+use Rattle.dbus_match.specs.TakenFor.{text_at}
+use Rattle.dbus_message_model.specs.declared.field_code.TheConstants as field
 use Rattle.dbus_rule.specs.RuleViews.{rule_pairs}
 use Rattle.dbus_match.proofs.Decided.{decided}
 use Rattle.dbus_rule.proofs.PairChoices.{Either, one_of}
 use Rattle.dbus_match.proofs.Noted.{owners_equal}
 use Rattle.dbus_rule.proofs.SortedConditions.{rules_equal}
-use Rattle.cli_options.specs.Selections.{AreSameSelection, OrInverted, SelectsBy, SomeMatches, AreSameCommand}
+use Rattle.cli_options.specs.Selections.{AreSameSelection, Holds, OrInverted, SelectsBy, SomeHolds, AreSameCommand}
+use Rattle.cli_options.specs.contracts.selection.QuestionPartialEq.TheImpl as question_eq
+use Rattle.cli_options.specs.declared.selection.Question.{Question}
+use Rattle.cli_options.specs.declared.selection.Question.TheVariants as questions
+use Rattle.cli_options.proofs.MayDecided.{may_decided}
 use Rattle.cli_options.specs.contracts.selection.SelectionPartialEq.TheImpl as selection_eq
 use Rattle.cli_options.specs.declared.selection.Selection.{Selection}
 use Rattle.cli_options.specs.declared.command.Command.{Command}
@@ -28,9 +34,13 @@ use Rattle.cli_options.specs.declared.file_form.FileForm.{FileForm}
 
 -- ---- which messages are selected
 
-some_decided : (rules : List (Rule Global)) (m : MessageTree) (os : List Ownership) → Either (SomeMatches rules m os)
-some_decided [] m os = inr (λ h. h)
-some_decided (r ∷ rules) m os = one_of (decided (rule_pairs r) m os) (some_decided rules m os)
+holds_decided : (q : Question) (r : Rule Global) (m : MessageTree) (os : List Ownership) → Either (Holds q (rule_pairs r) m os)
+holds_decided questions.Matches r m os = decided (rule_pairs r) m os
+holds_decided questions.MayMatch r m os = may_decided m (text_at field.SENDER m) os r
+
+some_decided : (q : Question) (rules : List (Rule Global)) (m : MessageTree) (os : List Ownership) → Either (SomeHolds q rules m os)
+some_decided q [] m os = inr (λ h. h)
+some_decided q (r ∷ rules) m os = one_of (holds_decided q r m os) (some_decided q rules m os)
 
 inverted_decided : (inverted : Bool) {P : Type 0} → Either P → Either (OrInverted inverted P)
 inverted_decided false e = e
@@ -38,7 +48,7 @@ inverted_decided true (inl p) = inr (λ n. n p)
 inverted_decided true (inr n) = inl n
 
 pub selected : (s : Selection) (os : List Ownership) (m : MessageTree) → Either (SelectsBy s os m)
-selected s os m = inverted_decided s.is_inverted (some_decided s.rules.items m os)
+selected s os m = inverted_decided s.is_inverted (some_decided s.question s.rules.items m os)
 
 -- ---- what is the same
 
@@ -63,15 +73,19 @@ bools_equal false true = (λ t. absurd (false≢true t), λ h. absurd (false≢t
 bools_equal true false = (λ t. absurd (false≢true t), λ h. absurd (false≢true (sym h)))
 bools_equal true true = (λ t. refl, λ h. refl)
 
+questions_equal : (a b : Question) → Decides (question_eq.ghosts.eq a b) (a ≡ b)
+questions_equal a b = grind (arith, common_steps)
+
 pub selections_equal : (a b : Selection) → Decides (selection_eq.ghosts.eq a b) (AreSameSelection a b)
 selections_equal a b =
     let rules = mapped_decides rule_pairs _ rules_equal a.rules.items b.rules.items in
     let owners = mapped_decides ownership _ owners_equal a.owners.items b.owners.items in
     let last = Decides-and _ _ owners (bools_equal a.learns b.learns) in
-    let rest = Decides-and _ _ (bools_equal a.is_inverted b.is_inverted) last in
+    let asked = Decides-and _ _ (questions_equal a.question b.question) last in
+    let rest = Decides-and _ _ (bools_equal a.is_inverted b.is_inverted) asked in
     let all = Decides-and _ _ rules rest in (
-      λ t. record { rules = (all.0 t).0; inverted = (all.0 t).1.0; owners = (all.0 t).1.1.0; learns = (all.0 t).1.1.1 },
-      λ h. all.1 (h.rules, (h.inverted, (h.owners, h.learns))),
+      λ t. record { rules = (all.0 t).0; inverted = (all.0 t).1.0; question = (all.0 t).1.1.0; owners = (all.0 t).1.1.1.0; learns = (all.0 t).1.1.1.1 },
+      λ h. all.1 (h.rules, (h.inverted, (h.question, (h.owners, h.learns)))),
     )
 
 -- Commands are equal exactly where they are the same.

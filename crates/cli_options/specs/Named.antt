@@ -20,6 +20,8 @@ use Rattle.cli_options.specs.declared.asked.Asked.{Asked}
 use Rattle.cli_options.specs.declared.asked.Asked.TheVariants.{Messages, Count, List as Listing, Calls, Encode, Handshake}
 use Rattle.cli_options.specs.declared.command.Command.{Command}
 use Rattle.cli_options.specs.declared.command.Command.TheVariants.{Show, Json, Check, Swap, Filter}
+use Rattle.cli_options.specs.declared.selection.Question.{Question}
+use Rattle.cli_options.specs.declared.selection.Question.TheVariants as questions
 use Rattle.cli_options.specs.declared.selection.Selection.{Selection}
 use Rattle.cli_options.specs.declared.settings.Settings.{Settings}
 use Rattle.cli_options.specs.declared.usage_fault.RefusedRule.{RefusedRule}
@@ -48,11 +50,17 @@ HasFileForm rows form = (form ≡ files.Raw) ↔ IsGiven (codes "raw") rows
 abbrev pub rules_given : List Row → List Text
 rules_given rows = unwrap_or (all_of (codes "rule") rows) ([] ∷ [])
 
+-- it is asked of rules whether they may match if `--may-match` is one of the words
+abbrev pub HasQuestion : List Row → Question → Type 0
+HasQuestion rows questions.Matches = IsGiven (codes "may-match") rows → ⊥
+HasQuestion rows questions.MayMatch = IsGiven (codes "may-match") rows
+
 -- the words after `list` or `filter` are texts that spell the rules, in their order; and so are the
--- owners given, and it learns others if it is to
+-- owners given, and it learns others if it is to; and what is asked of each rule is what they name
 pub record IsSelectionGiven (rows : List Row) (selection : Selection) : Type 0 where
   pub rules : AreRulesOf (rules_given rows) selection.rules.items
   pub inverted : (selection.is_inverted ≡ true) ↔ IsGiven (codes "invert") rows
+  pub question : HasQuestion rows selection.question
   pub owners : AreOwnersOf (words_of (codes "owner") rows) selection.owners.items
   pub learns : (selection.learns ≡ true) ↔ IsGiven (codes "learn-owners") rows
 

@@ -3,40 +3,53 @@
 use Rattle.std.specs.Prelude.{◌≡◌, ◌⊎◌, Bool, true, false, List, [], ◌∷◌, map}
 use Rattle.std.specs.declared.alloc.Global.{Global}
 use Rattle.dbus_message_model.specs.Messages.{MessageTree}
+use Rattle.dbus_message_model.specs.declared.field_code.TheConstants as field
 use Rattle.dbus_rule.specs.declared.rule.Rule.{Rule}
+use Rattle.dbus_rule.specs.Rules.{Pair}
 use Rattle.dbus_match.specs.Matching.{Matches, Ownership, ownerships}
+use Rattle.dbus_match.specs.TakenFor.{MayMatch, text_at}
 use Rattle.dbus_rule.specs.RuleViews.{rule_pairs}
+use Rattle.cli_options.specs.declared.selection.Question.{Question}
+use Rattle.cli_options.specs.declared.selection.Question.TheVariants as questions
 use Rattle.cli_options.specs.declared.selection.Selection.{Selection}
 use Rattle.cli_options.specs.declared.command.Command.{Command}
 use Rattle.cli_options.specs.declared.command.Command.TheVariants.{Show, Json, Check, Swap, Filter}
 
--- some rule of the list matches the message with these owners
-abbrev pub SomeMatches : List (Rule Global) → MessageTree → List Ownership → Type 0
-SomeMatches [] m os = ⊥
-SomeMatches (rule ∷ rules) m os = Matches (rule_pairs rule) m os ⊎ SomeMatches rules m os
+-- what is asked of a rule and a message with these owners holds: the rule matches it, or may match
+-- it, whose SENDER the bus wrote, if it has one
+abbrev pub Holds : Question → List Pair → MessageTree → List Ownership → Type 0
+Holds questions.Matches ps m os = Matches ps m os
+Holds questions.MayMatch ps m os = ∥ MayMatch ps m (text_at field.SENDER m) os ∥₁
+
+-- it holds of some rule of the list
+abbrev pub SomeHolds : Question → List (Rule Global) → MessageTree → List Ownership → Type 0
+SomeHolds q [] m os = ⊥
+SomeHolds q (rule ∷ rules) m os = Holds q (rule_pairs rule) m os ⊎ SomeHolds q rules m os
 
 -- what holds of a message where it is selected: this, or, inverted, that it does not
 abbrev pub OrInverted : Bool → Type 0 → Type 0
 OrInverted false P = P
 OrInverted true P = P → ⊥
 
--- the selection selects the message with these owners: some rule of it matches; or, inverted, none
--- does
+-- the selection selects the message with these owners: what it asks holds of some rule of it; or,
+-- inverted, of none
 abbrev pub SelectsBy : Selection → List Ownership → MessageTree → Type 0
-SelectsBy selection os m = OrInverted selection.is_inverted (SomeMatches selection.rules.items m os)
+SelectsBy selection os m = OrInverted selection.is_inverted (SomeHolds selection.question selection.rules.items m os)
 
--- it is by this rule alone, with no owners, and learns none
+-- it is by this rule alone, if that matches, with no owners, and learns none
 pub record IsByRule (rule : Rule Global) (selection : Selection) : Type 0 where
   pub rules : map rule_pairs selection.rules.items ≡ rule_pairs rule ∷ []
   pub straight : selection.is_inverted ≡ false
+  pub question : selection.question ≡ questions.Matches
   pub owners : selection.owners.items ≡ []
   pub fixed : selection.learns ≡ false
 
--- both have the same rules and owners, each in the same order, and both are inverted, or neither
--- is, and both learn, or neither does
+-- both have the same rules and owners, each in the same order, and ask the same, and both are
+-- inverted, or neither is, and both learn, or neither does
 pub record AreSameSelection (a b : Selection) : Type 0 where
   pub rules : map rule_pairs a.rules.items ≡ map rule_pairs b.rules.items
   pub inverted : a.is_inverted ≡ b.is_inverted
+  pub question : a.question ≡ b.question
   pub owners : ownerships a.owners.items ≡ ownerships b.owners.items
   pub learns : a.learns ≡ b.learns
 

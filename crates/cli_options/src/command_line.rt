@@ -1,7 +1,7 @@
 //! The command that the words of a command line name.
 ghost use Rattle.std.specs.Prelude.{◌≡◌, ◌↔◌, true, List, Some, IfOk, MatchOption, map, string_bytes, codes};
 ghost use Rattle.clap.specs.Words.{found_of, kind_of, rows_of, subcommand_rows_of};
-ghost use Rattle.cli_options.specs.Named.{GivesWanted, HasEncoding, HasFileForm, HasOrder, HasSettings, IsNamedBy, rules_given, words_of};
+ghost use Rattle.cli_options.specs.Named.{GivesWanted, HasEncoding, HasFileForm, HasOrder, HasQuestion, HasSettings, IsNamedBy, rules_given, words_of};
 ghost use Rattle.cli_options.specs.Limiting.{IsGiven};
 ghost use Rattle.cli_options.specs.Telling.{TellsNamed};
 ghost use Rattle.cli_options.specs.Told.{TellsKind, Tells, TellsCommand, TellsFault, TellsOwners, TellsRules, TellsSelection};
@@ -15,7 +15,7 @@ use crate::limits_named::{
 use crate::owners::owners_given;
 use crate::resync::Resync;
 use crate::rules::rules_spelled;
-use crate::selection::Selection;
+use crate::selection::{Question, Selection};
 use crate::settings::Settings;
 use crate::usage_fault::{UsageFault, usage};
 use crate::wanted_calls::WantedCalls;
@@ -42,8 +42,8 @@ use std::alloc::Global;
 /// set. `--handshake` names the side whose handshake comes before the messages. `--skip` and `--limit`, of `show`, `json`, `list` and `filter`, are the numbers of the
 /// window; without them it leaves no message out. `--check-rest` of these is set if it is among the
 /// words. `--width` of `list` is the number of cells of its lines; without it they have 80. The
-/// words that stand alone after `list` and `filter` are rules, and `--invert`, `--owner` and
-/// `--learn-owners` say more of what they select; `list` without rules selects all messages.
+/// words that stand alone after `list` and `filter` are rules, and `--invert`, `--may-match`,
+/// `--owner` and `--learn-owners` say more of what they select; `list` without rules selects all messages.
 /// `encode` takes the options of the limits, `--to` for the order of all messages, `--explain`,
 /// `--keep-going` and `--max-line`, in bytes; without it a line may have 1 GiB. `--safe-integers` of `json` and of
 /// `encode` is set if it is among the words.
@@ -277,9 +277,21 @@ fn selection_named(alloc: Global, inner: &ArgMatches) -> Result<Selection, Usage
     Ok(Selection {
         rules,
         is_inverted: is_given(inner, "invert"),
+        question: question_named(inner),
         owners,
         learns: is_given(inner, "learn-owners"),
     })
+}
+
+// What is asked of each rule.
+fn question_named(inner: &ArgMatches) -> Question
+    ensures { HasQuestion (rows_of (found_of inner.now)) result }
+{
+    if is_given(inner, "may-match") {
+        Question::MayMatch
+    } else {
+        Question::Matches
+    }
 }
 
 // The rules that it is given; without any, the one that matches each message.

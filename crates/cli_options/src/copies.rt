@@ -40,6 +40,7 @@ impl Clone for Selection {
         Ok(Selection {
             rules: self.rules.clone()?,
             is_inverted: self.is_inverted,
+            question: self.question,
             owners: self.owners.clone()?,
             learns: self.learns,
         })

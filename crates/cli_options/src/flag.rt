@@ -53,6 +53,8 @@ pub(crate) enum Flag {
     Slower,
     /// Write the messages that match no rule
     Invert,
+    /// Write those that a rule may match
+    MayMatch,
     /// The owner of a well-known name: NAME=UNIQUE
     Owner,
     /// Learn owners from the input
@@ -132,6 +134,7 @@ pub(crate) fn argument<'a>(alloc: Global, flag: Flag) -> Arg<'a>
         Flag::Invert => set(alloc, "invert").help(
             "Writes the messages that match none of the rules",
         ),
+        Flag::MayMatch => set(alloc, "may-match").help("Asks whether rules may match, as a policy"),
         Flag::Owner => many(alloc, "owner", "NAME=UNIQUE").help(
             "The owner of a name, as org.a.B=:1.7; any number",
         ),

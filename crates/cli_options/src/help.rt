@@ -146,8 +146,8 @@ pub(crate) const LIST: Texts = Texts {
   input is refused, `refused at P: NAME` on standard error.
 
   With rules only the messages that match one of them are listed, or with
-  --invert none of them; numbers count all. Rules and owners of names are those
-  of filter: see `dbus-wire filter --help`.",
+  --invert none of them; numbers count all. Rules, --may-match and owners of
+  names are those of filter: see `dbus-wire filter --help`.",
     "
   dbus-wire list --width $COLUMNS < capture"
 ),
@@ -254,7 +254,12 @@ pub(crate) const FILTER: Texts = Texts {
   the bus returns them. With --learn-owners the owners are also learned from the
   input, for the messages after each that tells one: signals NameOwnerChanged,
   NameAcquired and NameLost of the bus, its replies to RequestName and
-  GetNameOwner, and the reply of :1.7 to a call to org.a.B.",
+  GetNameOwner, and the reply of :1.7 to a call to org.a.B.
+
+  With --may-match rules are asked as by one who forbids messages: a call
+  without INTERFACE may be of any, one to :1.7 is for each name that it owns,
+  one without DESTINATION is for the bus, and what has no SENDER may be from
+  anybody.",
     "
   dbus-wire filter \"type='signal',member='NameLost'\" < capture | dbus-wire show"
 ),

@@ -34,7 +34,7 @@ pub use command_line::command_of;
 pub use dbus_handshake_input::Side;
 pub use file_form::FileForm;
 pub use resync::Resync;
-pub use selection::Selection;
+pub use selection::{Question, Selection};
 pub use settings::Settings;
 pub use usage_fault::{RefusedRule, UsageFault};
 pub use wanted_calls::WantedCalls;

@@ -14,14 +14,16 @@ use Rattle.dbus_value_model.specs.declared.order.Order.{Order}
 use Rattle.dbus_message_model.specs.Messages.{MessageTree, message_bytes}
 use Rattle.std.proofs.Math.Path.{transport}
 use Rattle.dbus_rule.specs.declared.rule.Rule.{Rule}
-use Rattle.dbus_match.specs.Matching.{Matches, Ownership}
+use Rattle.dbus_match.specs.Matching.{Ownership}
 use Rattle.dbus_rule.specs.Rules.{sender_of, Pair}
 use Rattle.dbus_rule.specs.RuleViews.{rule_pairs}
 use Rattle.dbus_names.specs.NameStates.{NameState, known_after as names_after, known_first}
 use Rattle.dbus_rule_set.specs.Owners.{owners_in}
 use Rattle.dbus_calls.specs.Answering.{is_ownable}
 use Rattle.dbus_calls.specs.OwnerChanges.{is_text}
-use Rattle.cli_options.specs.Selections.{AreSameCommand, AreSameSelection, OrInverted, SelectsBy, SomeMatches}
+use Rattle.cli_options.specs.Selections.{AreSameCommand, AreSameSelection, Holds, OrInverted, SelectsBy, SomeHolds}
+use Rattle.cli_options.specs.declared.selection.Question.{Question}
+use Rattle.cli_options.specs.declared.selection.Question.TheVariants as questions
 use Rattle.cli_options.specs.declared.command.Command.{Command}
 use Rattle.cli_options.specs.declared.command.Command.TheVariants.{Show, Json, Check, Swap, Filter}
 use Rattle.cli_options.specs.declared.file_form.FileForm.{FileForm}
@@ -38,7 +40,7 @@ use Rattle.dbus_value_model.specs.FaultTexts.{reason_text}
 use Rattle.dbus_value_model.specs.declared.limits.Limits.{Limits}
 use Rattle.cli_report.specs.declared.telling.RefusedMessage.{RefusedMessage}
 use Rattle.cli_report.specs.declared.ending.ExitStatus.TheVariants as status
-use Rattle.cli_run.specs.Learning.{name_sender, known_after}
+use Rattle.cli_run.specs.Learning.{known_after, matters, name_sender}
 use Rattle.cli_run.specs.ByName.{after_messages}
 use Rattle.cli_run.specs.Inputs.{ArePlaced, BeginWithParts, Part, PassedOver, Placed, Whole, looked_for}
 use Rattle.cli_run.specs.Output.{AreAlike, IsExact, form_of, framed, is_framed, IsOutputOf, IsOutputOfAll, IsTextOf, Picks, is_check, owners_after, owners_known}
@@ -210,16 +212,16 @@ none_refused (suc n) fault e = absurd cc
 
 -- ---- commands that are the same
 
-same_some : (rules others : List (Rule Global)) (m : MessageTree) (os : List Ownership) → map rule_pairs rules ≡ map rule_pairs others → SomeMatches rules m os → SomeMatches others m os
-same_some [] [] m os e h = absurd h
-same_some [] (r ∷ others) m os e h = absurd h
-same_some (r ∷ rules) [] m os e h = absurd cc
-same_some (r ∷ rules) (s ∷ others) m os e h =
+same_some : (q : Question) (rules others : List (Rule Global)) (m : MessageTree) (os : List Ownership) → map rule_pairs rules ≡ map rule_pairs others → SomeHolds q rules m os → SomeHolds q others m os
+same_some q [] [] m os e h = absurd h
+same_some q [] (r ∷ others) m os e h = absurd h
+same_some q (r ∷ rules) [] m os e h = absurd cc
+same_some q (r ∷ rules) (s ∷ others) m os e h =
     let one : rule_pairs r ≡ rule_pairs s = cc in
     let more : map rule_pairs rules ≡ map rule_pairs others = cc in
     elim h [
-      | inl met ↦ inl (subst (λ (l : List Pair). Matches l m os) one met)
-      | inr met ↦ inr (same_some rules others m os more met)
+      | inl met ↦ inl (subst (λ (l : List Pair). Holds q l m os) one met)
+      | inr met ↦ inr (same_some q rules others m os more met)
     ]
 
 inverted_both : (b : Bool) (P Q : Type 0) → (P → Q) → (Q → P) → OrInverted b P → OrInverted b Q
@@ -228,12 +230,14 @@ inverted_both true P Q f g h = λ q. h (g q)
 
 same_selects : (a b : Selection) (os : List Ownership) (m : MessageTree) → AreSameSelection a b → SelectsBy a os m → SelectsBy b os m
 same_selects a b os m h s =
-    subst (λ c. OrInverted c (SomeMatches b.rules.items m os)) h.inverted
-    (inverted_both a.is_inverted _ _ (same_some a.rules.items b.rules.items m os h.rules) (same_some b.rules.items a.rules.items m os (sym h.rules)) s)
+    let there = same_some b.question a.rules.items b.rules.items m os h.rules in
+    let back = same_some b.question b.rules.items a.rules.items m os (sym h.rules) in
+    subst (λ c. OrInverted c (SomeHolds b.question b.rules.items m os)) h.inverted
+    (inverted_both a.is_inverted _ _ there back (subst (λ (q : Question). OrInverted a.is_inverted (SomeHolds q a.rules.items m os)) h.question s))
 
 same_picks : (a b : Selection) → AreSameSelection a b → (os : NameState) (m : MessageTree) → SelectsBy a (owners_in os.owners) m ↔ SelectsBy b (owners_in os.owners) m
 same_picks a b s os m =
-    let back : AreSameSelection b a = record { rules = sym s.rules; inverted = sym s.inverted; owners = sym s.owners; learns = sym s.learns } in
+    let back : AreSameSelection b a = record { rules = sym s.rules; inverted = sym s.inverted; question = sym s.question; owners = sym s.owners; learns = sym s.learns } in
     (same_selects a b (owners_in os.owners) m s, same_selects b a (owners_in os.owners) m back)
 
 same_senders : (rules others : List (Rule Global)) (name : List ℕ) → map rule_pairs rules ≡ map rule_pairs others → name_sender rules name ≡ name_sender others name
@@ -246,8 +250,15 @@ same_senders (r ∷ rules) (s ∷ others) name e =
     let rest = same_senders rules others name more in
     λ i. is_text (sender_of (one i)) name || rest i
 
+same_matters : (q : Question) (rules others : List (Rule Global)) (name : List ℕ) → map rule_pairs rules ≡ map rule_pairs others → matters q rules name ≡ matters q others name
+same_matters questions.Matches rules others name e = same_senders rules others name e
+same_matters questions.MayMatch rules others name e = refl
+
 same_after : (a b : Selection) (state : NameState) (m : MessageTree) → AreSameSelection a b → known_after a state m ≡ known_after b state m
-same_after a b state m h = λ i. if h.learns i then names_after (λ name. is_ownable name && same_senders a.rules.items b.rules.items name h.rules i) state m else state
+same_after a b state m h =
+    let same : (name : List ℕ) → matters a.question a.rules.items name ≡ matters b.question b.rules.items name
+    = λ name. same_matters a.question a.rules.items b.rules.items name h.rules ∙ ap (λ (q : Question). matters q b.rules.items name) h.question in
+    λ i. if h.learns i then names_after (λ name. is_ownable name && same name i) state m else state
 
 -- ---- a command that is the same acts the same
 

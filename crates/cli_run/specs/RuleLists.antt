@@ -1,12 +1,14 @@
--- Lists of rules that match the same messages.
+-- Lists of rules of which the same holds of each message.
 -- D-Bus Specification, "Match Rules".
 use Rattle.std.specs.Prelude.{◌↔◌, List}
 use Rattle.std.specs.declared.alloc.Global.{Global}
 use Rattle.dbus_message_model.specs.Messages.{MessageTree}
 use Rattle.dbus_match.specs.Matching.{Ownership}
 use Rattle.dbus_rule.specs.declared.rule.Rule.{Rule}
-use Rattle.cli_options.specs.Selections.{SomeMatches}
+use Rattle.cli_options.specs.Selections.{SomeHolds}
+use Rattle.cli_options.specs.declared.selection.Question.{Question}
 
--- no rule of one list matches a message with owners of names exactly if none of the other does
+-- whatever is asked with owners of names, it holds of no rule of one list and a message exactly if
+-- it holds of none of the other
 abbrev pub MatchAlike : List (Rule Global) → List (Rule Global) → Type 0
-MatchAlike rules others = (m : MessageTree) (os : List Ownership) → (SomeMatches rules m os → ⊥) ↔ (SomeMatches others m os → ⊥)
+MatchAlike rules others = (q : Question) (m : MessageTree) (os : List Ownership) → (SomeHolds q rules m os → ⊥) ↔ (SomeHolds q others m os → ⊥)

@@ -5,16 +5,16 @@ ghost use Rattle.dbus_message_model.specs.Messages.{MessageTree};
 ghost use Rattle.dbus_view.specs.Views.{Views};
 ghost use Rattle.dbus_calls.specs.OwnerChanges.{is_text};
 ghost use Rattle.dbus_names.specs.Kept.{state_of};
-ghost use Rattle.cli_run.specs.Learning.{ask_sender, known_after, name_sender};
+ghost use Rattle.cli_run.specs.Learning.{asks_for, known_after, matters, name_sender};
 
-use cli_options::Selection;
+use cli_options::{Question, Selection};
 use dbus_calls::{EventView, is_ownable};
 use dbus_match::Rule;
 use dbus_names::{NameFilter, Names};
 use dbus_view::MessageView;
 use std::alloc::AllocError;
 
-/// If the selection learns, learns from the message who has a name that a rule's `sender` is. D-Bus
+/// If the selection learns, learns from the message who has a name whose owner matters to it. D-Bus
 /// Specification, "Message Bus Names".
 pub(crate) fn learn(
     selection: &Selection,
@@ -27,24 +27,33 @@ pub(crate) fn learn(
     if !selection.learns {
         return Ok(());
     }
-    let asked = AskedNames {
-        rules: &selection.rules,
-    };
+    let asked = AskedNames { selection };
     let message = EventView::of(view);
     names.take(&message, &asked)
 }
 
-// The names beside unique ones that a rule's `sender` is: so no more are kept than the rules have.
+// The names beside unique ones whose owners matter: if rules are to match, no more are kept than the
+// rules have.
 #[derive(Clone, Copy, Drop)]
 struct AskedNames<'a> {
-    rules: &'a [Rule],
+    selection: &'a Selection,
 }
 
 impl<'a> NameFilter for AskedNames<'a> {
-    ghost wanted = { λ asked. ask_sender asked.rules.now };
+    ghost wanted = { λ asked. asks_for asked.selection.now };
 
     fn wants(&self, name: &str) -> bool {
-        is_ownable(name) && name_sender(self.rules, name)
+        is_ownable(name) && matters(self.selection, name)
+    }
+}
+
+// Whether the owner of the name matters to what is asked.
+fn matters(selection: &Selection, name: &str) -> bool
+    ensures { result ≡ matters selection.now.question selection.now.rules.items name.now }
+{
+    match selection.question {
+        Question::Matches => name_sender(&selection.rules, name),
+        Question::MayMatch => true,
     }
 }
 

@@ -7,10 +7,11 @@ ghost use Rattle.dbus_match.specs.Matching.{Ownership};
 ghost use Rattle.dbus_view.specs.Views.{Views};
 ghost use Rattle.dbus_rule_set.specs.Held.{held};
 ghost use Rattle.dbus_rule_set.specs.Owners.{owners_in};
-ghost use Rattle.cli_options.specs.Selections.{SelectsBy, SomeMatches};
+ghost use Rattle.cli_options.specs.Selections.{SelectsBy, SomeHolds};
+ghost use Rattle.cli_options.specs.declared.selection.Question.TheVariants as questions;
 ghost use Rattle.cli_run.specs.RuleLists.{MatchAlike};
 
-use cli_options::Selection;
+use cli_options::{Question, Selection};
 use dbus_match::Rule;
 use dbus_rule_set::{Owners, RuleSet};
 use dbus_view::MessageView;
@@ -44,14 +45,27 @@ impl<'a> Selector<'a> {
         if takes_all(&self.selection.rules) {
             return !self.selection.is_inverted;
         }
-        self.rules.any_matches(view, owners) != self.selection.is_inverted
+        self.any_holds(view, owners) != self.selection.is_inverted
+    }
+
+    // Whether what is asked holds of any rule of the set.
+    fn any_holds(&self, view: &MessageView, owners: &Owners) -> bool
+        ensures { (order : Order) (m : MessageTree) → Views view.now order m →
+            IsTrue result ↔ SomeHolds self.now.selection.now.question
+            (values_of (held self.now.rules)) m (owners_in owners.now) }
+    {
+        match self.selection.question {
+            Question::Matches => self.rules.any_matches(view, owners),
+            Question::MayMatch => self.rules.any_may_match(view, view.sender(), owners),
+        }
     }
 }
 
 // Whether the first rule has no keys, as that of a list for which none was given: it matches each
 // message, and no other need be looked for.
 fn takes_all(rules: &[Rule]) -> bool
-    ensures { IsTrue result → (m : MessageTree) (os : List Ownership) → SomeMatches rules.now m os }
+    ensures { IsTrue result → (m : MessageTree) (os : List Ownership) →
+        SomeHolds questions.Matches rules.now m os }
 {
     match rules {
         [rule, ..] => rule.conditions().is_empty(),

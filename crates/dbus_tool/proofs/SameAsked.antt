@@ -30,7 +30,7 @@ use Rattle.dbus_match.specs.Matching.{Ownership, ownership, ownerships}
 use Rattle.dbus_rule.specs.RuleViews.{rule_pairs}
 use Rattle.cli_options.specs.CommandLine.{wire_app}
 use Rattle.cli_options.specs.Limiting.{HasLimits, HasResync, HasWindow, IsGiven, IsGivenNumber, IsNumberOf, IsRuleOf, is_on}
-use Rattle.cli_options.specs.Named.{AreRulesOf, HasEncoding, HasSettings, HasWanted, IsNamedBy, IsSelectionGiven, Names, NamesCommand, rules_given, words_of}
+use Rattle.cli_options.specs.Named.{AreRulesOf, HasEncoding, HasQuestion, HasSettings, HasWanted, IsNamedBy, IsSelectionGiven, Names, NamesCommand, rules_given, words_of}
 use Rattle.cli_options.specs.Worded.{fds_word, order_word, side_word}
 use Rattle.cli_options.specs.Owners.{AreOwnersOf, IsOwnerWord, lacks_owner, needs_owner, selection_lacks_owner, some_needs_owner, some_owns}
 use Rattle.cli_options.specs.Selections.{AreSameCommand, AreSameSelection}
@@ -42,6 +42,8 @@ use Rattle.cli_options.specs.declared.file_form.FileForm.TheVariants as files
 use Rattle.cli_options.specs.declared.command.Command.TheVariants.{Show, Json, Check, Swap, Filter}
 use Rattle.cli_options.specs.declared.resync.Resync.{Resync}
 use Rattle.cli_options.specs.declared.resync.Resync.TheVariants.{Off, Within}
+use Rattle.cli_options.specs.declared.selection.Question.{Question}
+use Rattle.cli_options.specs.declared.selection.Question.TheVariants as questions
 use Rattle.cli_options.specs.declared.selection.Selection.{Selection}
 use Rattle.cli_options.specs.declared.settings.Settings.{Settings}
 use Rattle.cli_options.specs.declared.wanted_calls.WantedCalls.{WantedCalls}
@@ -244,10 +246,17 @@ same_rules (text ∷ texts) [] b h k = absurd h
 same_rules (text ∷ texts) (r ∷ a) [] h k = absurd k
 same_rules (text ∷ texts) (r ∷ a) (s ∷ b) h k = λ i. one_rule text (rule_pairs r) (rule_pairs s) h.0 k.0 i ∷ same_rules texts a b h.1 k.1 i
 
+same_question : (rows : List Row) (a b : Question) → HasQuestion rows a → HasQuestion rows b → a ≡ b
+same_question rows questions.Matches questions.Matches p q = refl
+same_question rows questions.MayMatch questions.MayMatch p q = refl
+same_question rows questions.Matches questions.MayMatch p q = absurd (p q)
+same_question rows questions.MayMatch questions.Matches p q = absurd (q p)
+
 same_selection : (rows : List Row) (a b : Selection) → IsSelectionGiven rows a → IsSelectionGiven rows b → AreSameSelection a b
 same_selection rows a b p q = record {
   rules = same_rules (rules_given rows) a.rules.items b.rules.items p.rules q.rules;
   inverted = same_flag a.is_inverted b.is_inverted p.inverted q.inverted;
+  question = same_question rows a.question b.question p.question q.question;
   owners = same_owners (words_of (codes "owner") rows) a.owners.items b.owners.items p.owners q.owners;
   learns = same_flag a.learns b.learns p.learns q.learns;
 }

@@ -9,6 +9,7 @@ returns c = record {
   cases = record {
     rules = copies_mapped rule_pairs c.args.self.now.rules.items c.in_ok-clone.field-0.items c.in_ok-clone.ensures.cases.0;
     inverted = refl;
+    question = refl;
     owners = copies_mapped ownership c.args.self.now.owners.items c.in_ok-clone-2.field-0.items c.in_ok-clone-2.ensures.cases.0;
     learns = refl;
   };
