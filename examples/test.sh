@@ -96,7 +96,7 @@ if command -v dbus-daemon > /dev/null; then
 	bus=$(dbus-daemon --session --fork --print-pid --address="unix:path=$sockets/bus")
 	trap 'kill "$bus" $proxy' EXIT
 	$run "$built/handshake" client "unix:path=$sockets/none;unix:path=$sockets/bus"
-	# A client behind a proxy asks the bus, but not for what a rule of the proxy's denies, in none of the ways past it that are known.
+	# A client behind a proxy asks the bus, but not for what a rule denies, in none of the ways past it that are known.
 	"$CC" $sanitized -D_GNU_SOURCE -o "$built/proxy" "$here/c/proxy.c" -L"$built" -ldbus_wire
 	$run "$built/proxy" deny "$sockets/door" "unix:path=$sockets/bus" "type='method_call',member='GetId'" & proxy=$!
 	while test ! -S "$sockets/door"; do sleep 0.1; done
@@ -109,7 +109,8 @@ if command -v dbus-daemon > /dev/null; then
 	kill "$bus" $proxy
 	trap - EXIT
 	if [ -z "$target" ]; then
-		DBUS_WIRE_PROXY=$built/proxy DBUS_WIRE_LIBRARY=$(realpath "$shared") python3 -W error -m unittest discover -k ways_past_a_policy "$here/../python/tests"
+		DBUS_WIRE_PROXY=$built/proxy DBUS_WIRE_LIBRARY=$(realpath "$shared") \
+			python3 -W error -m unittest discover -k ways_past_a_policy "$here/../python/tests"
 	fi
 fi
 if command -v dbus-send > /dev/null; then

@@ -86,8 +86,8 @@ class Browser {
     return { ...answers, ...(await this.tried("type='method_call'", "DBus")) };
   }
 
-  // The numbers of the messages that are shown by a match rule and a word, what is saved of them, and their command; and
-  // those of the calls that each choice shows, by the words of `calls`, with the tables of members and of counts.
+  // The numbers of the messages that are shown by a match rule and a word, what is saved of them, and their command;
+  // and those of the calls that each choice shows, by the words of `calls`, with the tables of members and of counts.
   async tried(rule, word) {
     return this.value(`(async () => {
       [find("rule").value, find("words").value] = ${JSON.stringify([rule, word])};

@@ -66,7 +66,7 @@ def ours(text):
 
 
 def by_libdbus(text):
-    """Names of any bytes, an empty transport, one comma behind pairs, one semicolon behind addresses; no empty value."""
+    """Names of any bytes, an empty transport, a comma behind pairs, a semicolon behind addresses; no empty value."""
     value = rb"(?:%b|%b)+" % (PLAIN, ESCAPED)
     pair = rb"[^=,;]+=%b" % value
     address = rb"[^:;]*:(?:%b(?:,%b)*,?)?" % (pair, pair)
@@ -158,7 +158,8 @@ def main(how_many=10_000, seed=0):
                 count["differs"] += 1
                 print(f"{name} {'takes' if found else 'refuses'} {text!r}")
     for name in asked:
-        print(f"{name}: {count[name, True]} taken, {count[name, False]} refused, {count[name, 'otherwise than here']} otherwise than here")
+        taken, refused, otherwise = (count[name, it] for it in (True, False, "otherwise than here"))
+        print(f"{name}: {taken} taken, {refused} refused, {otherwise} otherwise than here")
     print(f"{count['differs']} differ from docs/PEERS.md")
     return count["differs"] > 0
 

@@ -273,7 +273,8 @@ class AtABus(unittest.TestCase):
                 asked(service, incoming, serial, "RequestName", "su", name, 0, **to_bus)
             for policy, (rules, calls) in POLICIES.items():
                 door = self.door + policy
-                self.start(*([PROXY] if PROXY else [sys.executable, EXAMPLES / "proxy.py"]), policy, door, address, *rules)
+                proxy = [PROXY] if PROXY else [sys.executable, EXAMPLES / "proxy.py"]
+                self.start(*proxy, policy, door, address, *rules)
                 with connected(door) as client, client.makefile("rb") as replies:
                     Client(user=os.getuid()).shake_hands(client)
                     to_client = messages(replies)
