@@ -1,11 +1,10 @@
--- The numbers of messages rise, what is listed by one of them, and how a run ends that lists calls.
-use Rattle.std.proofs.Common.{◌≡◌, ℕ, ◌+◌, ◌<◌, false, List, [], ◌∷◌, ◌++◌, Option, Result, Ok, Err, Less, refl, sym, ◌∙◌, subst, arith, append-nil}
+-- The numbers of messages rise, what is listed by one of them, and what by all.
+use Rattle.std.proofs.Common.{◌≡◌, ℕ, ◌+◌, ◌<◌, false, List, [], ◌∷◌, ◌++◌, Option, Less, refl, sym, ◌∙◌, subst, arith, append-nil}
 use Rattle.std.specs.List.{AllByRecursion}
 use Rattle.std.specs.List.Sorted.{IsStrictlySortedBy}
 use Rattle.std.specs.Ordering.{nat_cmp}
 use Rattle.dbus_value_model.specs.declared.order.Order.{Order}
 use Rattle.dbus_message_model.specs.Messages.{MessageTree}
-use Rattle.dbus_device.specs.Device.{Wrote}
 use Rattle.dbus_device.specs.Packets.{Packets}
 use Rattle.dbus_stream.specs.Cut.{CutMessage}
 use Rattle.dbus_call_lines.specs.CallLines.{front}
@@ -17,19 +16,12 @@ use Rattle.dbus_call_lines.proofs.Some.{front_rises, some_after}
 use Rattle.dbus_call_lines.proofs.Written.{lines_both}
 use Rattle.dbus_names.specs.Kept.{state_of}
 use Rattle.dbus_names.specs.NameStates.{NameState}
-use Rattle.cli_report.specs.Devices.{writing}
-use Rattle.cli_report.specs.Gathering.{Breaks}
-use Rattle.cli_report.specs.declared.ending.Cause.{Cause}
-use Rattle.cli_report.specs.declared.ending.Cause.TheVariants.{Memory, ReadFailed, WriteFailed, TooManyReads}
-use Rattle.cli_run.specs.CallListing.{CallsState, EndsCalls, FollowRising, IsNote, ListsAt, MakesCalls, WritesCalls, all_named, calls_after, lack_times, named, named_at, nothing_known, numbered}
-use Rattle.cli_run.specs.Ending.{IsNoteMade, LeavesMade, WritesMade}
+use Rattle.cli_run.specs.CallListing.{CallsState, EndsCalls, FollowRising, IsNote, ListsAt, MakesCalls, all_named, calls_after, first_calls, lack_times, named, named_at, nothing_known, numbered}
 use Rattle.cli_run.specs.Inputs.{ArePlaced, IsPlaced, Part, PassedOver, Placed, Whole}
 use Rattle.cli_run.specs.LineNames.{names_after}
 use Rattle.cli_run.specs.OutputWriting.{placed_at}
-use Rattle.cli_run.specs.Told.{GotFirst}
 use Rattle.cli_run.specs.declared.call_listing.CallRenderer.{CallRenderer}
 use Rattle.cli_run.specs.declared.place.MessagePlace.{MessagePlace}
-use Rattle.cli_run.specs.declared.visitor.RunStop.{RunStop}
 
 -- ---- the numbers of messages rise
 
@@ -86,38 +78,16 @@ module _ (s : CallsState) (order : Order) (m : MessageTree) (place : MessagePlac
 -- ---- the run
 
 module _ (wanted : Wanted) where
-  -- where it starts
-  abbrev pub start : CallsState
-  start = record { wanted = wanted; names = nothing_known; timed = false; before = [] }
-
-  pub starts : (a : CallRenderer) → wanted ≡ a.wanted → state_of a.names ≡ nothing_known → a.timed ≡ false → Keeps front wanted [] a.list → ListsAt a start
+  pub starts : (a : CallRenderer) → wanted ≡ a.wanted → state_of a.names ≡ nothing_known → a.timed ≡ false → Keeps front wanted [] a.list → ListsAt a (first_calls wanted)
   unfolding IsStrictlySortedBy
   starts a own names timed keeps = record { wanted_is = own; names_are = sym names; timed_is = sym timed; keeps = keeps; rising = tt }
 
-  pub follow : (packets : Option Packets) (parts : List Part) (items : List Placed) → ArePlaced packets 1 0 parts items → FollowRising start items
+  pub follow : (packets : Option Packets) (parts : List Part) (items : List Placed) → ArePlaced packets 1 0 parts items → FollowRising (first_calls wanted) items
   follow packets parts items placed = named_rise nothing_known items (placed_rise packets 1 0 parts items placed)
 
-  -- the rows of messages, and of those that wait after them
-  rows_all : (items : List Placed) (t : CallsState) (text last note : List ℕ) → MakesCalls start items text t → EndsCalls t last note → (rows : List Row) × AreListed [] (all_named items) rows × (text ++ last ≡ rows_text wanted rows)
+  -- the rows of messages, and of those that wait after them, and the note
+  pub rows_all : (items : List Placed) (t : CallsState) (text last note : List ℕ) → MakesCalls (first_calls wanted) items text t → EndsCalls t last note
+      → (rows : List Row) × AreListed [] (all_named items) rows × (text ++ last ≡ rows_text wanted rows) × IsNote (lack_times wanted items) (all_named items) note
   rows_all items t text last note h e =
-      let k : EndsCalls (calls_after start items) last note = subst (λ (x : CallsState). EndsCalls x last note) h.after_is e in
-      (h.rows ++ k.0.0, listed_end [] (all_named items) h.rows k.0.0 h.are k.0.1, (λ i. h.text_is i ++ k.0.2 i) ∙ sym (lines_both wanted h.rows k.0.0))
-
-  module _ {W : Type 0} (held : W → Option (List ℕ)) (failures : W → ℕ) (w0 w1 : W) where
-    pub writes_as : (items : List Placed) (res : Result (Unit {0}) Cause) → WritesMade MakesCalls start EndsCalls (writing held failures w0 w1) items res → WritesCalls (writing held failures w0 w1) wanted items res
-    writes_as items (Ok x) (t, text, last, note, h, e, wrote) =
-        let all = rows_all items t text last note h e in
-        (all.0, all.1, subst (λ (l : List ℕ). Wrote held failures w0 l w1) all.2 wrote)
-    writes_as items (Err Memory) (t, text, h, wrote, still) = (h.rows, h.are, subst (λ (l : List ℕ). Wrote held failures w0 l w1) h.text_is wrote)
-    writes_as items (Err WriteFailed) (t, text, last, note, h, e, broke) =
-        let all = rows_all items t text last note h e in
-        (all.0, all.1, subst (λ (l : List ℕ). Breaks held failures l [] w0 w1) all.2 broke)
-    writes_as items (Err ReadFailed) never = absurd never
-    writes_as items (Err TooManyReads) never = absurd never
-
-    pub leaves_as : (items : List Placed) (stop : RunStop) → LeavesMade MakesCalls start (writing held failures w0 w1) items stop
-        → (rows : List Row) × AreListedBy [] (all_named items) rows × GotFirst held failures false stop (rows_text wanted rows) w0 w1
-    leaves_as items stop (t, text, h, got, still) = (h.rows, h.are, subst (λ (l : List ℕ). GotFirst held failures false stop l w0 w1) h.text_is got)
-
-  pub note_as : (items : List Placed) (note : List ℕ) → IsNoteMade MakesCalls start EndsCalls items note → IsNote (lack_times wanted items) (all_named items) note
-  note_as items note (t, text, last, h, e) = (subst (λ (x : CallsState). EndsCalls x last note) h.after_is e).1
+      let k : EndsCalls (calls_after (first_calls wanted) items) last note = subst (λ (x : CallsState). EndsCalls x last note) h.after_is e in
+      (h.rows ++ k.0.0, listed_end [] (all_named items) h.rows k.0.0 h.are k.0.1, (λ i. h.text_is i ++ k.0.2 i) ∙ sym (lines_both wanted h.rows k.0.0), k.1)

@@ -27,7 +27,7 @@ use Rattle.cli_report.specs.declared.ending.Cause.TheVariants.{Memory, ReadFaile
 use Rattle.dbus_count.specs.Spans.{with_times}
 use Rattle.dbus_count.specs.Tables.{IsSummary}
 use Rattle.dbus_count.specs.declared.form.Form.{Form}
-use Rattle.cli_run.specs.ByName.{CountsState, EndsCounts, MakesCounts, Tallies, after_messages, counting, span_of, times_of}
+use Rattle.cli_run.specs.ByName.{CountsState, EndsCounts, MakesCounts, Tallies, after_messages, counting, first_counts, span_of, times_of}
 use Rattle.cli_run.specs.Going.{Covers, IsMore, IsStopOf, IsToldIn, IsToldLast}
 use Rattle.cli_run.specs.Onward.{HasPacketsIf, HasRead, HandsAllOn, HandsOn, HandsSomeOn}
 use Rattle.cli_run.specs.Refusals.{IsFaultIn, IsRefusedIn, number_of}
@@ -186,11 +186,6 @@ pub counts_one : (s : CountsState) (item : Placed) (P : CountsState → List ℕ
     → (t : CountsState) × (text : List ℕ) × MakesCounts s (item ∷ []) text t × P t text
 counts_one s item P p = (record { form = s.form; counts = λ name. after_messages (item ∷ []) name (s.counts name); span = with_times (times_of (item ∷ [])) s.span }, [], record { form_is = refl; counts_are = λ name. refl; span_is = refl; none = refl }, p)
 
-module _ (form : Form) where
-  -- where it starts
-  abbrev pub start : CountsState
-  start = record { form = form; counts = λ name. None; span = None }
-
-  -- the counts and the span are those of the messages
-  pub counts_all : (items : List Placed) (t : CountsState) (text last note : List ℕ) → MakesCounts start items text t → EndsCounts t last note → IsSummary form (counting items) (span_of items) last × (note ≡ [])
-  counts_all items t text last note h e = (transport (λ i. IsSummary (h.form_is i) (λ name. h.counts_are name i) (h.span_is i) last) e.0, e.1)
+-- the counts and the span are those of the messages
+pub counts_all : (form : Form) (items : List Placed) (t : CountsState) (text last note : List ℕ) → MakesCounts (first_counts form) items text t → EndsCounts t last note → IsSummary form (counting items) (span_of items) last × (note ≡ [])
+counts_all form items t text last note h e = (transport (λ i. IsSummary (h.form_is i) (λ name. h.counts_are name i) (h.span_is i) last) e.0, e.1)

@@ -1,30 +1,23 @@
 -- What the writers got of a run, by what became of a writer of an output.
-use Rattle.std.proofs.Common.{◌≡◌, ℕ, ◌+◌, Bool, true, false, List, [], ◌++◌, None, Option, Result, Ok, Err, inl, inr, refl, sym, ap, ◌∙◌, subst, arith}
+use Rattle.std.proofs.Common.{◌≡◌, ℕ, ◌+◌, Bool, true, false, List, [], None, Option, inl, inr, refl, sym, subst, arith}
 use Rattle.std.proofs.KnownBytes.{Consumes-nil}
-use Rattle.std.proofs.Math.Path.{transport}
 use Rattle.std.proofs.lemmas.Bool.{false≢true}
 use Rattle.dbus_device.specs.Device.{Wrote}
 use Rattle.dbus_device.specs.Packets.{Packets}
-use Rattle.cli_options.specs.declared.command.Command.{Command}
 use Rattle.cli_options.specs.declared.settings.Settings.{Settings}
-use Rattle.cli_report.specs.Devices.{Reading, Taken, Writing, reading, taken, writing}
-use Rattle.cli_report.specs.Gathering.{Breaks}
+use Rattle.cli_report.specs.Devices.{Taken, reading, taken, writing}
 use Rattle.cli_report.proofs.GatherSteps.{passes_unwritten, passes_whole}
 use Rattle.cli_report.specs.Telling.{Told}
-use Rattle.cli_report.specs.declared.ending.Cause.{Cause}
 use Rattle.cli_report.specs.declared.ending.Cause.TheVariants.{Memory, ReadFailed, WriteFailed, TooManyReads}
 use Rattle.cli_report.specs.declared.ending.ExitStatus.{ExitStatus}
 use Rattle.cli_report.specs.declared.ending.ExitStatus.TheVariants as status
-use Rattle.cli_run.specs.Output.{command_of, IsFilledBy, is_check, is_filled, owners_known}
-use Rattle.cli_run.specs.Ending.{EndsNoted, IsNoteMade, LeavesMade, RunsToEnd, WritesAtEnd, WritesMade, WritesText}
-use Rattle.cli_run.specs.Going.{GivesUp, Goes, GoesFar, GoesThrough, IsMore, StopsWithin}
+use Rattle.cli_run.specs.Going.{Goes, GoesFar, GoesThrough, IsMore, StopsWithin}
 use Rattle.cli_run.specs.Inputs.{ArePlaced, Part, Placed}
+use Rattle.cli_run.specs.Making.{RunsBy}
 use Rattle.cli_run.specs.OutputWriting.{LeavesFirst}
-use Rattle.cli_run.specs.Rendering.{Makes, OutputState, state_of}
-use Rattle.cli_run.specs.Running.{Writes, WritesSome}
-use Rattle.cli_run.specs.Told.{GotFirst, GotSecond, IsUnwritten, first_of, second_of}
+use Rattle.cli_run.specs.Told.{GotFirst, IsUnwritten}
 use Rattle.cli_run.specs.Visiting.{WantsAll}
-use Rattle.cli_run.specs.declared.output.OutputRenderer.{OutputRenderer}
+use Rattle.cli_run.specs.VisitorLaws.{first_nothing, told_nothing, wrote_nothing}
 use Rattle.cli_run.specs.declared.visitor.RunStop.{RunStop}
 use Rattle.cli_run.specs.declared.visitor.RunStop.TheVariants.{Cause as ByCause, Untold}
 use Rattle.cli_run.proofs.Wanted.{wanted_as}
@@ -104,59 +97,25 @@ pub through_by : {t : Taken} {settings : Settings} {most : ℕ} {is_check : Bool
     → Goes t settings most is_check F N P end → GoesThrough t settings most is_check F P end
 through_by all g = elim g [ inl through ↦ through | inr far ↦ absurd (false≢true (sym (all far.messages true far.enough.1))) ]
 
--- what a run that writes more at its end comes to is said otherwise
-module _ {A B : List Placed → Result (Unit {0}) Cause → Type 0} {I J : List Placed → (note : List ℕ) → Type 0} {L M : List Placed → RunStop → Type 0} (writes : (items : List Placed) (res : Result (Unit {0}) Cause) → A items res → B items res)
-    (notes : (items : List Placed) (note : List ℕ) → I items note → J items note) (leaves : (items : List Placed) (stop : RunStop) → L items stop → M items stop) where
-  noted_as : {E : Type 0} {e : Writing E} {due end : ExitStatus} (items : List Placed) → EndsNoted (A items) (I items) e due end → EndsNoted (B items) (J items) e due end
-  noted_as items ends = elim ends [ inl all ↦ inl (writes items (Ok tt) all.0, all.1, notes items all.1 all.2, all.3) | inr some ↦ inr (some.0, writes items (Err some.0) some.1, some.2, some.3) ]
-
-  pub runs_as : {R E : Type 0} {r : Reading R} {e : Writing E} {settings : Settings} {most : ℕ} {end : ExitStatus} → RunsToEnd r e settings most A I L end → RunsToEnd r e settings most B J M end
-  runs_as run = elim run [
-    | inl all ↦ inl (record { due = all.due; before = all.before; through = goes_as (λ l b w. w) (λ parts items told placed came. (came.0, noted_as items came.1)) all.through })
-    | inr up ↦ inr (record { failed = up.failed; stop = up.stop; before = up.before; within = stops_as (λ l b w. w) (λ parts items told placed came. (leaves items up.stop came.0, came.1)) up.within; tells = up.tells })
-  ]
-
--- it makes no text of messages, but one at the end
-module _ {S W : Type 0} (makes : S → List Placed → List ℕ → S → Type 0) (s : S) (ends : S → (text note : List ℕ) → Type 0) (held : W → Option (List ℕ)) (failures : W → ℕ) (w0 w1 : W) {IsText Is : List Placed → List ℕ → Type 0}
-    (none : (items : List Placed) (t : S) (text : List ℕ) → makes s items text t → text ≡ []) (is : (items : List Placed) (t : S) (text last note : List ℕ) → makes s items text t → ends t last note → IsText items last × Is items note) where
-  writes_last : (items : List Placed) (res : Result (Unit {0}) Cause) → WritesMade makes s ends (writing held failures w0 w1) items res → WritesText (IsText items) (writing held failures w0 w1) res
-  writes_last items (Ok x) (t, text, last, note, h, e, wrote) = (last, (is items t text last note h e).0, subst (λ (l : List ℕ). Wrote held failures w0 (l ++ last) w1) (none items t text h) wrote)
-  writes_last items (Err Memory) (t, text, h, wrote, still) = still (none items t text h)
-  writes_last items (Err WriteFailed) (t, text, last, note, h, e, broke) = (last, (is items t text last note h e).0, subst (λ (l : List ℕ). Breaks held failures (l ++ last) [] w0 w1) (none items t text h) broke)
-  writes_last items (Err ReadFailed) never = absurd never
-  writes_last items (Err TooManyReads) never = absurd never
-
-  note_is : (items : List Placed) (note : List ℕ) → IsNoteMade makes s ends items note → Is items note
-  note_is items note (t, text, last, h, e) = (is items t text last note h e).1
-
-  leaves_none : (items : List Placed) (stop : RunStop) → LeavesMade makes s (writing held failures w0 w1) items stop → IsUnwritten stop × (w1 ≡ w0)
-  leaves_none items stop (t, text, h, got, still) = still (none items t text h)
-
-  pub at_end : {R E : Type 0} {r : Reading R} {e : Writing E} {settings : Settings} {most : ℕ} {end : ExitStatus}
-      → RunsToEnd r e settings most (WritesMade makes s ends (writing held failures w0 w1)) (IsNoteMade makes s ends) (LeavesMade makes s (writing held failures w0 w1)) end → WritesAtEnd r (writing held failures w0 w1) e settings most IsText Is end
-  at_end run = runs_as writes_last note_is leaves_none run
-
 -- what the first writer got, if nothing was gathered before
-pub got_first : {W : Type 0} (held : W → Option (List ℕ)) (failures : W → ℕ) (g : List ℕ) (w0 w1 : W) → g ≡ [] → (c : Bool) (stop : RunStop) (bytes : List ℕ) → LeavesFirst held failures c stop bytes g w0 w1
-    → GotFirst held failures c stop bytes w0 w1
-got_first held failures g w0 w1 none c (ByCause WriteFailed) bytes p = subst (λ (x : List ℕ). Breaks held failures bytes x w0 w1) none p
-got_first held failures g w0 w1 none c (ByCause cause) bytes p = passes_whole held failures bytes g [] w0 w1 none refl p
-got_first held failures g w0 w1 none true Untold bytes p = subst (λ (x : List ℕ). Breaks held failures bytes x w0 w1) none p
-got_first held failures g w0 w1 none false Untold bytes p = passes_whole held failures bytes g [] w0 w1 none refl p
+pub got_first : {W : Type 0} (held : W → Option (List ℕ)) (failures : W → ℕ) (w0 w1 : W) (c : Bool) (stop : RunStop) (bytes : List ℕ) → LeavesFirst held failures c stop bytes [] w0 w1 → GotFirst held failures c stop bytes w0 w1
+got_first held failures w0 w1 c (ByCause WriteFailed) bytes p = p
+got_first held failures w0 w1 c (ByCause cause) bytes p = passes_whole held failures bytes [] [] w0 w1 refl refl p
+got_first held failures w0 w1 true Untold bytes p = p
+got_first held failures w0 w1 false Untold bytes p = passes_whole held failures bytes [] [] w0 w1 refl refl p
 
 -- of nothing, no write was made, and so none failed
-pub got_nothing : {W : Type 0} (held : W → Option (List ℕ)) (failures : W → ℕ) (g : List ℕ) (w0 w1 : W) → g ≡ [] → (c : Bool) (stop : RunStop) (bytes : List ℕ) → bytes ≡ [] → LeavesFirst held failures c stop bytes g w0 w1
-    → IsUnwritten stop × (w1 ≡ w0)
-got_nothing held failures g w0 w1 none c (ByCause WriteFailed) bytes nothing p = absurd (p.some (λ i. none i ++ nothing i))
-got_nothing held failures g w0 w1 none c (ByCause cause) bytes nothing p = (tt, passes_unwritten held failures bytes g [] w0 w1 none nothing p)
-got_nothing held failures g w0 w1 none true Untold bytes nothing p = absurd (p.some (λ i. none i ++ nothing i))
-got_nothing held failures g w0 w1 none false Untold bytes nothing p = (tt, passes_unwritten held failures bytes g [] w0 w1 none nothing p)
+pub got_nothing : {W : Type 0} (held : W → Option (List ℕ)) (failures : W → ℕ) (w0 w1 : W) (c : Bool) (stop : RunStop) (bytes : List ℕ) → LeavesFirst held failures c stop bytes [] w0 w1 → bytes ≡ [] → IsUnwritten stop × (w1 ≡ w0)
+got_nothing held failures w0 w1 c (ByCause WriteFailed) bytes p nothing = absurd (p.some nothing)
+got_nothing held failures w0 w1 c (ByCause cause) bytes p nothing = (tt, passes_unwritten held failures bytes [] [] w0 w1 refl nothing p)
+got_nothing held failures w0 w1 true Untold bytes p nothing = absurd (p.some nothing)
+got_nothing held failures w0 w1 false Untold bytes p nothing = (tt, passes_unwritten held failures bytes [] [] w0 w1 refl nothing p)
 
 -- nothing is read for want of memory
-pub unread : {R E : Type 0} (left : R → Option (List ℕ)) (calls read_failures : R → ℕ) (packets : R → Option Packets) (r : R) (held : E → Option (List ℕ)) (failures : E → ℕ) (e0 e1 : E) (settings : Settings) (most : ℕ) (is_check : Bool) {F : List Placed → Bool → Type 0}
-    (Q : E → List Placed → (told : List ℕ) → RunStop → Type 0) (end : ExitStatus) → end ≡ status.Failed → Told held failures e0 e1 Memory → Q e0 [] [] (ByCause Memory)
-    → GivesUp (taken (reading left calls read_failures packets r r)) settings most is_check F (writing held failures e0 e1) Q end
-unread left calls read_failures packets r held failures e0 e1 settings most is_check Q end failed told came = record {
+pub unread : {S R W E : Type 0} (makes : S → List Placed → List ℕ → S → Type 0) (s : S) (full : S → Bool) (is_check : Bool) (left : R → Option (List ℕ)) (calls read_failures : R → ℕ) (packets : R → Option Packets) (r : R) (held : W → Option (List ℕ)) (failures : W → ℕ) (w : W)
+    (second_held : E → Option (List ℕ)) (second_failures : E → ℕ) (e0 e1 : E) (settings : Settings) (most : ℕ) (end : ExitStatus) → makes s [] [] s → end ≡ status.Failed → Told second_held second_failures e0 e1 Memory
+    → RunsBy makes s full is_check (reading left calls read_failures packets r r) (writing held failures w w) (writing second_held second_failures e0 e1) settings most end
+unread makes s full is_check left calls read_failures packets r held failures w second_held second_failures e0 e1 settings most end nothing failed told = inr (record {
   failed = failed;
   stop = ByCause Memory;
   before = e0;
@@ -172,35 +131,14 @@ unread left calls read_failures packets r held failures e0 e1 settings most is_c
     placed = refl;
     wanted = tt;
     unfilled = λ never. absurd never;
-    came = came;
+    came = record {
+      then = s;
+      text = [];
+      made = nothing;
+      first = subst (λ (l : List ℕ). Wrote held failures w l w) (sym (first_nothing is_check)) (wrote_nothing held failures w);
+      still = λ none. (tt, refl);
+      second = told_nothing second_held second_failures is_check e0 e0 refl;
+    };
   };
   tells = told;
-}
-
--- what is said of what makes an output is said of its command: the writers at the end are w2 and e2
-module _ {W E : Type 0} (held : W → Option (List ℕ)) (failures : W → ℕ) (second_held : E → Option (List ℕ)) (second_failures : E → ℕ) (w0 w2 : W) (e0 e2 : E) (settings : Settings) (command : Command) {own : Command} (same : own ≡ command) where
-  abbrev pub start : OutputState
-  start = record { command = command; window = settings.window; begun = false; owners = owners_known command None }
-
-  pub wrote_as : (items : List Placed) (told : List ℕ) → (t : OutputState) × (text : List ℕ) × Makes start items text t × Wrote held failures w0 (first_of (is_check own) text told) w2 × Wrote second_held second_failures e0 (second_of (is_check own) told) e2
-      → Writes (writing held failures w0 w2) (writing second_held second_failures e0 e2) settings command items told
-  wrote_as items told (t, text, h, first, second) = record {
-    texts = h.texts;
-    made = h.made;
-    first = transport (λ i. Wrote held failures w0 (first_of (is_check (same i)) (h.text_is i) told) w2) first;
-    second = transport (λ i. Wrote second_held second_failures e0 (second_of (is_check (same i)) told) e2) second;
-  }
-
-  pub left_as : (stop : RunStop) (items : List Placed) (told : List ℕ) → (t : OutputState) × (text : List ℕ) × Makes start items text t × GotFirst held failures (is_check own) stop (first_of (is_check own) text told) w0 w2
-      × GotSecond second_held second_failures (is_check own) stop (second_of (is_check own) told) e0 e2 × (first_of (is_check own) text told ≡ [] → IsUnwritten stop × (w2 ≡ w0)) → WritesSome (writing held failures w0 w2) (writing second_held second_failures e0 e2) settings command items told stop
-  left_as stop items told (t, text, h, first, second, still) = record {
-    texts = h.texts;
-    made = h.made;
-    first = transport (λ i. GotFirst held failures (is_check (same i)) stop (first_of (is_check (same i)) (h.text_is i) told) w0 w2) first;
-    second = transport (λ i. GotSecond second_held second_failures (is_check (same i)) stop (second_of (is_check (same i)) told) e0 e2) second;
-  }
-
-  -- whether no more are wanted
-  pub filled_as : {A : Type 0} (items : List Placed) (filled : Bool) → (c : OutputRenderer A) × (is_filled (command_of c.output) c.window ≡ filled) × (Unit {0} → (t : OutputState) × (text : List ℕ) × Makes start items text t × (t ≡ state_of c))
-      → IsFilledBy command settings.window items filled
-  filled_as items filled (c, is, made) = let m = made tt in (m.2.texts, m.2.made, ap (λ (x : OutputState). is_filled x.command x.window) (sym m.2.then ∙ m.3) ∙ is)
+})

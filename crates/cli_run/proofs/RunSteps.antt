@@ -28,9 +28,11 @@ use Rattle.cli_run.specs.Going.{AreDue, GoesThrough, IsAllOf, IsThrough, StopsWi
 use Rattle.cli_report.specs.Gathering.{Breaks, IsPrefixTo}
 use Rattle.cli_report.specs.Telling.{cause_line, Told}
 use Rattle.cli_run.specs.Inputs.{ArePlaced, BeginWithParts, IsLast, IsTellable, Part, PassedOver, Placed, Whole, looked_in, sizes_of, wholes}
-use Rattle.cli_run.specs.Output.{IsFilledBy, IsFirstOutput, IsFront, IsOutputOfAll, check_line, fault_line, form_of, header_before, is_check, last_line, output_of, owners_known, second_output, whole_output}
+use Rattle.cli_run.specs.Output.{IsFirstOutput, IsFront, IsOutputOfAll, check_line, fault_line, form_of, header_before, is_check, last_line, output_of, owners_known, second_output, whole_output}
 use Rattle.cli_run.specs.Refusals.{IsFaultIn}
 use Rattle.cli_run.specs.Told.{GotFirst, GotSecond, TellsStop, first_of, second_of}
+use Rattle.cli_run.specs.Making.{FillsFrom}
+use Rattle.cli_run.specs.Rendering.{Makes, first_state, is_full}
 use Rattle.cli_run.specs.RenderingLaws.{no_header, no_texts}
 use Rattle.cli_run.specs.VisitorLaws.{first_nothing, second_nothing, wrote_both, wrote_stopped}
 use Rattle.cli_report.specs.declared.ending.ExitStatus.{ExitStatus}
@@ -54,8 +56,11 @@ abbrev plain : Settings → Settings
 plain asked = record asked { as_json = false; explains = false; keeps_going = false; window = all_of_them asked.window.checks_rest }
 
 -- by them a command wants all messages
-never_filled : (asked : Settings) (command : Command) (items : List Placed) → IsFilledBy command (plain asked).window items true → ⊥
-never_filled asked command items filled = false≢true filled.2
+abbrev Filled : Settings → Command → List Placed → Bool → Type 0
+Filled asked command = FillsFrom Makes (first_state command (plain asked).window) is_full
+
+never_filled : (asked : Settings) (command : Command) (items : List Placed) → Filled asked command items true → ⊥
+never_filled asked command items filled = false≢true (ap is_full (sym filled.2.then) ∙ filled.3)
 
 -- `check` makes no texts, and its line goes to the first writer. Of another command the line goes
 -- to the second
@@ -252,18 +257,19 @@ module _ {R W E : Type 0} (r : Reading R) (w : Writing W) (e : Writing E) (asked
         write_caused = b.failed;
       }
 
-  ran : (end : ExitStatus) → GoesThrough (taken r) (plain asked) most (is_check command) (IsFilledBy command (plain asked).window) (Writes w e (plain asked) command) end → Runs r w e limits most command end
+  ran : (end : ExitStatus) → GoesThrough (taken r) (plain asked) most (is_check command) (Filled asked command) (Writes w e (plain asked) command) end → Runs r w e limits most command end
   ran end g =
       let h = g.through in
       let second = subst (λ (l : List ℕ). Wrote e.held e.failures e.old l e.new) (second_is h) g.came.second in
-      inl (answers h g.messages g.placed g.came.texts g.came.made end (subst (λ (l : List ℕ). Wrote w.held w.failures w.old l w.new) (first_is h g.messages g.placed g.came.texts g.came.made) g.came.first)
+      let first = ap (λ (l : List ℕ). first_of (is_check command) l ((g.told ++ g.text) ++ closing h)) g.came.made.text_is ∙ first_is h g.messages g.placed g.came.made.texts g.came.made.made in
+      inl (answers h g.messages g.placed g.came.made.texts g.came.made.made end (subst (λ (l : List ℕ). Wrote w.held w.failures w.old l w.new) first g.came.first)
       (inl (second, g.end_is ∙ (λ i. status_at (passed_is h i) (fault_is h i)))))
 
   -- ---- the run was given up, and before is the second writer before it was told why
 
   module _ (before : E) where
     abbrev Within : RunStop → Type 0
-    Within stop = StopsWithin (taken r) (plain asked) most (is_check command) (IsFilledBy command (plain asked).window) (WritesSome w (writing e.held e.failures e.old before) (plain asked) command) stop
+    Within stop = StopsWithin (taken r) (plain asked) most (is_check command) (Filled asked command) (WritesSome w (writing e.held e.failures e.old before) (plain asked) command) stop
 
     abbrev messages_of : (stop : RunStop) (s : Within stop) → AreMessages limits s.covers.bytes s.parts s.rest s.told
     messages_of stop s = are_messages packets asked 1 0 0 s.covers.bytes s.parts s.rest s.told s.covers.begin s.covers.tells
@@ -288,13 +294,17 @@ module _ {R W E : Type 0} (r : Reading R) (w : Writing W) (e : Writing E) (asked
     none_told : (cause : Cause) (s : Within (ByCause cause)) → s.told ++ s.more ≡ []
     none_told cause s = λ i. (messages_of (ByCause cause) s).none_told i ++ none_more cause s i
 
-    texts_alone : (cause : Cause) (s : Within (ByCause cause)) → first_part s.messages s.came.texts (s.told ++ s.more) ≡ all_of s.messages s.came.texts
+    texts_alone : (cause : Cause) (s : Within (ByCause cause)) → first_part s.messages s.came.made.texts (s.told ++ s.more) ≡ all_of s.messages s.came.made.texts
     texts_alone cause s =
-        ap (λ l. first_part s.messages s.came.texts l) (none_told cause s) ∙ (first_due asked.window.checks_rest command s.messages s.came.texts [] s.came.made
-        ∙ (ap (λ l. all_of s.messages s.came.texts ++ l) (first_nothing (is_check command)) ∙ append-nil (all_of s.messages s.came.texts)))
+        ap (λ l. first_part s.messages s.came.made.texts l) (none_told cause s) ∙ (first_due asked.window.checks_rest command s.messages s.came.made.texts [] s.came.made.made
+        ∙ (ap (λ l. all_of s.messages s.came.made.texts ++ l) (first_nothing (is_check command)) ∙ append-nil (all_of s.messages s.came.made.texts)))
+
+    -- what the first writer got, of these texts
+    got : (stop : RunStop) (s : Within stop) → GotFirst w.held w.failures (is_check command) stop (first_part s.messages s.came.made.texts (s.told ++ s.more)) w.old w.new
+    got stop s = subst (λ (l : List ℕ). GotFirst w.held w.failures (is_check command) stop (first_of (is_check command) l (s.told ++ s.more)) w.old w.new) s.came.made.text_is s.came.first
 
     -- the first writer got a prefix of what is made of the messages
-    some_fail : (cause : Cause) (s : Within (ByCause cause)) (front : List ℕ) → Appends (w.held w.old) (w.held w.new) front → IsPrefixTo front (all_of s.messages s.came.texts)
+    some_fail : (cause : Cause) (s : Within (ByCause cause)) (front : List ℕ) → Appends (w.held w.old) (w.held w.new) front → IsPrefixTo front (all_of s.messages s.came.made.texts)
         → WritesBefore packets limits command cause s.covers.bytes front → CountsWrite cause (w.failures w.old) (w.failures w.new) → Fails r w e limits most command cause
     some_fail cause s front appended prefix before counted = record {
       bytes = s.covers.bytes;
@@ -305,20 +315,20 @@ module _ {R W E : Type 0} (r : Reading R) (w : Writing W) (e : Writing E) (asked
       front = λ items rest outcome cut.
           let m = messages_of (ByCause cause) s in
           let more = BeginWith-first limits s.covers.bytes m.items items s.rest rest outcome m.messages cut.messages cut.outcome_is in
-          front_of_first packets limits command m.items more.0 items rest (fault_at_end rest outcome) s.messages s.came.texts front more.1
-          (subst (λ (l : List Part). ArePlaced packets 1 0 l s.messages) m.parts_are s.placed) s.came.made prefix;
+          front_of_first packets limits command m.items more.0 items rest (fault_at_end rest outcome) s.messages s.came.made.texts front more.1
+          (subst (λ (l : List Part). ArePlaced packets 1 0 l s.messages) m.parts_are s.placed) s.came.made.made prefix;
       before = before;
       read_caused = s.caused;
       write_caused = counted;
     }
 
     -- or all of it
-    all_fail : (cause : Cause) (s : Within (ByCause cause)) → Wrote w.held w.failures w.old (first_part s.messages s.came.texts (s.told ++ s.more)) w.new
-        → WritesBefore packets limits command cause s.covers.bytes (all_of s.messages s.came.texts) → CountsWrite cause (w.failures w.old) (w.failures w.new) → Fails r w e limits most command cause
+    all_fail : (cause : Cause) (s : Within (ByCause cause)) → Wrote w.held w.failures w.old (first_part s.messages s.came.made.texts (s.told ++ s.more)) w.new
+        → WritesBefore packets limits command cause s.covers.bytes (all_of s.messages s.came.made.texts) → CountsWrite cause (w.failures w.old) (w.failures w.new) → Fails r w e limits most command cause
     all_fail cause s wrote before counted =
-        some_fail cause s (all_of s.messages s.came.texts) (subst (λ l. Wrote w.held w.failures w.old l w.new) (texts_alone cause s) wrote).appended ([], sym (append-nil (all_of s.messages s.came.texts))) before counted
+        some_fail cause s (all_of s.messages s.came.made.texts) (subst (λ l. Wrote w.held w.failures w.old l w.new) (texts_alone cause s) wrote).appended ([], sym (append-nil (all_of s.messages s.came.made.texts))) before counted
 
-    all_messages : (cause : Cause) (s : Within (ByCause cause)) → IsAllOf (taken r) (plain asked) most (is_check command) s.parts s.rest s.more → WritesMessages packets limits command s.covers.bytes (all_of s.messages s.came.texts)
+    all_messages : (cause : Cause) (s : Within (ByCause cause)) → IsAllOf (taken r) (plain asked) most (is_check command) s.parts s.rest s.more → WritesMessages packets limits command s.covers.bytes (all_of s.messages s.came.made.texts)
     all_messages cause s all =
         let m = messages_of (ByCause cause) s in
         let partial : IsPartial limits s.rest = elim all [ inl none ↦ none.0 | inr more ↦ elim more [ inl cut ↦ absurd (false≢true cut.5) | inr seeks ↦ absurd (false≢true seeks.4) ] ] in
@@ -329,17 +339,17 @@ module _ {R W E : Type 0} (r : Reading R) (w : Writing W) (e : Writing E) (asked
           partial = partial;
           handed = s.messages;
           placed = subst (λ (l : List Part). ArePlaced packets 1 0 l s.messages) m.parts_are s.placed;
-          texts = s.came.texts;
-          output = s.came.made;
+          texts = s.came.made.texts;
+          output = s.came.made.made;
           written_is = refl;
         }
 
     fails : (cause : Cause) → Within (ByCause cause) → Fails r w e limits most command cause
-    fails Memory s = all_fail Memory s s.came.first tt s.came.first.failed
+    fails Memory s = let first = got (ByCause Memory) s in all_fail Memory s first tt first.failed
     fails WriteFailed s =
-        let first = subst (λ l. Breaks w.held w.failures l [] w.old w.new) (texts_alone WriteFailed s) s.came.first in
+        let first = subst (λ l. Breaks w.held w.failures l [] w.old w.new) (texts_alone WriteFailed s) (got (ByCause WriteFailed) s) in
         some_fail WriteFailed s first.written first.appended first.front tt first.failed
-    fails cause s = all_fail cause s s.came.first (all_messages cause s s.all) s.came.first.failed
+    fails cause s = let first = got (ByCause cause) s in all_fail cause s first (all_messages cause s s.all) first.failed
 
     -- and the second writer the cause alone
     told_after : (cause : Cause) → Wrote e.held e.failures e.old [] before → Told e.held e.failures before e.new cause → Told e.held e.failures e.old e.new cause
@@ -376,18 +386,18 @@ module _ {R W E : Type 0} (r : Reading R) (w : Writing W) (e : Writing E) (asked
     last_due s cut last more =
         more ∙ ap (λ (b : Option (Option ℕ)). (due_of s).2 ++ closing_line false (is_check command) false (tally_with b s.parts s.rest) (tally_with b s.parts s.rest).passed (due_of s).1) (rest_is packets cut asked limits (sizes_of s.parts) (looked_in s.parts) (due_of s).0 s.rest (due_of s).3.outcome _ last).2
 
-    untold : (b : Bool) → is_check command ≡ b → (end : ExitStatus) → (s : Within Untold) → end ≡ status.Failed → GotFirst w.held w.failures b Untold (first_of b (output_of (form_of command) false (plain asked).window s.messages s.came.texts) (s.told ++ s.more)) w.old w.new
+    untold : (b : Bool) → is_check command ≡ b → (end : ExitStatus) → (s : Within Untold) → end ≡ status.Failed → GotFirst w.held w.failures b Untold (first_of b (output_of (form_of command) false (plain asked).window s.messages s.came.made.texts) (s.told ++ s.more)) w.old w.new
         → GotSecond e.held e.failures b Untold (second_of b (s.told ++ s.more)) e.old before → TellsStop e.held e.failures b Untold before e.new → Runs r w e limits most command end
     unfolding through
     untold true is end s failed first second tells =
         let h = through s in
         let last = closing h in
-        let out = sym (ap (λ b. first_of b (output_of (form_of command) false (plain asked).window s.messages s.came.texts) ((s.told ++ (due_of s).2) ++ last)) is) ∙ first_is h s.messages s.placed s.came.texts s.came.made in
-        let prefix : IsPrefixTo (s.told ++ s.more) (all_of s.messages s.came.texts ++ last_of h) = elim (due_of s).4 [
+        let out = sym (ap (λ b. first_of b (output_of (form_of command) false (plain asked).window s.messages s.came.made.texts) ((s.told ++ (due_of s).2) ++ last)) is) ∙ first_is h s.messages s.placed s.came.made.texts s.came.made.made in
+        let prefix : IsPrefixTo (s.told ++ s.more) (all_of s.messages s.came.made.texts ++ last_of h) = elim (due_of s).4 [
           | inl shown ↦ (last, sym out ∙ ap (λ l. (s.told ++ l) ++ last) (sym shown.1))
           | inr all ↦ ([], sym out ∙ (append_assoc s.told (due_of s).2 last ∙ (ap (λ l. s.told ++ l) (sym (last_due s all.0 all.1 all.2)) ∙ sym (append-nil (s.told ++ s.more)))))
         ] in
-        inr (record { failed = failed; cause = WriteFailed; fails = broken h s.messages s.placed s.came.texts s.came.made (s.told ++ s.more) first prefix; told = told_after WriteFailed second tells })
+        inr (record { failed = failed; cause = WriteFailed; fails = broken h s.messages s.placed s.came.made.texts s.came.made.made (s.told ++ s.more) first prefix; told = told_after WriteFailed second tells })
     untold false is end s failed first second tells =
         let h = through s in
         let last = closing h in
@@ -395,16 +405,16 @@ module _ {R W E : Type 0} (r : Reading R) (w : Writing W) (e : Writing E) (asked
         let more : s.more ≡ (due_of s).2 ++ last = elim (due_of s).4 [ inl shown ↦ shown.1 ∙ sym (ap (λ l. (due_of s).2 ++ l) none ∙ append-nil (due_of s).2) | inr all ↦ last_due s all.0 all.1 all.2 ] in
         let line : s.told ++ s.more ≡ line_of h
         = ap (λ l. s.told ++ l) more ∙ (sym (append_assoc s.told (due_of s).2 last) ∙ (sym (ap (λ b. second_of b ((s.told ++ (due_of s).2) ++ last)) is) ∙ second_is h)) in
-        let out = sym (ap (λ b. first_of b (output_of (form_of command) false (plain asked).window s.messages s.came.texts) ((s.told ++ (due_of s).2) ++ last)) is) ∙ first_is h s.messages s.placed s.came.texts s.came.made in
+        let out = sym (ap (λ b. first_of b (output_of (form_of command) false (plain asked).window s.messages s.came.made.texts) ((s.told ++ (due_of s).2) ++ last)) is) ∙ first_is h s.messages s.placed s.came.made.texts s.came.made.made in
         let half = subst (λ (l : List ℕ). Stopped e.held e.failures e.old l second.0 before) line second.1 in
-        inl (answers h s.messages s.placed s.came.texts s.came.made end (subst (λ (l : List ℕ). Wrote w.held w.failures w.old l w.new) out first)
+        inl (answers h s.messages s.placed s.came.made.texts s.came.made.made end (subst (λ (l : List ℕ). Wrote w.held w.failures w.old l w.new) out first)
         (inr (second.0, subst (λ (x : E). Stopped e.held e.failures e.old (line_of h) second.0 x) (sym tells) half, failed)))
 
     stopped : (stop : RunStop) (end : ExitStatus) → Within stop → end ≡ status.Failed → TellsStop e.held e.failures (is_check command) stop before e.new → Runs r w e limits most command end
     stopped (ByCause cause) end s failed tells =
         let nothing = ap (λ l. second_of (is_check command) l) (none_told cause s) ∙ second_nothing (is_check command) in
         inr (record { failed = failed; cause = cause; fails = fails cause s; told = told_after cause (subst (λ l. Wrote e.held e.failures e.old l before) nothing s.came.second) tells })
-    stopped Untold end s failed tells = untold (is_check command) refl end s failed s.came.first s.came.second tells
+    stopped Untold end s failed tells = untold (is_check command) refl end s failed (got Untold s) s.came.second tells
 
 -- settings that ask for no more are these
 plain_is : (asked : Settings) (as_json explains goes_on : Bool) (skip : ℕ) (limit : Option ℕ)

@@ -1,5 +1,5 @@
 -- Two runs that read the same input, and do not fail, end alike.
-use Rattle.std.proofs.Common.{◌≡◌, ◌⊎◌, ℕ, ◌+◌, ◌-◌, ◌^◌, min, Bool, false, List, [], ◌∷◌, ◌++◌, arith, length, drop, take, None, Some, Option, Result, Ok, refl, sym, ap, ◌∙◌, subst, inl, inr, take-append-drop, ◌≢◌}
+use Rattle.std.proofs.Common.{◌≡◌, ◌⊎◌, ℕ, ◌+◌, ◌-◌, ◌^◌, min, Bool, false, List, [], ◌∷◌, ◌++◌, arith, length, drop, take, None, Some, Option, Result, Ok, Err, String, string_bytes, refl, sym, ap, ◌∙◌, subst, inl, inr, take-append-drop, ◌≢◌}
 use Rattle.std.proofs.Math.Path.{transport}
 use Rattle.std.specs.Io.KnownBytes.{Consumes, IsAtEnd}
 use Rattle.dbus_device.specs.Device.{Wrote}
@@ -10,12 +10,11 @@ use Rattle.dbus_value_model.specs.declared.fault.Fault.{Fault}
 use Rattle.dbus_value_model.specs.declared.limits.Limits.{Limits}
 use Rattle.dbus_count.specs.Counting.{Counting}
 use Rattle.dbus_count.specs.Spans.{span_text}
-use Rattle.dbus_count.specs.Tables.{AreTables, IsSummary, words, OneTable}
+use Rattle.dbus_count.specs.Tables.{AreTables, words, OneTable}
 use Rattle.dbus_call_lines.specs.Keeping.{ended_rows}
-use Rattle.dbus_call_lines.specs.Listing.{AreListed, Row, rows_text, Numbered}
+use Rattle.dbus_call_lines.specs.Listing.{Row, rows_text, Numbered}
 use Rattle.dbus_call_lines.proofs.Rows.{one_list}
 use Rattle.dbus_call_lines.proofs.Stray.{one_stray}
-use Rattle.dbus_call_lines.specs.declared.wanted.Wanted.{Wanted}
 use Rattle.dbus_call_members.specs.Summing.{members, sums}
 use Rattle.dbus_call_members.specs.Tables.{IsTable}
 use Rattle.dbus_call_members.proofs.OneTable.{one_table as one_member_table}
@@ -23,33 +22,43 @@ use Rattle.dbus_stream.specs.Cut.{IsOutcome, BeginWith, CutMessage, CutOutcome, 
 use Rattle.dbus_stream.specs.CutEnds.{fault_at_end, sizes}
 use Rattle.dbus_stream.proofs.CutLaws.{IsCut-one, BeginWith-more}
 use Rattle.cli_options.specs.declared.resync.Resync.TheVariants.{Off}
+use Rattle.cli_options.specs.Selections.{AreSameCommand}
+use Rattle.cli_options.specs.declared.command.Command.{Command}
 use Rattle.cli_options.specs.declared.settings.Settings.{Settings}
+use Rattle.cli_options.specs.declared.wanted_lines.WantedLines.{WantedLines}
+use Rattle.cli_options.specs.declared.window.Window.{Window}
+use Rattle.std.specs.declared.alloc.Global.{Global}
 use Rattle.cli_report.specs.Devices.{Reading, Taken, Writing, taken, writing}
 use Rattle.cli_report.specs.declared.ending.Cause.{Cause}
 use Rattle.cli_report.specs.declared.ending.ExitStatus.{ExitStatus}
 use Rattle.cli_report.specs.declared.ending.ExitStatus.TheVariants as status
-use Rattle.cli_run.specs.Laws.{AreOfOneInput, AreOfSamePackets, AreToldAlike, EndAlike, GotAlike, MadeAlike, OneCalls, OneCount, OneListing, OneRun, OneSums, OneWithin, TellAlike}
-use Rattle.cli_run.specs.ByName.{counting, span_of}
-use Rattle.cli_run.specs.CallListing.{IsNote, WritesCalls, all_named, lack_times, notes, numbered}
-use Rattle.cli_run.specs.CallSumming.{IsTableOf}
-use Rattle.cli_run.specs.Ending.{EndsAfterAll, EndsNoted, WritesText}
+use Rattle.cli_run.specs.Laws.{AreOfOneInput, AreOfSamePackets, AreToldAlike, EndAlike, MadeAlike, OneCalls, OneCount, OneListing, OneRun, OneSums, OneWithin, TellAlike}
+use Rattle.cli_run.specs.ByName.{EndsCounts, MakesCounts, counting, first_counts, span_of}
+use Rattle.cli_run.specs.CallListing.{EndsCalls, IsNote, MakesCalls, all_named, first_calls, lack_times, notes, numbered}
+use Rattle.cli_run.specs.CallSumming.{EndsSums, MakesSums, first_sums}
 use Rattle.cli_run.specs.Going.{AreTold, Goes, GoesFar, GoesThrough, IsThrough, IsToldLast, closing_line, cut_tally, passed_count, status_at, tally_of, tally_with}
 use Rattle.cli_run.specs.Inputs.{ArePlaced, BeginWithParts, Part, Placed, looked_in, size_of, sizes_of, wholes}
+use Rattle.cli_run.specs.LineListing.{LinesState, MakesLines, first_lines}
+use Rattle.cli_run.specs.Making.{EndsAfterAll, EndsSo, FillsFrom, RunsToEnd, WritesLast, WritesMade}
 use Rattle.cli_run.specs.Needed.{IsReadFor}
-use Rattle.cli_run.specs.Output.{IsFilledBy, is_check, check_line, fault_line, form_of, header_before, last_line, output_of, second_output, status_of, written}
+use Rattle.cli_run.specs.Output.{is_check, check_line, fault_line, form_of, header_before, is_spent, last_line, second_output, status_of, written}
 use Rattle.cli_run.specs.Refusals.{IsFaultIn}
-use Rattle.cli_run.specs.Shown.{AllShown, last_of, passed_of, shown_of, shown_through}
+use Rattle.cli_run.specs.Rendering.{Makes, first_state, is_full}
+use Rattle.cli_run.specs.Shown.{AllShown, last_of, passed_of, shown_after, shown_of, shown_through}
 use Rattle.cli_run.specs.Running.{Writes, TellsLine}
 use Rattle.cli_run.specs.Told.{first_of, second_of}
 use Rattle.cli_run.specs.VisitorLaws.{wrote_both}
 use Rattle.cli_run.specs.declared.tally.Tally.{Tally}
 use Rattle.cli_options.specs.declared.file_form.FileForm.{FileForm}
+use Rattle.cli_run.proofs.CallSteps.{rows_all}
+use Rattle.cli_run.proofs.CountSteps.{counts_all}
 use Rattle.cli_run.proofs.GoSteps.{none_is as none_refused_is}
 use Rattle.cli_run.proofs.Outputs.{header_one}
 use Rattle.cli_run.proofs.PartLaws.{is_last, parts_more, parts_of}
 use Rattle.cli_run.proofs.SameOutputs.{ShowAlike, acts_as, are_passed, bare_placed, bare_tally, none_last, none_refused, none_told, one_placed, same_counts, same_last, same_outputs, same_told}
 use Rattle.cli_run.proofs.SameFar.{filled_alike, items_of, lines_filled, not_through, same_far}
 use Rattle.cli_run.proofs.SameParts.{AreKnown, AreSame, EndsHere, IsKeptOf, bare, ends_here, packet_by, same_cut, same_parts}
+use Rattle.cli_run.proofs.SumSteps.{sums_all}
 use Rattle.std.specs.List.{concat}
 use Rattle.std.specs.Option.{is_none}
 
@@ -308,29 +317,43 @@ made_alike r s {P} {Q} all packets =
     let items = same_items r s all packets in
     record { status_is = all.5; items = all.0; told = all.2; one = all.3; same = subst (λ (l : List Placed). Q l all.2) (sym items) all.4 }
 
+-- both writers of two runs got the same
+got_alike : {W V E F : Type 0} (w : Writing W) (v : Writing V) (e : Writing E) (f : Writing F) {end other : ExitStatus} {a b c d : List ℕ} → other ≡ end → a ≡ b → c ≡ d → Wrote w.held w.failures w.old a w.new → Wrote v.held v.failures v.old b v.new
+    → Wrote e.held e.failures e.old c e.new → Wrote f.held f.failures f.old d f.new → EndAlike w v e f end other
+got_alike w v e f {end} {other} {a} {b} {c} {d} status_is first second one too told again = record {
+  status_is = status_is;
+  first = (a, one, subst (λ (l : List ℕ). Wrote v.held v.failures v.old l v.new) (sym first) too);
+  second = (c, told, subst (λ (l : List ℕ). Wrote f.held f.failures f.old l f.new) (sym second) again);
+}
+
+-- whether no more messages are wanted is the same of the same messages
+run_filled : (command copy : Command) → AreSameCommand command copy → (window : Window) (s l : List Placed) (x y : Bool) → items_of s ≡ items_of l → FillsFrom Makes (first_state command window) is_full s x → FillsFrom Makes (first_state copy window) is_full l y → x ≡ y
+run_filled command copy same window s l x y e p q =
+    filled_alike command copy (acts_as command copy same) window s l x y e (p.2.texts, p.2.made, ap is_full (sym p.2.then) ∙ p.3) (q.2.texts, q.2.made, ap is_full (sym q.2.then) ∙ q.3)
+
+list_filled : (wanted : WantedLines) (window : Window) (s l : List Placed) (x y : Bool) → items_of s ≡ items_of l → FillsFrom MakesLines (first_lines wanted window) (λ t. is_spent t.window) s x → FillsFrom MakesLines (first_lines wanted window) (λ t. is_spent t.window) l y → x ≡ y
+list_filled wanted window s l x y e p q =
+    lines_filled wanted window s l x y e (p.2.lines, p.2.are, ap (λ (t : LinesState). is_spent t.window) (sym p.2.then) ∙ p.3) (q.2.lines, q.2.are, ap (λ (t : LinesState). is_spent t.window) (sym q.2.then) ∙ q.3)
+
 pub one_run : (R S W V E F : Type 0) → OneRun R S W V E F
 one_run R S W V E F r s w v e f settings most more command copy end other same (inl g) (inl h) is =
     let acts = acts_as command copy same in
     let checks = acts.checks in
     let input = is.input in
-    let k = subst (λ c. (k : Goes (taken s) settings more c (IsFilledBy copy settings.window) (IsReadFor s) (Writes v f settings copy) other) × TellAlike settings end (shown_of g) (shown_of k)) (sym checks) (h, is.shown) in
-    let all = ends_alike settings (is_check command) input.0 input.1 (filled_alike command copy acts settings.window) input.2 input.3 (taken_alike r s end end refl is.told) g k.0 k.1 in
+    let k = subst (λ c. (k : Goes (taken s) settings more c (FillsFrom Makes (first_state copy settings.window) is_full) (IsReadFor s) (Writes v f settings copy) other) × TellAlike settings end (shown_of g) (shown_of k)) (sym checks) (h, is.shown) in
+    let all = ends_alike settings (is_check command) input.0 input.1 (run_filled command copy same settings.window) input.2 input.3 (taken_alike r s end end refl is.told) g k.0 k.1 in
     let one = all.0 in
     let other = all.1 in
     let told = all.2 in (
       made_alike r s all,
       λ exact alike.
-          let texts = same_outputs command copy acts exact (r.packets r.old) (s.packets s.old) alike all.6 one other all.3.texts all.4.texts all.7 all.8 all.3.made all.4.made in
+          let texts = same_outputs command copy acts exact (r.packets r.old) (s.packets s.old) alike all.6 one other all.3.made.texts all.4.made.texts all.7 all.8 all.3.made.made all.4.made.made in
           let header : header_before (form_of command) false one ≡ header_before (form_of copy) false other
           = header_one (form_of command) (r.packets r.old) (s.packets s.old) false 1 0 all.6 one other alike all.7 all.8 ∙ ap (λ (f : FileForm). header_before f false other) acts.form in
-          let first : first_of (is_check command) (output_of (form_of command) false settings.window one all.3.texts) told ≡ first_of (is_check copy) (output_of (form_of copy) false settings.window other all.4.texts) told
-          = λ i. first_of (checks i) (header i ++ written settings.window (texts i)) told in
+          let text : all.3.text ≡ all.4.text = all.3.made.text_is ∙ ((λ i. header i ++ written settings.window (texts i)) ∙ sym all.4.made.text_is) in
+          let first : first_of (is_check command) all.3.text told ≡ first_of (is_check copy) all.4.text told = λ i. first_of (checks i) (text i) told in
           let second : second_of (is_check command) told ≡ second_of (is_check copy) told = λ i. second_of (checks i) told in
-          record {
-            status_is = all.5;
-            first = (first_of (is_check command) (output_of (form_of command) false settings.window one all.3.texts) told, all.3.first, subst (λ l. Wrote v.held v.failures v.old l v.new) (sym first) all.4.first);
-            second = (second_of (is_check command) told, all.3.second, subst (λ l. Wrote f.held f.failures f.old l f.new) (sym second) all.4.second);
-          },
+          got_alike w v e f all.5 first second all.3.first all.4.first all.3.second all.4.second,
     )
 one_run R S W V E F r s w v e f settings most more command copy end other same (inl g) (inr gave_up) is = absurd (is.other_done gave_up.failed)
 one_run R S W V E F r s w v e f settings most more command copy end other same (inr gave_up) ran is = absurd (is.done gave_up.failed)
@@ -338,124 +361,121 @@ one_run R S W V E F r s w v e f settings most more command copy end other same (
 pub one_listing : (R S W V E F : Type 0) → OneListing R S W V E F
 one_listing R S W V E F r s w v e f settings wanted most more end other (inl g) (inl h) is packets =
     let input = is.input in
-    made_alike r s (ends_alike settings false input.0 input.1 (lines_filled wanted settings.window) input.2 input.3 (taken_alike r s end end refl is.told) g h is.shown) packets
+    made_alike r s (ends_alike settings false input.0 input.1 (list_filled wanted settings.window) input.2 input.3 (taken_alike r s end end refl is.told) g h is.shown) packets
 one_listing R S W V E F r s w v e f settings wanted most more end other (inl g) (inr gave_up) is packets = absurd (is.other_done gave_up.failed)
 one_listing R S W V E F r s w v e f settings wanted most more end other (inr gave_up) listed is packets = absurd (is.done gave_up.failed)
 
--- what is due was written, and a note was told
-ended_noted : {E : Type 0} (Writes : Result (Unit {0}) Cause → Type 0) (Is : (note : List ℕ) → Type 0) (e : Writing E) (due end : ExitStatus) → (end ≡ status.Failed → ⊥) → EndsNoted Writes Is e due end
-    → Writes (Ok tt) × (note : List ℕ) × Is note × Wrote e.held e.failures e.old note e.new × (end ≡ due)
-ended_noted Writes Is e due end done ends = elim ends [
-  | inl all ↦ elim all.3 [ inl told ↦ (all.0, all.1, all.2, told.0.0, told.1) | inr stopped ↦ absurd (done stopped.1) ]
-  | inr some ↦ absurd (done some.3)
-]
+-- ---- runs that write more at their ends
 
--- of the same messages it is the same
+module _ {T : Type 0} (makes : T → List Placed → List ℕ → T → Type 0) (t : T) (ends : T → (text note : List ℕ) → Type 0) where
+  -- the texts of messages and of the end were written, and its note was told after this
+  record WroteAll {W E : Type 0} (w : Writing W) (e : Writing E) (items : List Placed) (told : List ℕ) : Type 0 where
+    then : T
+    text : List ℕ
+    last : List ℕ
+    note : List ℕ
+    made : makes t items text then
+    at_end : ends then last note
+    first : Wrote w.held w.failures w.old (text ++ last) w.new
+    second : Wrote e.held e.failures e.old (told ++ note) e.new
+
+  -- unless the run failed
+  wrote_all : {W E : Type 0} (w : Writing W) (e : Writing E) (middle : W) (before : E) (last : Result (String Global) Cause) (due end : ExitStatus) (items : List Placed) (told : List ℕ) → (end ≡ status.Failed → ⊥)
+      → (made : WritesMade makes t false (writing w.held w.failures w.old middle) (writing e.held e.failures e.old before) items told) × WritesLast ends made.then (writing w.held w.failures middle w.new) last
+      → EndsSo (writing e.held e.failures before e.new) due end last → WroteAll w e items told × (end ≡ due)
+  wrote_all w e middle before (Err cause) due end items told done came so = absurd (done so.1)
+  wrote_all w e middle before (Ok note) due end items told done (h, last) so = elim so [
+    | inl noted ↦ (
+      record {
+        then = h.then;
+        text = h.text;
+        last = last.0;
+        note = string_bytes note;
+        made = h.made;
+        at_end = last.1;
+        first = wrote_both w.held w.failures h.text last.0 w.old middle w.new h.first last.2;
+        second = wrote_both e.held e.failures told (string_bytes note) e.old before e.new h.second noted.0.0;
+      },
+      noted.1,
+    )
+    | inr stopped ↦ absurd (done stopped.1)
+  ]
+
+  module _ {R S W V E F : Type 0} (r : Reading R) (s : Reading S) (w : Writing W) (v : Writing V) (e : Writing E) (f : Writing F) (settings : Settings) {most more : ℕ} {end other : ExitStatus} where
+    all_alike : (g : EndsAfterAll makes t ends r w e settings most end) (h : EndsAfterAll makes t ends s v f settings more other) → AreOfOneInput r s settings end other (shown_through g.through) (shown_through h.through)
+        → AreAlikeRuns (taken r) (taken s) (WroteAll w e) (WroteAll v f) end other
+    all_alike g h is =
+        let input = is.input in
+        let due = (wrote_all w e g.middle g.before g.last g.due end g.through.messages _ is.done g.through.came g.ends_so).1 in
+        let tells = subst (λ (x : ExitStatus). TellAlike settings x (shown_through g.through) (shown_through h.through)) due is.shown in
+        let all = goes_alike settings false input.0 input.1 g.through h.through tells input.2 input.3 (taken_alike r s _ g.due (sym due) is.told) in
+        let one = wrote_all w e g.middle g.before g.last g.due end all.0 all.2 is.done all.3 g.ends_so in
+        let too = wrote_all v f h.middle h.before h.last h.due other all.1 all.2 is.other_done all.4 h.ends_so in
+        (all.0, all.1, all.2, one.0, too.0, too.1 ∙ (all.5 ∙ sym one.1), all.6, all.7, all.8)
+
+    -- the law: if what is made of the same messages is the same, they end alike
+    one_meaning : ((items : List Placed) (a b : T) (p q x y m n : List ℕ) → makes t items p a → ends a x m → makes t items q b → ends b y n → (p ++ x ≡ q ++ y) × (m ≡ n)) → (runs : RunsToEnd makes t ends r w e settings most end) → (ran : RunsToEnd makes t ends s v f settings more other)
+        → AreOfOneInput r s settings end other (shown_after runs) (shown_after ran) → AreOfSamePackets r s → EndAlike w v e f end other
+    one_meaning one (inl g) (inl h) is packets =
+        let all = all_alike g h is in
+        let a = all.3 in
+        let b = subst (λ (l : List Placed). WroteAll v f l all.2) (sym (same_items r s all packets)) all.4 in
+        let same = one all.0 a.then b.then a.text b.text a.last b.last a.note b.note a.made a.at_end b.made b.at_end in
+        got_alike w v e f all.5 same.0 (ap (λ l. all.2 ++ l) same.1) a.first b.first a.second b.second
+    one_meaning one (inl g) (inr gave_up) is packets = absurd (is.other_done gave_up.failed)
+    one_meaning one (inr gave_up) ran is packets = absurd (is.done gave_up.failed)
+
+pub one_count : (R S W V E F : Type 0) → OneTable → OneCount R S W V E F
+one_count R S W V E F one_table r s w v e f settings form most more end other (inl g) (inl h) is =
+    let all = all_alike MakesCounts (first_counts form) EndsCounts r s w v e f settings g h is in
+    let items = all.0 in
+    let also = all.1 in
+    let told = all.2 in
+    let a = all.3 in
+    let b = all.4 in
+    let one = counts_all form items a.then a.text a.last a.note a.made a.at_end in
+    let too = counts_all form also b.then b.text b.last b.note b.made b.at_end in
+    let counts_too = λ (name : List ℕ). same_counts (s.packets s.old) (r.packets r.old) 1 0 all.6 also items name None all.8 all.7 in
+    let same = subst (λ (c : Counting). AreTables form c words too.0.tables) (λ i name. counts_too name i) too.0.are in
+    let table = one_table form (counting items) words one.0.tables too.0.tables one.0.are same in
+    let note : told ++ a.note ≡ told ++ b.note = ap (λ l. told ++ l) (one.1 ∙ sym too.1) in
+    let second = subst (λ l. Wrote f.held f.failures f.old l f.new) (sym note) b.second in
+    let text : a.text ++ a.last ≡ one.0.tables ++ span_text form (span_of items) = λ i. a.made.none i ++ one.0.is i in
+    let other_text : b.text ++ b.last ≡ one.0.tables ++ span_text form (span_of also) = λ i. b.made.none i ++ (too.0.is ∙ ap (λ l. l ++ span_text form (span_of also)) (sym table)) i in (
+      record {
+        status_is = all.5;
+        tables = one.0.tables;
+        span = span_of items;
+        other_span = span_of also;
+        one = subst (λ l. Wrote w.held w.failures w.old l w.new) text a.first;
+        same = subst (λ l. Wrote v.held v.failures v.old l v.new) other_text b.first;
+        second = (told ++ a.note, a.second, second);
+      },
+      λ packets. got_alike w v e f all.5 (text ∙ (ap (λ (l : List Placed). one.0.tables ++ span_text form (span_of l)) (same_items r s all packets) ∙ sym other_text)) note a.first b.first a.second b.second,
+    )
+one_count R S W V E F one_table r s w v e f settings form most more end other (inl g) (inr gave_up) is = absurd (is.other_done gave_up.failed)
+one_count R S W V E F one_table r s w v e f settings form most more end other (inr gave_up) counted is = absurd (is.done gave_up.failed)
+
+-- of the same messages the note is the same
 one_note : (lacks : Bool) (xs : List Numbered) (note other : List ℕ) → IsNote lacks xs note → IsNote lacks xs other → note ≡ other
 one_note lacks xs note other h k =
     let count = one_stray [] xs h.1.0 k.1.0 h.1.1 k.1.1 in
     let same : h.0 ≡ k.0 = h.1.2 ∙ (ap (λ n. min n (2 ^ 64 - 1)) count ∙ sym k.1.2) in
     h.2 ∙ (ap (notes lacks) same ∙ sym k.2)
 
--- two runs that write more at their ends took the same messages, and told the same
-after_alike : {R S E F : Type 0} (r : Reading R) (s : Reading S) (e : Writing E) (f : Writing F) (settings : Settings) {most more : ℕ} {P : List Placed → Writing E → (due end : ExitStatus) → Type 0} {Q : List Placed → Writing F → (due end : ExitStatus) → Type 0} {end other : ExitStatus}
-    (g : EndsAfterAll r e settings most P end) (h : EndsAfterAll s f settings more Q other) → AreOfOneInput r s settings end other (shown_through g.through) (shown_through h.through) → end ≡ g.due
-    → AreAlikeRuns (taken r) (taken s) (λ items told. Wrote e.held e.failures e.old told g.before × P items (writing e.held e.failures g.before e.new) g.due end)
-    (λ items told. Wrote f.held f.failures f.old told h.before × Q items (writing f.held f.failures h.before f.new) h.due other) g.due h.due
-after_alike r s e f settings g h is due =
-    let input = is.input in
-    let tells = subst (λ (x : ExitStatus). TellAlike settings x (shown_through g.through) (shown_through h.through)) due is.shown in
-    goes_alike settings false input.0 input.1 g.through h.through tells input.2 input.3 (taken_alike r s _ g.due (sym due) is.told)
-
-pub one_count : (R S W V E F : Type 0) → OneTable → OneCount R S W V E F
-one_count R S W V E F one_table r s w v e f settings form most more end other (inl g) (inl h) is =
-    let due = (ended_noted (WritesText _ w) (λ note. note ≡ []) (writing e.held e.failures g.before e.new) g.due end is.done g.through.came.1).4 in
-    let all = after_alike r s e f settings g h is due in
-    let told = all.2 in
-    let items = all.0 in
-    let also = all.1 in
-    let counts_too = λ (name : List ℕ). same_counts (s.packets s.old) (r.packets r.old) 1 0 all.6 also items name None all.8 all.7 in
-    let one = ended_noted (WritesText (IsSummary form (counting items) (span_of items)) w) (λ note. note ≡ []) (writing e.held e.failures g.before e.new) g.due end is.done all.3.1 in
-    let too = ended_noted (WritesText (IsSummary form (counting also) (span_of also)) v) (λ note. note ≡ []) (writing f.held f.failures h.before f.new) h.due other is.other_done all.4.1 in
-    let same = subst (λ (c : Counting). AreTables form c words too.0.1.tables) (λ i name. counts_too name i) too.0.1.are in
-    let table = one_table form (counting items) words one.0.1.tables too.0.1.tables one.0.1.are same in
-    let ends : other ≡ end = too.4 ∙ (all.5 ∙ sym one.4) in
-    let second : GotAlike e f = (
-      told ++ one.1,
-      wrote_both e.held e.failures told one.1 e.old g.before e.new all.3.0 one.3,
-      subst (λ (l : List ℕ). Wrote f.held f.failures f.old (told ++ l) f.new) (too.2 ∙ sym one.2) (wrote_both f.held f.failures told too.1 f.old h.before f.new all.4.0 too.3),
-    ) in (
-      record {
-        status_is = ends;
-        tables = one.0.1.tables;
-        span = span_of items;
-        other_span = span_of also;
-        one = subst (λ l. Wrote w.held w.failures w.old l w.new) one.0.1.is one.0.2;
-        same = subst (λ l. Wrote v.held v.failures v.old l v.new) (too.0.1.is ∙ ap (λ l. l ++ span_text form (span_of also)) (sym table)) too.0.2;
-        second = second;
-      },
-      λ packets.
-          let placed = same_items r s all packets in
-          let text : one.0.0 ≡ too.0.0 = one.0.1.is ∙ ((λ i. table i ++ span_text form (span_of (placed i))) ∙ sym too.0.1.is) in
-          record { status_is = ends; first = (one.0.0, one.0.2, subst (λ l. Wrote v.held v.failures v.old l v.new) (sym text) too.0.2); second = second },
-    )
-one_count R S W V E F one_table r s w v e f settings form most more end other (inl g) (inr gave_up) is = absurd (is.other_done gave_up.failed)
-one_count R S W V E F one_table r s w v e f settings form most more end other (inr gave_up) counted is = absurd (is.done gave_up.failed)
-
--- two runs that write a text of all messages, and then a note: the text is one
-module _ {R S W V E F : Type 0} (r : Reading R) (s : Reading S) (w : Writing W) (v : Writing V) (e : Writing E) (f : Writing F) (settings : Settings) {most more : ℕ} {end other : ExitStatus} (lacks : List Placed → Bool) (xs : List Placed → List Numbered)
-    (Is : List Placed → List ℕ → Type 0) (one_text : (items : List Placed) (x y : List ℕ) → Is items x → Is items y → x ≡ y) (A B : List Placed → Result (Unit {0}) Cause → Type 0)
-    (writes : (items : List Placed) → A items (Ok tt) → (text : List ℕ) × Is items text × Wrote w.held w.failures w.old text w.new) (wrote : (items : List Placed) → B items (Ok tt) → (text : List ℕ) × Is items text × Wrote v.held v.failures v.old text v.new) where
-  noted_alike : (g : EndsAfterAll r e settings most (λ items rest due end. EndsNoted (A items) (IsNote (lacks items) (xs items)) rest due end) end)
-      (h : EndsAfterAll s f settings more (λ items rest due end. EndsNoted (B items) (IsNote (lacks items) (xs items)) rest due end) other)
-      → AreOfOneInput r s settings end other (shown_through g.through) (shown_through h.through) → AreOfSamePackets r s → EndAlike w v e f end other
-  noted_alike g h is packets =
-      let due = (ended_noted (A g.through.messages) (IsNote (lacks g.through.messages) (xs g.through.messages)) (writing e.held e.failures g.before e.new) g.due end is.done g.through.came.1).4 in
-      let all = after_alike r s e f settings g h is due in
-      let items = all.0 in
-      let also = all.1 in
-      let told = all.2 in
-      let same = same_items r s all packets in
-      let one = ended_noted (A items) (IsNote (lacks items) (xs items)) (writing e.held e.failures g.before e.new) g.due end is.done all.3.1 in
-      let too = ended_noted (B also) (IsNote (lacks also) (xs also)) (writing f.held f.failures h.before f.new) h.due other is.other_done all.4.1 in
-      let note = one_note (lacks items) (xs items) one.1 too.1 one.2 (subst (λ (l : List Placed). IsNote (lacks l) (xs l) too.1) (sym same) too.2) in
-      let first = writes items one.0 in
-      let second = wrote also too.0 in
-      let text = one_text items first.0 second.0 first.1 (subst (λ (l : List Placed). Is l second.0) (sym same) second.1) in
-      record {
-        status_is = too.4 ∙ (all.5 ∙ sym one.4);
-        first = (first.0, first.2, subst (λ l. Wrote v.held v.failures v.old l v.new) (sym text) second.2);
-        second = (
-          told ++ one.1,
-          wrote_both e.held e.failures told one.1 e.old g.before e.new all.3.0 one.3,
-          wrote_both f.held f.failures told one.1 f.old h.before f.new all.4.0 (subst (λ (t : List ℕ). Wrote f.held f.failures h.before t f.new) (sym note) too.3),
-        );
-      }
-
--- the lines of all calls
-abbrev IsListOf : Wanted → List Placed → List ℕ → Type 0
-IsListOf wanted items text = (rows : List Row) × AreListed [] (all_named items) rows × (text ≡ rows_text wanted rows)
-
-one_list_text : (wanted : Wanted) (items : List Placed) (x y : List ℕ) → IsListOf wanted items x → IsListOf wanted items y → x ≡ y
-one_list_text wanted items x y h k = h.2 ∙ (ap (rows_text wanted) (one_list (all_named items) h.0 k.0 h.1 k.1) ∙ sym k.2)
-
-one_sums_text : (wanted : Wanted) (items : List Placed) (x y : List ℕ) → IsTableOf wanted items x → IsTableOf wanted items y → x ≡ y
-one_sums_text wanted items x y h k =
-    let rows = one_list (numbered items) h.0 k.0 h.1 k.1 in
-    one_member_table wanted.form (sums (ended_rows members wanted h.0)) x y h.2 (subst (λ (l : List Row). IsTable wanted.form (sums (ended_rows members wanted l)) y) (sym rows) k.2)
-
 pub one_calls : (R S W V E F : Type 0) → OneCalls R S W V E F
-one_calls R S W V E F r s w v e f settings wanted most more end other (inl g) (inl h) is packets =
-    noted_alike r s w v e f settings (lack_times wanted) all_named (IsListOf wanted) (one_list_text wanted) (WritesCalls w wanted) (WritesCalls v wanted) (λ items lists. (rows_text wanted lists.0, (lists.0, lists.1, refl), lists.2))
-    (λ items lists. (rows_text wanted lists.0, (lists.0, lists.1, refl), lists.2)) g h is packets
-one_calls R S W V E F r s w v e f settings wanted most more end other (inl g) (inr gave_up) is packets = absurd (is.other_done gave_up.failed)
-one_calls R S W V E F r s w v e f settings wanted most more end other (inr gave_up) listed is packets = absurd (is.done gave_up.failed)
+one_calls R S W V E F r s w v e f settings wanted most more end other = one_meaning MakesCalls (first_calls wanted) EndsCalls r s w v e f settings (λ items a b p q x y m n made ends again too.
+    let h = rows_all wanted items a p x m made ends in
+    let k = rows_all wanted items b q y n again too in
+    (h.2 ∙ (ap (rows_text wanted) (one_list (all_named items) h.0 k.0 h.1 k.1) ∙ sym k.2), one_note (lack_times wanted items) (all_named items) m n h.3 k.3))
 
 pub one_sums : (R S W V E F : Type 0) → OneSums R S W V E F
-one_sums R S W V E F r s w v e f settings wanted most more end other (inl g) (inl h) is packets =
-    noted_alike r s w v e f settings (lack_times wanted) numbered (IsTableOf wanted) (one_sums_text wanted) (λ items. WritesText (IsTableOf wanted items) w) (λ items. WritesText (IsTableOf wanted items) v) (λ items sums. sums) (λ items sums. sums) g h is packets
-one_sums R S W V E F r s w v e f settings wanted most more end other (inl g) (inr gave_up) is packets = absurd (is.other_done gave_up.failed)
-one_sums R S W V E F r s w v e f settings wanted most more end other (inr gave_up) summed is packets = absurd (is.done gave_up.failed)
+one_sums R S W V E F r s w v e f settings wanted most more end other = one_meaning MakesSums (first_sums wanted) EndsSums r s w v e f settings (λ items a b p q x y m n made ends again too.
+    let h = sums_all wanted items a p x m made ends in
+    let k = sums_all wanted items b q y n again too in
+    let rows = one_list (numbered items) h.0.0 k.0.0 h.0.1 k.0.1 in
+    let table = one_member_table wanted.form (sums (ended_rows members wanted h.0.0)) x y h.0.2 (subst (λ (l : List Row). IsTable wanted.form (sums (ended_rows members wanted l)) y) (sym rows) k.0.2) in
+    (λ i. (made.none ∙ sym again.none) i ++ table i, one_note (lack_times wanted items) (numbered items) m n h.1 k.1))
 
 -- ---- runs under limits alone
 
@@ -528,11 +548,7 @@ one_within R S W V E F r s w v e f limits most more command copy end other same 
         let out : a.out ≡ b.out = a.output.joined ∙ ((λ i. (header i ++ concat (texts i)) ++ last i) ∙ sym b.output.joined) in
         let line : second_output command (sizes a.items) (fault_at_end a.rest a.outcome) a.packet ≡ second_output copy (sizes b.items) (fault_at_end b.rest b.outcome) b.packet
         = ap (second_of (is_check command)) lines.1 ∙ (λ i. second_of (acts.checks i) (fault_line (sizes (cut.0 i)) (fault i) b.packet)) in
-        record {
-          status_is = told_too.1 ∙ (ap status_of (sym fault) ∙ sym told.1);
-          first = (a.out, a.first, subst (λ l. Wrote v.held v.failures v.old l v.new) (sym out) b.first);
-          second = (second_output command (sizes a.items) (fault_at_end a.rest a.outcome) a.packet, told.0, subst (λ l. Wrote f.held f.failures f.old l f.new) (sym line) told_too.0);
-        }
+        got_alike w v e f (told_too.1 ∙ (ap status_of (sym fault) ∙ sym told.1)) out line a.first b.first told.0 told_too.0
         )
     | inr gave_up ↦ absurd (other_done gave_up.failed)
   ]

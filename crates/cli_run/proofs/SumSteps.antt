@@ -15,7 +15,7 @@ use Rattle.dbus_call_members.specs.Summing.{Adds, AreSums, is_short, members, su
 use Rattle.dbus_call_members.specs.Tables.{IsTable}
 use Rattle.dbus_call_members.specs.declared.member_sums.MemberSums.{MemberSums}
 use Rattle.cli_run.specs.CallListing.{IsNote, lack_times, notes, number_and_time, numbered}
-use Rattle.cli_run.specs.CallSumming.{EndsSums, FollowRising, IsLast, IsTableOf, Knows, MakesSums, SumsAt, SumsState, sums_after}
+use Rattle.cli_run.specs.CallSumming.{EndsSums, FollowRising, IsLast, IsTableOf, Knows, MakesSums, SumsAt, SumsState, first_sums, sums_after}
 use Rattle.cli_run.specs.Inputs.{ArePlaced, Part, Placed}
 use Rattle.cli_run.specs.OutputWriting.{placed_at}
 use Rattle.cli_run.specs.declared.call_summing.SumRenderer.{SumRenderer}
@@ -52,20 +52,16 @@ module _ (s : SumsState) (order : Order) (m : MessageTree) (place : MessagePlace
 -- ---- the run
 
 module _ (wanted : Wanted) where
-  -- where it starts
-  abbrev pub start : SumsState
-  start = record { wanted = wanted; timed = false; before = []; earlier = [] }
-
-  pub starts : (a : SumRenderer) → wanted ≡ a.wanted → a.timed ≡ false → Knows wanted [] [] a.list a.sums → SumsAt a start
+  pub starts : (a : SumRenderer) → wanted ≡ a.wanted → a.timed ≡ false → Knows wanted [] [] a.list a.sums → SumsAt a (first_sums wanted)
   unfolding IsStrictlySortedBy
   starts a own timed knows = record { wanted_is = own; timed_is = sym timed; knows = knows; rising = tt }
 
-  pub follow : (packets : Option Packets) (parts : List Part) (items : List Placed) → ArePlaced packets 1 0 parts items → FollowRising start items
+  pub follow : (packets : Option Packets) (parts : List Part) (items : List Placed) → ArePlaced packets 1 0 parts items → FollowRising (first_sums wanted) items
   follow packets parts items placed = placed_rise packets 1 0 parts items placed
 
   -- the table is of the messages, and of the calls that wait after them
-  pub sums_all : (items : List Placed) (t : SumsState) (text last note : List ℕ) → MakesSums start items text t → EndsSums t last note → IsTableOf wanted items last × IsNote (lack_times wanted items) (numbered items) note
+  pub sums_all : (items : List Placed) (t : SumsState) (text last note : List ℕ) → MakesSums (first_sums wanted) items text t → EndsSums t last note → IsTableOf wanted items last × IsNote (lack_times wanted items) (numbered items) note
   sums_all items t text last note h e =
-      let l : EndsSums (sums_after start items h.rows) last note = subst (λ (x : SumsState). EndsSums x last note) h.then e in
+      let l : EndsSums (sums_after (first_sums wanted) items h.rows) last note = subst (λ (x : SumsState). EndsSums x last note) h.then e in
       let table = subst (λ (calls : List EndedCall). IsTable wanted.form (sums calls) last) (sym (ended_both members wanted h.rows l.0.0)) l.0.2 in
       ((h.rows ++ l.0.0, listed_end [] (numbered items) h.rows l.0.0 h.are l.0.1, table), (l.1, l.2, l.3))

@@ -19,9 +19,9 @@ use Rattle.cli_report.specs.declared.ending.ExitStatus.TheVariants as status
 use Rattle.cli_report.specs.declared.gathering.Unwritten.{Unwritten}
 use Rattle.cli_report.specs.declared.output_buffer.OutputBuffer.{OutputBuffer}
 use Rattle.cli_report.specs.declared.page.Page.{Page}
-use Rattle.cli_run.specs.Ending.{EndsAfterAll, EndsNoted, GathersLast, IsNoteMade, TellsNote, WritesLast, WritesMade}
 use Rattle.cli_run.specs.Going.{Goes, GoesThrough, StopsWithin}
 use Rattle.cli_run.specs.Inputs.{ArePlaced, Part, Placed}
+use Rattle.cli_run.specs.Making.{EndsAfterAll, EndsSo, FillsFrom, GathersLast, LeavesMade, WritesLast, WritesMade}
 use Rattle.cli_run.specs.Needed.{IsReadFor}
 use Rattle.cli_run.specs.OutputWriting.{GathersNone, GathersOne, LeavesFirst, LeavesWritten, WritesAll}
 use Rattle.cli_run.specs.Told.{GotFirst, GotSecond, IsUnwritten, first_of, second_of}
@@ -36,24 +36,6 @@ use Rattle.cli_run.proofs.EndSteps.{ends_as, goes_as, got_first, got_nothing, st
 first_made : (silent : Bool) (text : List ℕ) → (silent ≡ true → text ≡ []) → text ≡ first_of silent text []
 first_made true text none = none refl
 first_made false text none = refl
-
--- what is told, by what became of what is made at the end
-abbrev pub EndsSo : {E : Type 0} → Writing E → (due end : ExitStatus) → Result (String Global) Cause → Type 0
-EndsSo e due end (Ok note) = TellsNote e (string_bytes note) due end
-EndsSo e due end (Err cause) = Told e.held e.failures e.old e.new cause × (end ≡ status.Failed)
-
--- what was written of messages, and then at the end
-module _ {S W E : Type 0} (held : W → Option (List ℕ)) (failures : W → ℕ) (makes : S → List Placed → List ℕ → S → Type 0) (ends : S → (text note : List ℕ) → Type 0) (s t : S) (items : List Placed) (text : List ℕ) (made : makes s items text t)
-    (w0 w1 w2 : W) (passes : Passes held failures text [] [] w0 w1) (e : Writing E) (due end : ExitStatus) where
-  wrote : Wrote held failures w0 text w1
-  wrote = passes_whole held failures text [] [] w0 w1 refl refl passes
-
-  pub ends_noted : (res : Result (String Global) Cause) → WritesLast ends t (writing held failures w1 w2) res → EndsSo e due end res → EndsNoted (WritesMade makes s ends (writing held failures w0 w2) items) (IsNoteMade makes s ends items) e due end
-  ends_noted (Ok note) (last, is, more) told = inl ((t, text, last, string_bytes note, made, is, wrote_both held failures text last w0 w1 w2 wrote more), string_bytes note, (t, text, last, made, is), told)
-  ends_noted (Err Memory) same told = inr (Memory, (t, text, made, subst (λ (y : W). Wrote held failures w0 text y) (sym same) wrote, λ none. same ∙ passes_unwritten held failures text [] [] w0 w1 refl none passes), told.0, told.1)
-  ends_noted (Err WriteFailed) (last, note, is, broke) told = inr (WriteFailed, (t, text, last, note, made, is, breaks_after held failures text last [] [] w0 w1 w2 passes broke), told.0, told.1)
-  ends_noted (Err ReadFailed) never told = absurd never
-  ends_noted (Err TooManyReads) never told = absurd never
 
 -- what is gathered at the end was not written
 pub last_failed : {S W : Type 0} (held : W → Option (List ℕ)) (failures : W → ℕ) (ends : S → (text note : List ℕ) → Type 0) (s : S) (cause : Cause) (g0 g1 : List ℕ) (w0 w1 : W) → g0 ≡ [] → GathersLast ends s (writing held failures w0 w1) g0 g1 (Err cause)
@@ -220,91 +202,89 @@ module _ {C S W E : Type 0} (stands : C → S → Type 0) (makes : S → List Pl
 
   -- ---- the run: the writers at the end are w2 and e2
 
-  module _ (full : C → Bool) (s : S) (there : stands a.renderer s) (none : gathered_bytes a.gathered ≡ []) {w2 : W} {e2 : E} (first : b.first.now ≡ w2) (second : b.second.now ≡ e2) where
-    -- a text of the messages was written, and this was told
-    abbrev pub Done : List Placed → (told : List ℕ) → Type 0
-    Done items told = (t : S) × (text : List ℕ) × makes s items text t × Wrote held failures a.first.now (first_of (silent a.renderer) text told) w2 × Wrote second_held second_failures a.second.now (second_of (silent a.renderer) told) e2
+  module _ (s : S) (there : stands a.renderer s) (none : gathered_bytes a.gathered ≡ []) {w2 : W} {e2 : E} (first : b.first.now ≡ w2) (second : b.second.now ≡ e2) {y : Bool} (silence : silent a.renderer ≡ y) where
+    abbrev Done : List Placed → (told : List ℕ) → Type 0
+    Done items told = WritesMade makes s y (writing held failures a.first.now w2) (writing second_held second_failures a.second.now e2) items told
 
-    -- the same, as far as this stop lets it come
-    abbrev pub Left : List Placed → (told : List ℕ) → RunStop → Type 0
-    Left items told stop = (t : S) × (text : List ℕ) × makes s items text t × GotFirst held failures (silent a.renderer) stop (first_of (silent a.renderer) text told) a.first.now w2
-        × GotSecond second_held second_failures (silent a.renderer) stop (second_of (silent a.renderer) told) a.second.now e2 × (first_of (silent a.renderer) text told ≡ [] → IsUnwritten stop × (w2 ≡ a.first.now))
+    abbrev Left : List Placed → (told : List ℕ) → RunStop → Type 0
+    Left items told stop = LeavesMade makes s y (writing held failures a.first.now w2) (writing second_held second_failures a.second.now e2) items told stop
 
-    -- whether what makes the text wants no more after these messages
-    abbrev pub Filled : List Placed → Bool → Type 0
-    Filled items filled = (c : C) × (full c ≡ filled) × (follows s items → (t : S) × (text : List ℕ) × makes s items text t × stands c t)
-
-    done_by : gathered_bytes b.gathered ≡ [] → (items : List Placed) (told : List ℕ) → follows s items → Takes a b items told → Done items told
+    done_by : gathered_bytes b.gathered ≡ [] → (items : List Placed) (told : List ℕ) → follows s items → Takes a b items told → (h : Done items told) × stands b.renderer h.then
     done_by last items told comes h =
-        let r = h.renders s there comes in (
-          r.0,
-          r.2,
-          r.3,
-          subst (λ (w : W). Wrote held failures a.first.now (first_of (silent a.renderer) r.2 told) w) first
-              (passes_whole held failures (first_of (silent a.renderer) r.2 told) (gathered_bytes a.gathered) (gathered_bytes b.gathered) a.first.now b.first.now none last r.4),
-          subst (λ (e : E). Wrote second_held second_failures a.second.now (second_of (silent a.renderer) told) e) second h.tells,
+        let r = h.renders s there comes in
+        let passes = transport (λ i. Passes held failures (first_of (silence i) r.2 told) (none i) (last i) a.first.now (first i)) r.4 in (
+          record {
+            then = r.0;
+            text = r.2;
+            made = r.3;
+            first = passes_whole held failures (first_of y r.2 told) [] [] a.first.now w2 refl refl passes;
+            still = λ nothing. passes_unwritten held failures (first_of y r.2 told) [] [] a.first.now w2 refl nothing passes;
+            second = transport (λ i. Wrote second_held second_failures a.second.now (second_of (silence i) told) (second i)) h.tells;
+          },
+          r.1,
         )
 
     left_by : (stop : RunStop) (items : List Placed) (told : List ℕ) → follows s items → Leaves a b items told stop → Left items told stop
     left_by stop items told comes h =
-        let r = h.renders s there comes in (
-          r.0,
-          r.1,
-          r.2,
-          subst (λ (w : W). GotFirst held failures (silent a.renderer) stop (first_of (silent a.renderer) r.1 told) a.first.now w) first
-              (got_first held failures (gathered_bytes a.gathered) a.first.now b.first.now none (silent a.renderer) stop (first_of (silent a.renderer) r.1 told) r.3),
-          subst (λ (e : E). GotSecond second_held second_failures (silent a.renderer) stop (second_of (silent a.renderer) told) a.second.now e) second h.tells,
-          λ nothing.
-              let kept = got_nothing held failures (gathered_bytes a.gathered) a.first.now b.first.now none (silent a.renderer) stop (first_of (silent a.renderer) r.1 told) nothing r.3 in
-              (kept.0, sym first ∙ kept.1),
-        )
+        let r = h.renders s there comes in
+        let leaves = transport (λ i. LeavesFirst held failures (silence i) stop (first_of (silence i) r.1 told) (none i) a.first.now (first i)) r.3 in
+        record {
+          then = r.0;
+          text = r.1;
+          made = r.2;
+          first = got_first held failures a.first.now w2 y stop (first_of y r.1 told) leaves;
+          still = got_nothing held failures a.first.now w2 y stop (first_of y r.1 told) leaves;
+          second = transport (λ i. GotSecond second_held second_failures (silence i) stop (second_of (silence i) told) a.second.now (second i)) h.tells;
+        }
 
-    abbrev full_of : OutputWriter C W E → Bool
-    full_of x = full x.renderer
+    -- of a source that stands where this one does
+    module _ (full : C → Bool) {R : Type 0} (left_in : R → Option (List ℕ)) (calls read_failures : R → ℕ) (packets : R → Option Packets) (settings : Settings) (most : ℕ) (r0 r1 : R) {r2 : R} (source : r1 ≡ r2) where
+      abbrev full_of : OutputWriter C W E → Bool
+      full_of x = full x.renderer
 
-    filled_by : (items : List Placed) (filled : Bool) → FillsBy Takes full_of a items filled → Filled items filled
-    filled_by items filled (x, told, h, is) = (x.renderer, is, λ comes. let r = h.renders s there comes in (r.0, r.2, r.3, r.1))
+      abbrev Filled : List Placed → Bool → Type 0
+      Filled items filled = FillsBy Takes full_of a items filled
 
-    -- said otherwise, and of a source that stands where this one does
-    module _ {R : Type 0} (left_in : R → Option (List ℕ)) (calls read_failures : R → ℕ) (packets : R → Option Packets) (settings : Settings) (most : ℕ) (r0 r1 : R) {r2 : R} (source : r1 ≡ r2)
-        (comes : (parts : List Part) (items : List Placed) → ArePlaced (packets r0) 1 0 parts items → follows s items) where
-      module _ (x : Bool) {y : Bool} (checks : x ≡ y) {F : List Placed → Bool → Type 0} (fills : (items : List Placed) (filled : Bool) → Filled items filled → F items filled) where
-        pub ran : {N : (size : ℕ) → Type 0} {P : List Placed → (told : List ℕ) → Type 0} {end : ExitStatus} → gathered_bytes b.gathered ≡ [] → ((items : List Placed) (told : List ℕ) → Done items told → P items told)
-            → Goes (taken (reading left_in calls read_failures packets r0 r1)) settings most x (FillsBy Takes full_of a) N (Takes a b) end → ((size : ℕ) → N size → IsReadFor (reading left_in calls read_failures packets r0 r1) size)
-            → Goes (taken (reading left_in calls read_failures packets r0 r2)) settings most y F (IsReadFor (reading left_in calls read_failures packets r0 r2)) P end
-        ran {N} {P} {end} last did g reads =
-            transport (λ i. Goes (taken (reading left_in calls read_failures packets r0 (source i))) settings most (checks i) F (IsReadFor (reading left_in calls read_failures packets r0 (source i))) P end)
-            (ends_as (λ items filled f. fills items filled (filled_by items filled f)) reads (λ parts items told placed h. did items told (done_by last items told (comes parts items placed) h)) g)
+      module _ (comes : (parts : List Part) (items : List Placed) → ArePlaced (packets r0) 1 0 parts items → follows s items) where
+        pub gave_up : (x : Bool) → x ≡ y → {F : List Placed → Bool → Type 0} {stop : RunStop} → ((items : List Placed) (filled : Bool) → Filled items filled → F items filled)
+            → StopsWithin (taken (reading left_in calls read_failures packets r0 r1)) settings most x Filled (Leaves a b) stop → StopsWithin (taken (reading left_in calls read_failures packets r0 r2)) settings most y F Left stop
+        gave_up x checks {F} {stop} fills g =
+            transport (λ i. StopsWithin (taken (reading left_in calls read_failures packets r0 (source i))) settings most (checks i) F Left stop)
+            (stops_as fills (λ parts items told placed h. left_by stop items told (comes parts items placed) h) g)
 
-        pub gave_up : {Q : List Placed → (told : List ℕ) → RunStop → Type 0} {stop : RunStop} → ((items : List Placed) (told : List ℕ) → Left items told stop → Q items told stop)
-            → StopsWithin (taken (reading left_in calls read_failures packets r0 r1)) settings most x (FillsBy Takes full_of a) (Leaves a b) stop
-            → StopsWithin (taken (reading left_in calls read_failures packets r0 r2)) settings most y F Q stop
-        gave_up {Q} {stop} did g =
-            transport (λ i. StopsWithin (taken (reading left_in calls read_failures packets r0 (source i))) settings most (checks i) F Q stop)
-            (stops_as (λ items filled f. fills items filled (filled_by items filled f)) (λ parts items told placed h. did items told (left_by stop items told (comes parts items placed) h)) g)
+      -- it writes no more at its end
+      module _ (comes : (items : List Placed) → follows s items) (spent : S → Bool) (fills : (c : C) (t : S) → stands c t → spent t ≡ full c) (x : Bool) (checks : x ≡ y) where
+        filled_by : (items : List Placed) (filled : Bool) → Filled items filled → FillsFrom makes s spent items filled
+        filled_by items filled (z, told, h, is) = let r = h.renders s there (comes items) in (r.0, r.2, r.3, fills z.renderer r.0 r.1 ∙ is)
 
-      -- it writes more at its end: it wants all messages, and tells the second writer
-      module _ (loud : silent a.renderer ≡ false) (wants : (c : C) → full c ≡ false) (ends : S → (text note : List ℕ) → Type 0) (last : gathered_bytes b.gathered ≡ []) (w3 : W) (e3 : E) (res : Result (String Global) Cause) (due end : ExitStatus)
-          (wrote : (t : S) → stands b.renderer t → WritesLast ends t (writing held failures w2 w3) res) (told : EndsSo (writing second_held second_failures e2 e3) due end res) where
-        abbrev Ended : List Placed → Type 0
-        Ended items = EndsNoted (WritesMade makes s ends (writing held failures a.first.now w3) items) (IsNoteMade makes s ends items) (writing second_held second_failures e2 e3) due end
+        pub ran : {N : (size : ℕ) → Type 0} {end : ExitStatus} → ((size : ℕ) → N size → IsReadFor (reading left_in calls read_failures packets r0 r1) size) → gathered_bytes b.gathered ≡ []
+            → Goes (taken (reading left_in calls read_failures packets r0 r1)) settings most x Filled N (Takes a b) end
+            → Goes (taken (reading left_in calls read_failures packets r0 r2)) settings most y (FillsFrom makes s spent) (IsReadFor (reading left_in calls read_failures packets r0 r2)) Done end
+        ran {N} {end} reads last g =
+            transport (λ i. Goes (taken (reading left_in calls read_failures packets r0 (source i))) settings most (checks i) (FillsFrom makes s spent) (IsReadFor (reading left_in calls read_failures packets r0 (source i))) Done end)
+            (ends_as filled_by reads (λ parts items told placed h. (done_by last items told (comes items) h).0) g)
 
-        ended : (parts : List Part) (items : List Placed) (said : List ℕ) → ArePlaced (packets r0) 1 0 parts items → Takes a b items said → Wrote second_held second_failures a.second.now said e2 × Ended items
-        ended parts items said placed h =
-            let r = h.renders s there (comes parts items placed) in (
-              transport (λ i. Wrote second_held second_failures a.second.now (second_of (loud i) said) (second i)) h.tells,
-              ends_noted held failures makes ends s r.0 items r.2 r.3 a.first.now w2 w3
-                  (transport (λ i. Passes held failures (first_of (loud i) r.2 said) (none i) (last i) a.first.now (first i)) r.4) (writing second_held second_failures e2 e3) due end res (wrote r.0 r.1) told,
-            )
+        pub stopped : {stop : RunStop} → StopsWithin (taken (reading left_in calls read_failures packets r0 r1)) settings most x Filled (Leaves a b) stop
+            → StopsWithin (taken (reading left_in calls read_failures packets r0 r2)) settings most y (FillsFrom makes s spent) Left stop
+        stopped g = gave_up (λ parts items placed. comes items) x checks filled_by g
 
-        pub to_end : {N : (size : ℕ) → Type 0} → Goes (taken (reading left_in calls read_failures packets r0 r1)) settings most false (FillsBy Takes full_of a) N (Takes a b) due
-            → EndsAfterAll (reading left_in calls read_failures packets r0 r2) (writing second_held second_failures a.second.now e3) settings most
-            (λ items rest due end. EndsNoted (WritesMade makes s ends (writing held failures a.first.now w3) items) (IsNoteMade makes s ends items) rest due end) end
-        to_end g =
-            let all : (l : List Placed) (b : Bool) → FillsBy Takes full_of a l b → WantsAll l b = λ l b h. sym h.3 ∙ wants h.0.renderer in
-            record {
-              due = due;
-              before = e2;
-              through = subst (λ (y : R). GoesThrough (taken (reading left_in calls read_failures packets r0 y)) settings most false WantsAll
-                  (λ items said. Wrote second_held second_failures a.second.now said e2 × Ended items) due) source (goes_as all ended (through_by all g));
-            }
+  -- it writes more at its end, and wants all messages: w2 and e2 are the writers before that, w3 and
+  -- e3 after it
+  module _ (full : C → Bool) (s : S) (there : stands a.renderer s) (none : gathered_bytes a.gathered ≡ []) {w2 : W} {e2 : E} (first : b.first.now ≡ w2) (second : b.second.now ≡ e2) (loud : silent a.renderer ≡ false) (wants : (c : C) → full c ≡ false) where
+    pub to_end : {R : Type 0} (left_in : R → Option (List ℕ)) (calls read_failures : R → ℕ) (packets : R → Option Packets) (settings : Settings) (most : ℕ) (r0 r1 : R) {r2 : R} (source : r1 ≡ r2)
+        (comes : (parts : List Part) (items : List Placed) → ArePlaced (packets r0) 1 0 parts items → follows s items) (ends : S → (text note : List ℕ) → Type 0) → gathered_bytes b.gathered ≡ [] → (w3 : W) (e3 : E) (res : Result (String Global) Cause) (due end : ExitStatus)
+        → ((t : S) → stands b.renderer t → WritesLast ends t (writing held failures w2 w3) res) → EndsSo (writing second_held second_failures e2 e3) due end res → {N : (size : ℕ) → Type 0}
+        → Goes (taken (reading left_in calls read_failures packets r0 r1)) settings most false (FillsBy Takes (λ x. full x.renderer) a) N (Takes a b) due
+        → EndsAfterAll makes s ends (reading left_in calls read_failures packets r0 r2) (writing held failures a.first.now w3) (writing second_held second_failures a.second.now e3) settings most end
+    to_end left_in calls read_failures packets settings most r0 r1 source comes ends last w3 e3 res due end wrote told g =
+        let all : (l : List Placed) (b : Bool) → FillsBy Takes (λ x. full x.renderer) a l b → WantsAll l b = λ l b h. sym h.3 ∙ wants h.0.renderer in
+        record {
+          due = due;
+          middle = w2;
+          before = e2;
+          last = res;
+          through = subst (λ (r : _). GoesThrough (taken (reading left_in calls read_failures packets r0 r)) settings most false WantsAll
+              (λ items said. (h : WritesMade makes s false (writing held failures a.first.now w2) (writing second_held second_failures a.second.now e2) items said) × WritesLast ends h.then (writing held failures w2 w3) res) due) source
+              (goes_as all (λ parts items said placed h. let d = done_by s there none first second loud last items said (comes parts items placed) h in (d.0, wrote d.0.then d.1)) (through_by all g));
+          ends_so = told;
+        }

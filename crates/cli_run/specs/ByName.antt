@@ -15,9 +15,9 @@ use Rattle.cli_report.specs.declared.ending.Cause.TheVariants.{Memory, WriteFail
 use Rattle.cli_report.specs.declared.ending.ExitStatus.{ExitStatus}
 use Rattle.dbus_stream.specs.declared.read_fault.ReadFault.{ReadFault}
 use Rattle.dbus_stream.specs.declared.read_fault.ReadFault.TheVariants as read
-use Rattle.cli_run.specs.Ending.{WritesAtEnd}
 use Rattle.cli_run.specs.Going.{IsThrough, StopsWithin}
 use Rattle.cli_run.specs.Inputs.{Placed}
+use Rattle.cli_run.specs.Making.{RunsToEnd}
 use Rattle.cli_run.specs.Told.{IsUnwritten}
 use Rattle.cli_run.specs.Visiting.{WantsAll}
 use Rattle.cli_run.specs.declared.by_name.CountRenderer.{CountRenderer}
@@ -67,9 +67,13 @@ pub record MakesCounts (s : CountsState) (items : List Placed) (text : List ℕ)
 abbrev pub EndsCounts : CountsState → (text note : List ℕ) → Type 0
 EndsCounts s text note = IsSummary s.form s.counts s.span text × (note ≡ [])
 
--- the tables of all messages are written, and the line of their span. No note is told
+-- where it starts
+abbrev pub first_counts : Form → CountsState
+first_counts form = record { form = form; counts = λ name. None; span = None }
+
+-- the tables of all messages are written at the end, and the line of their span
 abbrev pub CountsByName : {R W E : Type 0} → Reading R → Writing W → Writing E → Settings → Form → (most : ℕ) → ExitStatus → Type 0
-CountsByName r w e settings form most end = WritesAtEnd r w e settings most (λ items. IsSummary form (counting items) (span_of items)) (λ items note. note ≡ []) end
+CountsByName r w e settings form most end = RunsToEnd MakesCounts (first_counts form) EndsCounts r w e settings most end
 
 -- What the messages of an input are counted as.
 

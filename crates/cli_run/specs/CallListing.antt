@@ -1,26 +1,21 @@
 -- What `calls` writes: the lines of the calls in an input, each once it is known what came of it,
 -- and what is told of messages that are refused.
-use Rattle.std.specs.Prelude.{◌≡◌, ℕ, nat_eq, Bool, false, not, ◌||◌, ◌&&◌, if◌then◌else◌, codes, decimal, List, [], ◌∷◌, ◌++◌, map, is_some, Result, Ok, Err}
+use Rattle.std.specs.Prelude.{◌≡◌, ℕ, nat_eq, Bool, false, not, ◌||◌, ◌&&◌, if◌then◌else◌, codes, decimal, List, [], ◌∷◌, ◌++◌, map, is_some}
 use Rattle.std.specs.FinSet.{empty}
 use Rattle.dbus_message_model.specs.Messages.{MessageTree}
-use Rattle.dbus_device.specs.Device.{Wrote}
 use Rattle.dbus_call_lines.specs.CallLines.{front}
 use Rattle.dbus_call_lines.specs.Keeping.{Keeps, KnowsStray}
-use Rattle.dbus_call_lines.specs.Listing.{AreListed, AreListedBy, AreRising, ListsOpen, Numbered, Row, named_nth, nth, rows_text}
+use Rattle.dbus_call_lines.specs.Listing.{AreListedBy, AreRising, ListsOpen, Numbered, Row, named_nth, nth, rows_text}
 use Rattle.dbus_call_lines.specs.declared.place.Place.{Place}
 use Rattle.dbus_call_lines.specs.declared.wanted.Wanted.{Wanted}
 use Rattle.dbus_names.specs.Kept.{state_of}
 use Rattle.dbus_names.specs.NameStates.{NameState, known_first}
 use Rattle.cli_options.specs.declared.settings.Settings.{Settings}
 use Rattle.cli_report.specs.Devices.{Reading, Writing}
-use Rattle.cli_report.specs.Gathering.{Breaks}
-use Rattle.cli_report.specs.declared.ending.Cause.{Cause}
-use Rattle.cli_report.specs.declared.ending.Cause.TheVariants.{Memory, WriteFailed}
 use Rattle.cli_report.specs.declared.ending.ExitStatus.{ExitStatus}
-use Rattle.cli_run.specs.Ending.{RunsToEnd}
 use Rattle.cli_run.specs.Inputs.{Placed}
+use Rattle.cli_run.specs.Making.{RunsToEnd}
 use Rattle.cli_run.specs.LineNames.{known_beside, names_after, names_after_all}
-use Rattle.cli_run.specs.Told.{GotFirst}
 use Rattle.cli_run.specs.declared.call_listing.CallRenderer.{CallRenderer}
 use Rattle.cli_run.specs.declared.place.MessagePlace.{MessagePlace}
 
@@ -72,15 +67,6 @@ stray_note stray =
 abbrev pub notes : (lacks_times : Bool) (stray : ℕ) → List ℕ
 notes lacks_times stray = times_note lacks_times ++ stray_note stray
 
-module _ {W : Type 0} (w : Writing W) (wanted : Wanted) where
-  -- the lines of all calls in messages were written, or of a prefix of these if a write failed; or
-  -- for want of memory those of the calls that do not wait at the end
-  abbrev pub WritesCalls : List Placed → Result (Unit {0}) Cause → Type 0
-  WritesCalls items (Ok x) = (rows : List Row) × AreListed [] (all_named items) rows × Wrote w.held w.failures w.old (rows_text wanted rows) w.new
-  WritesCalls items (Err Memory) = (rows : List Row) × AreListedBy [] (all_named items) rows × Wrote w.held w.failures w.old (rows_text wanted rows) w.new
-  WritesCalls items (Err WriteFailed) = (rows : List Row) × AreListed [] (all_named items) rows × Breaks w.held w.failures (rows_text wanted rows) [] w.old w.new
-  WritesCalls items (Err cause) = ⊥
-
 -- what is told at the end of these messages
 abbrev pub IsNote : (lacks_times : Bool) → List Numbered → (note : List ℕ) → Type 0
 IsNote lacks_times xs note = (stray : ℕ) × KnowsStray xs stray × (note ≡ notes lacks_times stray)
@@ -120,8 +106,10 @@ pub record MakesCalls (s : CallsState) (items : List Placed) (text : List ℕ) (
 abbrev pub EndsCalls : CallsState → (text note : List ℕ) → Type 0
 EndsCalls s text note = ((rows : List Row) × ListsOpen s.before rows × (text ≡ rows_text s.wanted rows)) × IsNote (is_some s.wanted.slower && not s.timed) s.before note
 
--- all was told, and the calls of all messages were listed; or reading or telling was given up, and
--- the lines that were due before were written
+-- where it starts
+abbrev pub first_calls : Wanted → CallsState
+first_calls wanted = record { wanted = wanted; names = nothing_known; timed = false; before = [] }
+
+-- the lines of all calls are written: those of calls that wait come at the end
 abbrev pub ListsCalls : {R W E : Type 0} → Reading R → Writing W → Writing E → Settings → Wanted → (most : ℕ) → ExitStatus → Type 0
-ListsCalls r w e settings wanted most end = RunsToEnd r e settings most (WritesCalls w wanted) (λ items. IsNote (lack_times wanted items) (all_named items))
-    (λ items stop. (rows : List Row) × AreListedBy [] (all_named items) rows × GotFirst w.held w.failures false stop (rows_text wanted rows) w.old w.new) end
+ListsCalls r w e settings wanted most end = RunsToEnd MakesCalls (first_calls wanted) EndsCalls r w e settings most end

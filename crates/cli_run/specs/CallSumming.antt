@@ -13,8 +13,8 @@ use Rattle.cli_options.specs.declared.settings.Settings.{Settings}
 use Rattle.cli_report.specs.Devices.{Reading, Writing}
 use Rattle.cli_report.specs.declared.ending.ExitStatus.{ExitStatus}
 use Rattle.cli_run.specs.CallListing.{IsNote, have_time, lack_times, notes, numbered}
-use Rattle.cli_run.specs.Ending.{WritesAtEnd}
 use Rattle.cli_run.specs.Inputs.{Placed}
+use Rattle.cli_run.specs.Making.{RunsToEnd}
 use Rattle.cli_run.specs.declared.call_summing.SumRenderer.{SumRenderer}
 
 -- the table of the members of the calls in these messages, of those that are wanted
@@ -68,6 +68,10 @@ pub record MakesSums (s : SumsState) (items : List Placed) (text : List ℕ) (t 
 abbrev pub EndsSums : SumsState → (text note : List ℕ) → Type 0
 EndsSums s text note = IsLast s.wanted s.wanted.form s.before s.earlier (is_some s.wanted.slower && not s.timed) text note
 
--- the table of all messages is written, and the note of `calls` is told
+-- where it starts
+abbrev pub first_sums : Wanted → SumsState
+first_sums wanted = record { wanted = wanted; timed = false; before = []; earlier = [] }
+
+-- the table of all messages is written at the end, and the note of `calls` is told
 abbrev pub SumsCalls : {R W E : Type 0} → Reading R → Writing W → Writing E → Settings → Wanted → (most : ℕ) → ExitStatus → Type 0
-SumsCalls r w e settings wanted most end = WritesAtEnd r w e settings most (IsTableOf wanted) (λ items. IsNote (lack_times wanted items) (numbered items)) end
+SumsCalls r w e settings wanted most end = RunsToEnd MakesSums (first_sums wanted) EndsSums r w e settings most end

@@ -14,7 +14,7 @@ pub mod Needed
 pub mod Onward
 pub mod PassingOn
 pub mod Going
-pub mod Ending
+pub mod Making
 pub mod Shown
 pub mod Running
 pub mod CallListing

@@ -1,7 +1,6 @@
 -- What `list` writes: of the messages in an input those that are selected, each as a line with the
 -- call that it answers and the names of connections, and what is told of messages that are refused.
 use Rattle.std.specs.Prelude.{◌≡◌, ◌⊎◌, ℕ, Bool, false, List, [], ◌∷◌, ◌++◌, length, Option}
-use Rattle.dbus_device.specs.Device.{Wrote}
 use Rattle.dbus_value_model.specs.declared.order.Order.{Order}
 use Rattle.dbus_message_model.specs.Messages.{MessageTree}
 use Rattle.dbus_call_lines.specs.Listing.{Numbered, nth}
@@ -13,15 +12,13 @@ use Rattle.cli_options.specs.Selections.{SelectsBy}
 use Rattle.cli_options.specs.declared.settings.Settings.{Settings}
 use Rattle.cli_options.specs.declared.wanted_lines.WantedLines.{WantedLines}
 use Rattle.cli_options.specs.declared.window.Window.{Window}
-use Rattle.cli_report.specs.Devices.{Reading, Writing, taken}
+use Rattle.cli_report.specs.Devices.{Reading, Writing}
 use Rattle.cli_report.specs.declared.ending.ExitStatus.{ExitStatus}
 use Rattle.cli_run.specs.CallListing.{number_and_time, numbered}
-use Rattle.cli_run.specs.Going.{GivesUp, Goes}
 use Rattle.cli_run.specs.Inputs.{Placed}
 use Rattle.cli_run.specs.LineNames.{first_names, names_after, names_after_all, owners_for, told_beside}
-use Rattle.cli_run.specs.Needed.{IsReadFor}
+use Rattle.cli_run.specs.Making.{RunsBy, WritesMade}
 use Rattle.cli_run.specs.Output.{after, is_spent, line_place, written}
-use Rattle.cli_run.specs.Told.{GotFirst, GotSecond}
 use Rattle.cli_run.specs.declared.line_listing.LineRenderer.{LineRenderer}
 use Rattle.cli_run.specs.declared.line_selector.LineSelector.{LineSelector}
 use Rattle.cli_run.specs.declared.place.MessagePlace.{MessagePlace}
@@ -83,15 +80,13 @@ pub record MakesLines (s : LinesState) (items : List Placed) (text : List ℕ) (
 abbrev pub AreLinesFilled : WantedLines → Window → List Placed → Bool → Type 0
 AreLinesFilled wanted window items filled = (lines : List (List ℕ)) × AreLinesOf wanted (first_names wanted.selection) [] items lines × (is_spent (after window (length lines)) ≡ filled)
 
--- what the window lets through of the lines of the messages was written, and this was told
-abbrev pub WritesLines : {W E : Type 0} → Writing W → Writing E → Settings → WantedLines → List Placed → (told : List ℕ) → Type 0
-WritesLines w e settings wanted items told = (lines : List (List ℕ)) × AreLinesOf wanted (first_names wanted.selection) [] items lines
-    × Wrote w.held w.failures w.old (written settings.window lines) w.new × Wrote e.held e.failures e.old told e.new
+-- where a run starts
+abbrev pub first_lines : WantedLines → Window → LinesState
+first_lines wanted window = record { wanted = wanted; window = window; names = first_names wanted.selection; before = [] }
 
--- that, and all was told; or the run was given up, and the lines of the messages before that were
--- written
+-- the lines of messages are written, and what is told of those that are refused
+abbrev pub WritesLines : {W E : Type 0} → Writing W → Writing E → Settings → WantedLines → List Placed → (told : List ℕ) → Type 0
+WritesLines w e settings wanted = WritesMade MakesLines (first_lines wanted settings.window) false w e
+
 abbrev pub ListsLines : {R W E : Type 0} → Reading R → Writing W → Writing E → Settings → WantedLines → (most : ℕ) → ExitStatus → Type 0
-ListsLines r w e settings wanted most end =
-    Goes (taken r) settings most false (AreLinesFilled wanted settings.window) (IsReadFor r) (WritesLines w e settings wanted) end
-    ⊎ GivesUp (taken r) settings most false (AreLinesFilled wanted settings.window) e (λ before items told stop. (lines : List (List ℕ)) × AreLinesOf wanted (first_names wanted.selection) [] items lines
-    × GotFirst w.held w.failures false stop (written settings.window lines) w.old w.new × GotSecond e.held e.failures false stop told e.old before) end
+ListsLines r w e settings wanted most end = RunsBy MakesLines (first_lines wanted settings.window) (λ s. is_spent s.window) false r w e settings most end

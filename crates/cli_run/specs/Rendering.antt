@@ -1,10 +1,10 @@
 -- What a command that is run by settings makes of messages, from one state to another.
-use Rattle.std.specs.Prelude.{◌≡◌, ℕ, Bool, List, length}
+use Rattle.std.specs.Prelude.{◌≡◌, ℕ, Bool, false, List, None, length}
 use Rattle.dbus_names.specs.NameStates.{NameState}
 use Rattle.cli_options.specs.declared.command.Command.{Command}
 use Rattle.cli_options.specs.declared.window.Window.{Window}
 use Rattle.cli_run.specs.Inputs.{Placed}
-use Rattle.cli_run.specs.Output.{IsOutputOfAll, after, begun_after, command_of, form_of, output_of, owners_after_all, owners_known}
+use Rattle.cli_run.specs.Output.{IsOutputOfAll, after, begun_after, command_of, form_of, is_filled, output_of, owners_after_all, owners_known}
 use Rattle.cli_run.specs.declared.output.OutputRenderer.{OutputRenderer}
 
 -- the command, the window for what follows, whether a message was looked at, and what is known of
@@ -17,6 +17,14 @@ pub record OutputState : Type 0 where
 
 abbrev pub state_of : {A : Type 0} → OutputRenderer A → OutputState
 state_of a = record { command = command_of a.output; window = a.window; begun = a.begun; owners = owners_known (command_of a.output) a.owners }
+
+-- where a command starts
+abbrev pub first_state : Command → Window → OutputState
+first_state command window = record { command = command; window = window; begun = false; owners = owners_known command None }
+
+-- it wants no more messages
+abbrev pub is_full : OutputState → Bool
+is_full s = is_filled s.command s.window
 
 -- the state after messages of which so many texts are made
 abbrev pub state_after : OutputState → List Placed → (texts : ℕ) → OutputState

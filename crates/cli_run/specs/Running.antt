@@ -1,18 +1,18 @@
 -- What a command does with what it reads, what it writes of it, and why it gives up. limits are
 -- those that each message keeps, and most is how many reads may be made.
-use Rattle.std.specs.Prelude.{◌⊎◌, ℕ, false, List, None, ◌≡◌, Option}
+use Rattle.std.specs.Prelude.{◌⊎◌, ℕ, List, None, ◌≡◌, Option}
 use Rattle.dbus_device.specs.Device.{Wrote, Stopped, one_more}
 use Rattle.dbus_device.specs.Packets.{Packets}
 use Rattle.dbus_value_model.specs.declared.limits.Limits.{Limits}
 use Rattle.cli_options.specs.declared.command.Command.{Command}
 use Rattle.cli_options.specs.declared.settings.Settings.{Settings}
-use Rattle.cli_run.specs.Going.{GivesUp, Goes, IsStopOf}
+use Rattle.cli_run.specs.Going.{IsStopOf}
 use Rattle.cli_run.specs.Inputs.{ArePlaced, Placed, wholes}
-use Rattle.cli_run.specs.Output.{IsOutputOfAll, form_of, is_check, owners_known, IsFilledBy, IsFirstOutput, IsFront, output_of, second_output, status_of, whole_output}
-use Rattle.cli_run.specs.Needed.{IsReadFor}
+use Rattle.cli_run.specs.Output.{IsOutputOfAll, form_of, is_check, owners_known, IsFirstOutput, IsFront, second_output, status_of, whole_output}
+use Rattle.cli_run.specs.Making.{LeavesMade, RunsBy, WritesMade}
 use Rattle.cli_run.specs.Refusals.{IsFaultIn}
-use Rattle.cli_run.specs.Told.{GotFirst, GotSecond, first_of, second_of}
-use Rattle.cli_report.specs.Devices.{Reading, Writing, taken, writing, RisesAtMost}
+use Rattle.cli_run.specs.Rendering.{Makes, first_state, is_full}
+use Rattle.cli_report.specs.Devices.{Reading, Writing, taken, RisesAtMost}
 use Rattle.cli_report.specs.declared.ending.ExitStatus.{ExitStatus}
 use Rattle.cli_run.specs.declared.visitor.RunStop.{RunStop}
 use Rattle.std.specs.Io.KnownBytes.{Appends, Consumes, IsAtEnd}
@@ -101,24 +101,14 @@ module _ {R W E : Type 0} (r : Reading R) (w : Writing W) (e : Writing E) (limit
 abbrev pub Runs : {R W E : Type 0} → Reading R → Writing W → Writing E → Limits → ℕ → Command → ExitStatus → Type 0
 Runs r w e limits most command end = Answers r w e limits most command end ⊎ GaveUp r w e limits most command end
 
-module _ {W E : Type 0} (w : Writing W) (e : Writing E) (settings : Settings) (command : Command) where
-  -- the header was written, and what the window lets through of the texts that the command makes of
-  -- the messages; and this was told
-  pub record Writes (items : List Placed) (told : List ℕ) : Type 0 where
-    pub texts : List (List ℕ)
-    pub made : IsOutputOfAll command (owners_known command None) items texts
-    pub first : Wrote w.held w.failures w.old (first_of (is_check command) (output_of (form_of command) false settings.window items texts) told) w.new
-    pub second : Wrote e.held e.failures e.old (second_of (is_check command) told) e.new
+-- what a command makes of messages was written, and this was told; and the same, as far as a stop
+-- let it come
+abbrev pub Writes : {W E : Type 0} → Writing W → Writing E → Settings → Command → List Placed → (told : List ℕ) → Type 0
+Writes w e settings command = WritesMade Makes (first_state command settings.window) (is_check command) w e
 
-  -- the same, if the run was given up; of the writer to which a write failed a prefix
-  pub record WritesSome (items : List Placed) (told : List ℕ) (stop : RunStop) : Type 0 where
-    pub texts : List (List ℕ)
-    pub made : IsOutputOfAll command (owners_known command None) items texts
-    pub first : GotFirst w.held w.failures (is_check command) stop (first_of (is_check command) (output_of (form_of command) false settings.window items texts) told) w.old w.new
-    pub second : GotSecond e.held e.failures (is_check command) stop (second_of (is_check command) told) e.old e.new
+abbrev pub WritesSome : {W E : Type 0} → Writing W → Writing E → Settings → Command → List Placed → (told : List ℕ) → RunStop → Type 0
+WritesSome w e settings command = LeavesMade Makes (first_state command settings.window) (is_check command) w e
 
 -- what a command does with what r reads, by the writers w and e, under these settings
 abbrev pub RunsWith : {R W E : Type 0} → Reading R → Writing W → Writing E → Settings → ℕ → Command → ExitStatus → Type 0
-RunsWith r w e settings most command end =
-    Goes (taken r) settings most (is_check command) (IsFilledBy command settings.window) (IsReadFor r) (Writes w e settings command) end
-    ⊎ GivesUp (taken r) settings most (is_check command) (IsFilledBy command settings.window) e (λ before. WritesSome w (writing e.held e.failures e.old before) settings command) end
+RunsWith r w e settings most command end = RunsBy Makes (first_state command settings.window) is_full (is_check command) r w e settings most end

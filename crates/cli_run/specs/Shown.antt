@@ -7,9 +7,9 @@ use Rattle.dbus_explain.specs.Laws.{HeaderHasNoDouble}
 use Rattle.cli_options.specs.declared.settings.Settings.{Settings}
 use Rattle.cli_report.specs.Devices.{Reading, Taken, Writing}
 use Rattle.cli_report.specs.declared.ending.ExitStatus.{ExitStatus}
-use Rattle.cli_run.specs.Ending.{EndsAfterAll}
 use Rattle.cli_run.specs.Going.{Goes, GoesThrough}
 use Rattle.cli_run.specs.Inputs.{Part, PassedOver, Placed, Whole}
+use Rattle.cli_run.specs.Making.{EndsAfterAll}
 
 -- a message that is refused: which bytes were kept of it when it was, and its fault
 pub record Shown : Type 0 where
@@ -53,8 +53,8 @@ shown_by (inl goes) = shown_of goes
 shown_by (inr gave_up) = none_shown
 
 -- of one that writes more at its end
-abbrev pub shown_after : {R E : Type 0} {r : Reading R} {e : Writing E} {settings : Settings} {most : ℕ} {ends : List Placed → Writing E → (due end : ExitStatus) → Type 0} {end : ExitStatus} {GaveUp : Type 0}
-    → EndsAfterAll r e settings most ends end ⊎ GaveUp → AllShown
+abbrev pub shown_after : {S : Type 0} {makes : S → List Placed → List ℕ → S → Type 0} {s : S} {ends : S → (text note : List ℕ) → Type 0} {R W E : Type 0} {r : Reading R} {w : Writing W} {e : Writing E} {settings : Settings} {most : ℕ} {end : ExitStatus} {GaveUp : Type 0}
+    → EndsAfterAll makes s ends r w e settings most end ⊎ GaveUp → AllShown
 shown_after (inl all) = shown_through all.through
 shown_after (inr gave_up) = none_shown
 

@@ -43,6 +43,8 @@ impl Renderer for CountRenderer {
 
     ghost full = { λ _. false };
 
+    ghost spent = { λ _. false };
+
     ghost silent = { λ _. false };
 
     fn is_full(&self) -> bool {
@@ -61,6 +63,8 @@ impl Renderer for CountRenderer {
         self.span = span_after(self.span, lent.place.time);
         Ok(())
     }
+
+    ghost fills = { λ a s there. refl };
 
     ghost nothing = { laws.nothing };
 

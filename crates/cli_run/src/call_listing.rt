@@ -50,6 +50,8 @@ impl Renderer for CallRenderer {
 
     ghost full = { λ _. false };
 
+    ghost spent = { λ _. false };
+
     ghost silent = { λ _. false };
 
     fn is_full(&self) -> bool {
@@ -80,6 +82,8 @@ impl Renderer for CallRenderer {
         };
         Ok(())
     }
+
+    ghost fills = { λ a s there. refl };
 
     ghost nothing = { laws.nothing };
 

@@ -55,6 +55,8 @@ impl Renderer for SumRenderer {
 
     ghost full = { λ _. false };
 
+    ghost spent = { λ _. false };
+
     ghost silent = { λ _. false };
 
     fn is_full(&self) -> bool {
@@ -81,6 +83,8 @@ impl Renderer for SumRenderer {
         }
         Ok(())
     }
+
+    ghost fills = { λ a s there. refl };
 
     ghost nothing = { laws.nothing };
 

@@ -1,5 +1,6 @@
 //! The messages of a source, listed in lines for a reader.
 ghost use Rattle.std.specs.Prelude.{◌≡◌, ◌^◌, ℕ, false, List, length};
+ghost use Rattle.std.proofs.Common.{ap};
 ghost use Rattle.dbus_value_model.specs.declared.order.Order.{Order};
 ghost use Rattle.dbus_message_model.specs.Messages.{MessageTree};
 ghost use Rattle.dbus_header.specs.MessageOutcomes.{IsWhole};
@@ -12,15 +13,14 @@ ghost use Rattle.cli_run.specs.Output.{is_spent, line_place};
 ghost use Rattle.cli_run.specs.LineListing.{LinesState, ListsLines, MakesLines, StandsAt};
 
 use crate::byte_draft::ByteDraft;
-use crate::going::{pass_through, tell_stop};
+use crate::ending::run_by;
 use crate::line_selector::{LineSelector, beside, first_names, learn_names};
-use crate::output_writer::OutputWriter;
 use crate::place::Lent;
 use crate::renderer::Renderer;
 use crate::showing::line_place;
 use crate::window::{is_spent, lets_through};
 use cli_options::{Settings, WantedLines, Window};
-use cli_report::{Cause, ExitStatus, OutputBuffer, give_up};
+use cli_report::{Cause, ExitStatus, give_up};
 use dbus_call_lines::Place;
 use dbus_calls::EventView;
 use dbus_list::{Beside, CallTable, write_line};
@@ -57,6 +57,8 @@ impl Renderer for LineRenderer<'_> {
 
     ghost full = { λ a. is_spent a.window };
 
+    ghost spent = { λ s. is_spent s.window };
+
     ghost silent = { λ _. false };
 
     fn is_full(&self) -> bool {
@@ -91,6 +93,8 @@ impl Renderer for LineRenderer<'_> {
         write_listed(draft, self.selector.width, lent, told);
         Ok(())
     }
+
+    ghost fills = { λ a s there. ap (λ (t : LinesState). is_spent t.window) there.1 };
 
     ghost nothing = { laws.nothing };
 
@@ -149,22 +153,11 @@ pub fn list_lines<R: Source, W: Sink, E: Sink>(
     let Ok(names) = first_names(alloc, wanted) else {
         return give_up(Cause::Memory, second);
     };
-    let mut writer = OutputWriter {
-        renderer: LineRenderer {
-            selector,
-            window: settings.window,
-            names,
-            calls: CallTable::new(alloc),
-        },
-        gathered: OutputBuffer::new(),
-        first,
-        second: &mut *second,
+    let renderer = LineRenderer {
+        selector,
+        window: settings.window,
+        names,
+        calls: CallTable::new(alloc),
     };
-    let (ended, _source) = pass_through(alloc, settings, false, MOST_READS, reader, &mut writer);
-    let (_renderer, first_writer, _second) = writer.into_parts();
-    let _first = first_writer.into_inner();
-    match ended {
-        Ok(status) => status,
-        Err(stop) => tell_stop(stop, false, second),
-    }
+    run_by(alloc, settings, MOST_READS, renderer, reader, first, second)
 }

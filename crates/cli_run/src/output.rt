@@ -1,12 +1,13 @@
 //! What is written of each message.
 ghost use Rattle.std.specs.Prelude.{◌≡◌, ◌++◌, [], ℕ, IfOk, List, OnErr, OnOk, length};
+ghost use Rattle.std.proofs.Common.{ap};
 ghost use Rattle.dbus_value_model.specs.declared.order.Order.{Order};
 ghost use Rattle.dbus_message_model.specs.Messages.{MessageTree};
 ghost use Rattle.dbus_header.specs.MessageOutcomes.{IsWhole};
 ghost use Rattle.dbus_validate.specs.Validating.{IsValidatedWhole};
 ghost use Rattle.cli_run.specs.Handing.{IsPicked};
 ghost use Rattle.cli_run.specs.Output.{IsTextOf, begins_file, command_of, form_of, header_if, is_check, is_filled};
-ghost use Rattle.cli_run.specs.Rendering.{Makes, OutputState, state_of};
+ghost use Rattle.cli_run.specs.Rendering.{Makes, OutputState, is_full, state_of};
 ghost use Rattle.cli_run.specs.RenderingLaws as laws;
 
 use crate::byte_draft::ByteDraft;
@@ -167,6 +168,8 @@ impl<A: Allocator + Copy> Renderer for OutputRenderer<'_, A> {
 
     ghost full = { λ a. is_filled (command_of a.output) a.window };
 
+    ghost spent = { is_full };
+
     ghost silent = { λ a. is_check (command_of a.output) };
 
     fn is_full(&self) -> bool {
@@ -195,6 +198,8 @@ impl<A: Allocator + Copy> Renderer for OutputRenderer<'_, A> {
             Ok(())
         }
     }
+
+    ghost fills = { λ a s there. ap is_full there };
 
     ghost nothing = { laws.nothing };
 

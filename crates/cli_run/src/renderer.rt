@@ -34,6 +34,9 @@ pub(crate) trait Renderer {
     // It wants no more messages.
     ghost full: { Self → Bool };
 
+    // In this state no more messages are wanted.
+    ghost spent: { State → Bool };
+
     // It makes no text, so that what is told goes where its text would go.
     ghost silent: { Self → Bool };
 
@@ -59,6 +62,8 @@ pub(crate) trait Renderer {
             (placed_at lent.now.place order m (length lent.now.bytes.now)) draft.old draft.new result }
         ensures short { OnErr result (D.gains draft.old [] draft.new) }
         ensures silent { silent self.new ≡ silent self.old };
+
+    ghost fills: { (a : Self) (s : State) → stands a s → spent s ≡ full a };
 
     ghost nothing: { (s : State) → makes s [] [] s };
 

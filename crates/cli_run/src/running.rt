@@ -7,11 +7,10 @@ ghost use Rattle.cli_run.specs.Running.{Runs, RunsWith};
 
 use crate::closing::{number_of, status_of, write_count};
 use crate::counting::count_through;
-use crate::going::{pass_through, tell_stop};
+use crate::ending::run_by;
 use crate::output::{OutputRenderer, is_check, output_of};
-use crate::output_writer::OutputWriter;
 use cli_options::{Command, Resync, Settings, Window};
-use cli_report::{Cause, ExitStatus, OutputBuffer, give_up};
+use cli_report::{Cause, ExitStatus, give_up};
 use dbus_stream::{MOST_READS, Sink, Source};
 use dbus_value_model::Limits;
 use std::alloc::Allocator;
@@ -176,25 +175,14 @@ pub fn run_with<A: Allocator + Copy, R: Source, W: Sink, E: Sink>(
     if is_check && !settings.ask_more() {
         return check(alloc, settings, reads, reader, first, second);
     }
-    let mut writer = OutputWriter {
-        renderer: OutputRenderer {
-            output,
-            window: settings.window,
-            begun: false,
-            owners: None,
-            spare: Vec::new(alloc),
-        },
-        gathered: OutputBuffer::new(),
-        first,
-        second: &mut *second,
+    let renderer = OutputRenderer {
+        output,
+        window: settings.window,
+        begun: false,
+        owners: None,
+        spare: Vec::new(alloc),
     };
-    let (ended, _source) = pass_through(alloc, settings, is_check, reads, reader, &mut writer);
-    let (_renderer, first_writer, _second) = writer.into_parts();
-    let _first = first_writer.into_inner();
-    match ended {
-        Ok(status) => status,
-        Err(stop) => tell_stop(stop, is_check, second),
-    }
+    run_by(alloc, settings, reads, renderer, reader, first, second)
 }
 
 // What `check` does by settings that ask for no more: it counts the messages, and writes how many

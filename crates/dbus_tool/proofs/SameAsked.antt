@@ -1,6 +1,6 @@
 -- Words name one thing: a command but for where its rules and owners are kept, one list of
 -- settings, one form of tables, one side.
-use Rattle.std.proofs.Common.{◌≡◌, ◌≢◌, ◌⊎◌, ◌↔◌, ℕ, ◌+◌, ◌*◌, ◌≤◌, Bool, true, false, not, ◌&&◌, List, [], ◌∷◌, ◌++◌, map, None, Some, Option, IsTrue, codes, slice_index, refl, sym, ap, ◌∙◌, subst, arith, inl, inr, Result, Ok, Err, append-nil}
+use Rattle.std.proofs.Common.{◌≡◌, ◌≢◌, ◌⊎◌, ◌↔◌, ℕ, ◌+◌, ◌*◌, ◌≤◌, Bool, true, false, not, ◌&&◌, ◌||◌, nat_eq, if◌then◌else◌, List, [], ◌∷◌, ◌++◌, map, None, Some, Option, IsTrue, codes, slice_index, refl, sym, ap, ◌∙◌, subst, arith, inl, inr, Result, Ok, Err, append-nil}
 use Rattle.std.specs.List.{AllByRecursion, flat_map, list_any}
 use Rattle.std.specs.Str.{bytes_eq}
 use Rattle.std.proofs.Math.Path.{fun_ext, transport}
@@ -319,80 +319,43 @@ same_encoding rows a b p q =
     let max_line = same_number _ _ a.max_line b.max_line p.max_line.0 q.max_line.0 in
     λ i. record { limits = limits i; order = order i; safe_integers = safe_integers i; explains = explains i; keeps_going = keeps_going i; max_line = max_line i }
 
-no_count : (name : Text) (rows : List Row) (command : Command) → NamesCommand name rows command → name ≡ codes "count" → ⊥
-no_count name rows (Show times escapes) p e = omega (arith, ap mark p.0, ap mark e)
-no_count name rows (Json times safe) p e = omega (arith, ap mark p.0, ap mark e)
-no_count name rows Check p e = omega (arith, marked name rows Check p, ap mark e)
-no_count name rows (Swap order form) p e = omega (arith, ap mark p.0, ap mark e)
-no_count name rows (Filter selection form) p e = omega (arith, ap mark p.0, ap mark e)
+-- and what is asked for by it: all commands have one kind
+abbrev kind : ℕ → ℕ
+kind n = if nat_eq n (mark (codes "show")) || nat_eq n (mark (codes "json")) || nat_eq n (mark (codes "check")) || nat_eq n (mark (codes "swap")) || nat_eq n (mark (codes "filter")) then 0 else n
 
-no_calls : (name : Text) (rows : List Row) (command : Command) → NamesCommand name rows command → name ≡ codes "calls" → ⊥
-no_calls name rows (Show times escapes) p e = omega (arith, ap mark p.0, ap mark e)
-no_calls name rows (Json times safe) p e = omega (arith, ap mark p.0, ap mark e)
-no_calls name rows Check p e = omega (arith, marked name rows Check p, ap mark e)
-no_calls name rows (Swap order form) p e = omega (arith, ap mark p.0, ap mark e)
-no_calls name rows (Filter selection form) p e = omega (arith, ap mark p.0, ap mark e)
+abbrev kind_of : Asked → ℕ
+kind_of (Messages command settings) = 0
+kind_of (Count settings) = mark (codes "count")
+kind_of (Listing settings wanted) = mark (codes "list")
+kind_of (Calls settings wanted) = mark (codes "calls")
+kind_of (Encode wanted) = mark (codes "encode")
+kind_of (Handshake side) = mark (codes "handshake")
 
-no_list : (name : Text) (rows : List Row) (command : Command) → NamesCommand name rows command → name ≡ codes "list" → ⊥
-no_list name rows (Show times escapes) p e = omega (arith, ap mark p.0, ap mark e)
-no_list name rows (Json times safe) p e = omega (arith, ap mark p.0, ap mark e)
-no_list name rows Check p e = omega (arith, marked name rows Check p, ap mark e)
-no_list name rows (Swap order form) p e = omega (arith, ap mark p.0, ap mark e)
-no_list name rows (Filter selection form) p e = omega (arith, ap mark p.0, ap mark e)
+command_kind : (command : Command) → kind (mark_of command) ≡ 0
+command_kind (Show times escapes) = refl
+command_kind (Json times safe) = refl
+command_kind Check = refl
+command_kind (Swap order form) = refl
+command_kind (Filter selection form) = refl
 
-no_handshake : (name : Text) (rows : List Row) (command : Command) → NamesCommand name rows command → name ≡ codes "handshake" → ⊥
-no_handshake name rows (Show times escapes) p e = omega (arith, ap mark p.0, ap mark e)
-no_handshake name rows (Json times safe) p e = omega (arith, ap mark p.0, ap mark e)
-no_handshake name rows Check p e = omega (arith, marked name rows Check p, ap mark e)
-no_handshake name rows (Swap order form) p e = omega (arith, ap mark p.0, ap mark e)
-no_handshake name rows (Filter selection form) p e = omega (arith, ap mark p.0, ap mark e)
-
-no_encode : (name : Text) (rows : List Row) (command : Command) → NamesCommand name rows command → name ≡ codes "encode" → ⊥
-no_encode name rows (Show times escapes) p e = omega (arith, ap mark p.0, ap mark e)
-no_encode name rows (Json times safe) p e = omega (arith, ap mark p.0, ap mark e)
-no_encode name rows Check p e = omega (arith, marked name rows Check p, ap mark e)
-no_encode name rows (Swap order form) p e = omega (arith, ap mark p.0, ap mark e)
-no_encode name rows (Filter selection form) p e = omega (arith, ap mark p.0, ap mark e)
+kind_is : (sub : Text × List Row) (asked : Asked) → Names (Some sub) asked → kind (mark sub.0) ≡ kind_of asked
+kind_is sub (Messages command settings) p = ap kind (marked sub.0 sub.1 command p.0) ∙ command_kind command
+kind_is sub (Count settings) p = ap (λ (name : Text). kind (mark name)) p.0
+kind_is sub (Listing settings wanted) p = ap (λ (name : Text). kind (mark name)) p.0
+kind_is sub (Calls settings wanted) p = ap (λ (name : Text). kind (mark name)) p.0
+kind_is sub (Encode wanted) p = ap (λ (name : Text). kind (mark name)) p.0
+kind_is sub (Handshake side) p = ap (λ (name : Text). kind (mark name)) p.0
 
 same_named : (sub : Option (Text × List Row)) (a b : Asked) → Names sub a → Names sub b → AreSameAsked a b
 same_named None a b p q = absurd p
 same_named (Some sub) (Messages c s) (Messages d t) p q = (same_command sub.0 sub.1 c d p.0 q.0, same_settings sub.1 s t p.1 q.1)
 same_named (Some sub) (Count s) (Count t) p q = same_settings sub.1 s t p.1 q.1
-same_named (Some sub) (Calls s f) (Calls t g) p q = (same_settings sub.1 s t p.1 q.1, same_wanted sub.1 f g p.2 q.2)
-same_named (Some sub) (Handshake x) (Handshake y) p q = same_side_word x y (some_is (side_word x) (side_word y) (sym p.1 ∙ q.1))
-same_named (Some sub) (Encode a) (Encode b) p q = same_encoding sub.1 a b p.1 q.1
-same_named (Some sub) (Messages c s) (Encode b) p q = no_encode sub.0 sub.1 c p.0 q.0
-same_named (Some sub) (Encode a) (Messages d t) p q = no_encode sub.0 sub.1 d q.0 p.0
-same_named (Some sub) (Count s) (Encode b) p q = absurd (let e = sym (ap mark p.0) ∙ ap mark q.0 in omega (arith, e))
-same_named (Some sub) (Encode a) (Count t) p q = absurd (let e = sym (ap mark p.0) ∙ ap mark q.0 in omega (arith, e))
-same_named (Some sub) (Listing s f) (Encode b) p q = absurd (let e = sym (ap mark p.0) ∙ ap mark q.0 in omega (arith, e))
-same_named (Some sub) (Encode a) (Listing t g) p q = absurd (let e = sym (ap mark p.0) ∙ ap mark q.0 in omega (arith, e))
-same_named (Some sub) (Calls s f) (Encode b) p q = absurd (let e = sym (ap mark p.0) ∙ ap mark q.0 in omega (arith, e))
-same_named (Some sub) (Encode a) (Calls t g) p q = absurd (let e = sym (ap mark p.0) ∙ ap mark q.0 in omega (arith, e))
-same_named (Some sub) (Handshake x) (Encode b) p q = absurd (let e = sym (ap mark p.0) ∙ ap mark q.0 in omega (arith, e))
-same_named (Some sub) (Encode a) (Handshake y) p q = absurd (let e = sym (ap mark p.0) ∙ ap mark q.0 in omega (arith, e))
 same_named (Some sub) (Listing s a) (Listing t b) p q =
     (same_settings sub.1 s t p.1 q.1, same_selection sub.1 a.selection b.selection p.2.selection q.2.selection, same_number _ 80 a.width b.width p.2.width.0 q.2.width.0)
-same_named (Some sub) (Messages c s) (Listing t b) p q = no_list sub.0 sub.1 c p.0 q.0
-same_named (Some sub) (Listing s a) (Messages d t) p q = no_list sub.0 sub.1 d q.0 p.0
-same_named (Some sub) (Count s) (Listing t b) p q = absurd (let e = sym (ap mark p.0) ∙ ap mark q.0 in omega (arith, e))
-same_named (Some sub) (Listing s a) (Count t) p q = absurd (let e = sym (ap mark p.0) ∙ ap mark q.0 in omega (arith, e))
-same_named (Some sub) (Calls s f) (Listing t b) p q = absurd (let e = sym (ap mark p.0) ∙ ap mark q.0 in omega (arith, e))
-same_named (Some sub) (Listing s a) (Calls t g) p q = absurd (let e = sym (ap mark p.0) ∙ ap mark q.0 in omega (arith, e))
-same_named (Some sub) (Handshake x) (Listing t b) p q = absurd (let e = sym (ap mark p.0) ∙ ap mark q.0 in omega (arith, e))
-same_named (Some sub) (Listing s a) (Handshake y) p q = absurd (let e = sym (ap mark p.0) ∙ ap mark q.0 in omega (arith, e))
-same_named (Some sub) (Messages c s) (Count t) p q = no_count sub.0 sub.1 c p.0 q.0
-same_named (Some sub) (Messages c s) (Handshake y) p q = no_handshake sub.0 sub.1 c p.0 q.0
-same_named (Some sub) (Count s) (Messages d t) p q = no_count sub.0 sub.1 d q.0 p.0
-same_named (Some sub) (Handshake x) (Messages d t) p q = no_handshake sub.0 sub.1 d q.0 p.0
-same_named (Some sub) (Messages c s) (Calls t g) p q = no_calls sub.0 sub.1 c p.0 q.0
-same_named (Some sub) (Calls s f) (Messages d t) p q = no_calls sub.0 sub.1 d q.0 p.0
-same_named (Some sub) (Count s) (Calls t g) p q = absurd (let e = sym (ap mark p.0) ∙ ap mark q.0 in omega (arith, e))
-same_named (Some sub) (Calls s f) (Count t) p q = absurd (let e = sym (ap mark p.0) ∙ ap mark q.0 in omega (arith, e))
-same_named (Some sub) (Calls s f) (Handshake y) p q = absurd (let e = sym (ap mark p.0) ∙ ap mark q.0 in omega (arith, e))
-same_named (Some sub) (Handshake x) (Calls t g) p q = absurd (let e = sym (ap mark p.0) ∙ ap mark q.0 in omega (arith, e))
-same_named (Some sub) (Count s) (Handshake y) p q = absurd (let e = sym (ap mark p.0) ∙ ap mark q.0 in omega (arith, e))
-same_named (Some sub) (Handshake x) (Count t) p q = absurd (let e = sym (ap mark p.0) ∙ ap mark q.0 in omega (arith, e))
+same_named (Some sub) (Calls s f) (Calls t g) p q = (same_settings sub.1 s t p.1 q.1, same_wanted sub.1 f g p.2 q.2)
+same_named (Some sub) (Encode a) (Encode b) p q = same_encoding sub.1 a b p.1 q.1
+same_named (Some sub) (Handshake x) (Handshake y) p q = same_side_word x y (some_is (side_word x) (side_word y) (sym p.1 ∙ q.1))
+same_named (Some sub) a b p q = absurd (let e = sym (kind_is sub a p) ∙ kind_is sub b q in omega (arith, e))
 
 pub same_asked : (words : List Text) (a b : Asked) → IsNamedBy words a → IsNamedBy words b → AreSameAsked a b
 same_asked words a b p q = same_named (subcommand_of wire_app words) a b p q
