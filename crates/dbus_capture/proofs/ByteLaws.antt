@@ -60,7 +60,7 @@ module _ (o : ByteOrder) (bytes : List ℕ) (are : AreBytes bytes) (k : ℕ) whe
       sym (take-append-drop 4 (drop k bytes)) ∙ ap (λ l. take 4 (drop k bytes) ++ l) (drop-drop 4 k bytes)
       ∙ ap (λ l. l ++ drop (k + 4) bytes)
       (sym (ap (λ m. u32_bytes o (u32_of o (take m (drop k bytes)))) z
-          ∙ u32_respelled o _ (length-take-le 4 (drop k bytes) (omega (arith, size, left))) (are_take 4 _ (are_drop k bytes are))))
+      ∙ u32_respelled o _ (length-take-le 4 (drop k bytes) (omega (arith, size, left))) (are_take 4 _ (are_drop k bytes are))))
       ∙ ap (λ m. u32_bytes o m ++ drop (k + 4) bytes) e
 
   pub u16_there : (n : ℕ) → u16_at o k bytes ≡ n → k + 2 ≤ length bytes → drop k bytes ≡ u16_bytes o n ++ drop (k + 2) bytes
@@ -70,7 +70,7 @@ module _ (o : ByteOrder) (bytes : List ℕ) (are : AreBytes bytes) (k : ℕ) whe
       sym (take-append-drop 2 (drop k bytes)) ∙ ap (λ l. take 2 (drop k bytes) ++ l) (drop-drop 2 k bytes)
       ∙ ap (λ l. l ++ drop (k + 2) bytes)
       (sym (ap (λ m. u16_bytes o (u16_of o (take m (drop k bytes)))) z
-          ∙ u16_respelled o _ (length-take-le 2 (drop k bytes) (omega (arith, size, left))) (are_take 2 _ (are_drop k bytes are))))
+      ∙ u16_respelled o _ (length-take-le 2 (drop k bytes) (omega (arith, size, left))) (are_take 2 _ (are_drop k bytes are))))
       ∙ ap (λ m. u16_bytes o m ++ drop (k + 2) bytes) e
 
   -- the last one

@@ -167,8 +167,14 @@ unfilled t bytes g k f = subst (λ l. FollowsFrom t.head.stage t (t.head.bytes +
 
 pub filled : (s : Scan) (bytes : List ℕ) → s.fault ≡ None → s.give ≡ 0 → s.skip ≡ 0 → FollowsFrom s.head.stage s (s.head.bytes ++ bytes)
     → Follows s bytes
-filled s bytes u g k f = record { unfaulted = u; fill = []; more = bytes;
-    size = let z : 0 ≡ s.give + s.skip = omega (arith, g, k) in z; joined = refl; rest = f }
+filled s bytes u g k f = record {
+  unfaulted = u;
+  fill = [];
+  more = bytes;
+  size = let z : 0 ≡ s.give + s.skip = omega (arith, g, k) in z;
+  joined = refl;
+  rest = f;
+}
 
 -- ---- one byte, if a whole head goes on
 
@@ -199,19 +205,43 @@ module _ (heads : HeadsGo) (p n : ℕ) (s : Scan) (z : Standing p n s) where
       let at = at_none e in
       let even = at.2 in
       record {
-        stands = record { filed = z.filed; sound = z.sound; are = z.are; at = subst (IsAt p (suc n) (record s { give = s.give - 1 }))
-            (sym e) (at.0, at.1, omega (arith, even, g)) };
-        follows = λ bytes x. record { unfaulted = e; fill = b ∷ x.fill; more = x.more; size = let size = x.size in
-        omega (arith, size, g); joined = ap (λ l. b ∷ l) x.joined; rest = x.rest };
+        stands = record {
+          filed = z.filed;
+          sound = z.sound;
+          are = z.are;
+          at = subst (IsAt p (suc n) (record s { give = s.give - 1 }))
+              (sym e) (at.0, at.1, omega (arith, even, g));
+        };
+        follows = λ bytes x. record {
+          unfaulted = e;
+          fill = b ∷ x.fill;
+          more = x.more;
+          size = let size = x.size in
+              omega (arith, size, g);
+          joined = ap (λ l. b ∷ l) x.joined;
+          rest = x.rest;
+        };
       }
   steps_by b low None false zero (suc skip) e r g k =
       let at = at_none e in
       let even = at.2 in
       record {
-        stands = record { filed = z.filed; sound = z.sound; are = z.are; at = subst (IsAt p (suc n) (record s { skip = s.skip - 1 }))
-            (sym e) (at.0, at.1, omega (arith, even, g, k)) };
-        follows = λ bytes x. record { unfaulted = e; fill = b ∷ x.fill; more = x.more; size = let size = x.size in
-        omega (arith, size, g, k); joined = ap (λ l. b ∷ l) x.joined; rest = x.rest };
+        stands = record {
+          filed = z.filed;
+          sound = z.sound;
+          are = z.are;
+          at = subst (IsAt p (suc n) (record s { skip = s.skip - 1 }))
+              (sym e) (at.0, at.1, omega (arith, even, g, k));
+        };
+        follows = λ bytes x. record {
+          unfaulted = e;
+          fill = b ∷ x.fill;
+          more = x.more;
+          size = let size = x.size in
+              omega (arith, size, g, k);
+          joined = ap (λ l. b ∷ l) x.joined;
+          rest = x.rest;
+        };
       }
   steps_by b low None false zero zero e r g k =
       let at = at_none e in
@@ -221,18 +251,26 @@ module _ (heads : HeadsGo) (p n : ℕ) (s : Scan) (z : Standing p n s) where
       let longer : length h ≡ length held + 1 = length-append held (b ∷ []) in
       let are = are_joined held b z.are low in
       let head_then : (bytes : List ℕ) → FollowsFrom s.head.stage s (h ++ bytes) → Follows s (b ∷ bytes) = λ bytes x.
-          filled s (b ∷ bytes) e g k (subst (FollowsFrom s.head.stage s) (append_assoc held (b ∷ []) bytes) x) in
+      filled s (b ∷ bytes) e g k (subst (FollowsFrom s.head.stage s) (append_assoc held (b ∷ []) bytes) x) in
       let part : Scan = record s { head = record { stage = s.head.stage; bytes = h } } in
       when (Steps p n s b) (nat_eq (length h) (want s.head.stage)) (decoded (record s { head = begun s.head.stage }) h) part
       (λ whole.
-        let size : length h ≡ want s.head.stage = eq_told _ _ whole in
-        let go = heads s.head.stage p at.0 s h z.filed z.sound e g k at.1 are size in
-        let more : at.0 + length h ≡ suc n = omega (arith, even, longer, g, k) in
-        record { stands = subst (λ m. Standing p m (decoded (record s { head = begun s.head.stage }) h)) more go.stands; follows =
-            λ bytes x. head_then bytes (go.follows bytes x) })
+      let size : length h ≡ want s.head.stage = eq_told _ _ whole in
+      let go = heads s.head.stage p at.0 s h z.filed z.sound e g k at.1 are size in
+      let more : at.0 + length h ≡ suc n = omega (arith, even, longer, g, k) in
+      record {
+        stands = subst (λ m. Standing p m (decoded (record s { head = begun s.head.stage }) h)) more go.stands;
+        follows =
+            λ bytes x. head_then bytes (go.follows bytes x);
+      })
       (λ less. record {
-        stands = record { filed = z.filed; sound = z.sound; are = are; at = subst (IsAt p (suc n) part) (sym e)
-            (at.0, at.1, omega (arith, even, longer)) };
+        stands = record {
+          filed = z.filed;
+          sound = z.sound;
+          are = are;
+          at = subst (IsAt p (suc n) part) (sym e)
+              (at.0, at.1, omega (arith, even, longer));
+        };
         follows = λ bytes x. head_then bytes (unfilled part bytes g k x);
       })
 
@@ -245,8 +283,10 @@ EndsAt p n s (Some f) = (w : ℕ) × (f.at ≡ place (p + w)) × (w ≤ n)
 
 module _ (p n : ℕ) (s : Scan) (z : Standing p n s) where
   abbrev cut : Scan
-  cut = record s { fault =
-      Some (record { at = place (s.next + length s.head.bytes + 2 ^ 64 - place (s.give + s.skip)); reason = Truncated }) }
+  cut = record s {
+    fault =
+        Some (record { at = place (s.next + length s.head.bytes + 2 ^ 64 - place (s.give + s.skip)); reason = Truncated });
+  }
 
   cut_at : s.fault ≡ None → EndsAt p n s cut.fault
   cut_at e =

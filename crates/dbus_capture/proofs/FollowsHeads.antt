@@ -60,8 +60,18 @@ options_after : (c : Context) (rest : ℕ) (i : Interface) (bytes : List ℕ) �
     → Options c rest i bytes
 options_after c rest i bytes = when (λ v. FollowsHead v c rest i bytes → Options c rest i bytes)
     (rest == 0) stages.InterfaceTrailer stages.OptionHead
-    (λ e f. record { options = []; end = None; tail = bytes; fit = tt; ends = tt; size = sym (eq_told rest 0 e); joined = refl; few =
-        f.0; closing = f.1 })
+    (λ e f. record {
+      options = [];
+      end = None;
+      tail = bytes;
+      fit = tt;
+      ends = tt;
+      size = sym (eq_told rest 0 e);
+      joined = refl;
+      few =
+          f.0;
+      closing = f.1;
+    })
     (λ e f. f)
 
 first_is : (h : List ℕ) → 0 < length h → h ≡ slice_index h 0 ∷ drop 1 h
@@ -96,10 +106,15 @@ module _ (p w : ℕ) (s : Scan) (h : List ℕ) (clean : s.fault ≡ None) (none 
   go : (stage : Stage) (t : Scan) (k : ℕ) → is_raw t.head.stage ≡ false → IsSound t.head.stage t.total t.rest → AreBytes t.head.bytes
       → t.fault ≡ None → t.next ≡ place (s.next + k)
       → k + length t.head.bytes ≡ length h + (t.give + t.skip) → ((more : List ℕ) → Follows t more → FollowsFrom stage s (h ++ more))
-          → G stage t
+      → G stage t
   go stage t k filed sound held u moved even follows = record {
-    stands = record { filed = filed; sound = sound; are = held; at = subst (IsAt p (w + length h) t) (sym u)
-        (w + k, omega (arith, moved, next), omega (arith, even)) };
+    stands = record {
+      filed = filed;
+      sound = sound;
+      are = held;
+      at = subst (IsAt p (w + length h) t) (sym u)
+          (w + k, omega (arith, moved, next), omega (arith, even));
+    };
     follows = follows;
   }
 
@@ -110,32 +125,32 @@ module _ (p w : ℕ) (s : Scan) (h : List ℕ) (clean : s.fault ≡ None) (none 
   file_in o n size spelled =
       when (G stages.FileHeader) ((u16_at o 4 h == 2) && (u16_at o 6 h == 4)) _ _
       (λ both. when (G stages.FileHeader) (u32_at o 20 h == 231) _ _
-        (λ link. go stages.FileHeader _ 24 refl tt tt clean refl (omega (arith, size, none, no_skip)) (λ more f.
-          let q : Packets s.passes_cut o more = unfilled _ more none no_skip f in
-          let versions = and_parts (u16_at o 4 h == 2) (u16_at o 6 h == 4) both in
-          let left = length-drop 8 h in
-          let unread = take 12 (drop 8 h) in
-          let h_is : h ≡ u32_bytes o (magic_number n) ++ (u16_bytes o 2 ++ (u16_bytes o 4 ++ (unread ++ u32_bytes o 231))) =
-              u32_there Little h are 0 _ refl (omega (arith, size)) ∙ ap (λ l. l ++ drop 4 h) spelled
-              ∙ ap (λ l. u32_bytes o (magic_number n) ++ l) (u16_there o h are 4 2 (eq_told _ _ versions.0) (omega (arith, size))
-              ∙ ap (λ l. u16_bytes o 2 ++ l) (u16_there o h are 6 4 (eq_told _ _ versions.1) (omega (arith, size))
-              ∙ ap (λ l. u16_bytes o 4 ++ l) (sym (take-append-drop 12 (drop 8 h))
-              ∙ ap (λ l. unread ++ l) (drop-drop 12 8 h ∙ u32_ends o h are 20 231 (eq_told _ _ link) size)))) in
-          record {
-            head = record { order = o; nanoseconds = n; unread = unread };
-            packets = q.packets;
-            fits = record { unread = length-take-le 12 (drop 8 h) (omega (arith, left, size)) };
-            fit = q.fit;
-            joined = cat _ _ _ _ h_is q.joined;
-          }))
-        (λ other. refuse stages.FileHeader 20 reasons.LinkType refl tt (omega (arith, size))))
+      (λ link. go stages.FileHeader _ 24 refl tt tt clean refl (omega (arith, size, none, no_skip)) (λ more f.
+      let q : Packets s.passes_cut o more = unfilled _ more none no_skip f in
+      let versions = and_parts (u16_at o 4 h == 2) (u16_at o 6 h == 4) both in
+      let left = length-drop 8 h in
+      let unread = take 12 (drop 8 h) in
+      let h_is : h ≡ u32_bytes o (magic_number n) ++ (u16_bytes o 2 ++ (u16_bytes o 4 ++ (unread ++ u32_bytes o 231))) =
+      u32_there Little h are 0 _ refl (omega (arith, size)) ∙ ap (λ l. l ++ drop 4 h) spelled
+      ∙ ap (λ l. u32_bytes o (magic_number n) ++ l) (u16_there o h are 4 2 (eq_told _ _ versions.0) (omega (arith, size))
+      ∙ ap (λ l. u16_bytes o 2 ++ l) (u16_there o h are 6 4 (eq_told _ _ versions.1) (omega (arith, size))
+      ∙ ap (λ l. u16_bytes o 4 ++ l) (sym (take-append-drop 12 (drop 8 h))
+      ∙ ap (λ l. unread ++ l) (drop-drop 12 8 h ∙ u32_ends o h are 20 231 (eq_told _ _ link) size)))) in
+      record {
+        head = record { order = o; nanoseconds = n; unread = unread };
+        packets = q.packets;
+        fits = record { unread = length-take-le 12 (drop 8 h) (omega (arith, left, size)) };
+        fit = q.fit;
+        joined = cat _ _ _ _ h_is q.joined;
+      }))
+      (λ other. refuse stages.FileHeader 20 reasons.LinkType refl tt (omega (arith, size))))
       (λ other. refuse stages.FileHeader 4 reasons.Version refl tt (omega (arith, size)))
 
   file_goes : length h ≡ 24 → G stages.FileHeader (file_header (at stages.FileHeader) h)
   file_goes size =
       let m = u32_at Little 0 h in
       let P : Option (ByteOrder × Bool) → Type 0 = λ (v : Option (ByteOrder × Bool)). G stages.FileHeader
-          (file_header_by (at stages.FileHeader) h v) in
+      (file_header_by (at stages.FileHeader) h v) in
       when P (m == 0xa1b2c3d4) _ _ (λ e. file_in Little false size (ap (u32_bytes Little) (eq_told _ _ e)))
       (λ _. when P (m == 0xa1b23c4d) _ _ (λ e. file_in Little true size (ap (u32_bytes Little) (eq_told _ _ e)))
       (λ _. when P (m == 0xd4c3b2a1) _ _ (λ e. file_in Big false size (ap (u32_bytes Little) (eq_told _ _ e)))
@@ -148,9 +163,9 @@ module _ (p w : ℕ) (s : Scan) (h : List ℕ) (clean : s.fault ≡ None) (none 
   words o k a b c n x y z e size =
       u32_there o h are k _ refl (omega (arith, size, x, y, z)) ∙ ap (λ (v : ℕ). u32_bytes o (u32_at o k h) ++ drop v h) (sym x)
       ∙ ap (λ l. u32_bytes o (u32_at o k h) ++ l) (u32_there o h are a _ refl (omega (arith, size, y, z))
-          ∙ ap (λ (v : ℕ). u32_bytes o (u32_at o a h) ++ drop v h) (sym y)
+      ∙ ap (λ (v : ℕ). u32_bytes o (u32_at o a h) ++ drop v h) (sym y)
       ∙ ap (λ l. u32_bytes o (u32_at o a h) ++ l) (u32_there o h are b n e (omega (arith, size, z))
-          ∙ ap (λ (v : ℕ). u32_bytes o n ++ drop v h) (sym z)
+      ∙ ap (λ (v : ℕ). u32_bytes o n ++ drop v h) (sym z)
       ∙ ap (λ l. u32_bytes o n ++ l) (u32_ends o h are c _ refl size)))
 
   packet_first : length h ≡ 16 → IsCaptured s.passes_cut (u32_at s.order 12 h) (u32_at s.order 8 h) → (more fill after : List ℕ)
@@ -160,8 +175,16 @@ module _ (p w : ℕ) (s : Scan) (h : List ℕ) (clean : s.fault ≡ None) (none 
       let o = s.order in
       record {
         packets = record { seconds = u32_at o 0 h; fraction = u32_at o 4 h; original = u32_at o 12 h; bytes = fill } ∷ q.packets;
-        fit = (record { seconds = u32_low o h are 0; fraction = u32_low o h are 4; original = u32_low o h are 12; captured =
-            subst (IsCaptured s.passes_cut (u32_at o 12 h)) (sym long) whole }, q.fit);
+        fit = (
+          record {
+            seconds = u32_low o h are 0;
+            fraction = u32_low o h are 4;
+            original = u32_low o h are 12;
+            captured =
+                subst (IsCaptured s.passes_cut (u32_at o 12 h)) (sym long) whole;
+          },
+          q.fit,
+        );
         joined = cat _ _ _ _ (words o 0 4 8 12 (length fill) refl refl refl (sym long) size) (m ∙ ap (λ l. fill ++ l) q.joined);
       }
 
@@ -171,22 +194,22 @@ module _ (p w : ℕ) (s : Scan) (h : List ℕ) (clean : s.fault ≡ None) (none 
       let original = u32_at s.order 12 h in
       when (G stages.Record) (nat_lt original n) _ _ (λ e. refuse stages.Record 12 reasons.Lengths refl tt (omega (arith, size)))
       (λ e. let most = lt_untold original n e in when (G stages.Record) (nat_lt n original) _ _
-        (λ l. when (G stages.Record) s.passes_cut _ _
-          (λ c. go stages.Record _ (16 + n) refl tt tt clean refl (omega (arith, size, none)) (λ more f.
-            let long = f.size in packet_first size (captured_part s.passes_cut original n c most) more f.fill f.more
-                (omega (arith, long, none)) f.joined f.rest))
-          (λ c. refuse stages.Record 8 reasons.PacketCut refl tt (omega (arith, size))))
-        (λ l. let least = lt_untold n original l in go stages.Record _ (16 + n) refl tt tt clean refl (omega (arith, size, no_skip))
-            (λ more f.
-          let long = f.size in packet_first size (captured_all s.passes_cut original n (omega (arith, most, least))) more f.fill f.more
-              (omega (arith, long, no_skip)) f.joined f.rest)))
+      (λ l. when (G stages.Record) s.passes_cut _ _
+      (λ c. go stages.Record _ (16 + n) refl tt tt clean refl (omega (arith, size, none)) (λ more f.
+      let long = f.size in packet_first size (captured_part s.passes_cut original n c most) more f.fill f.more
+      (omega (arith, long, none)) f.joined f.rest))
+      (λ c. refuse stages.Record 8 reasons.PacketCut refl tt (omega (arith, size))))
+      (λ l. let least = lt_untold n original l in go stages.Record _ (16 + n) refl tt tt clean refl (omega (arith, size, no_skip))
+      (λ more f.
+      let long = f.size in packet_first size (captured_all s.passes_cut original n (omega (arith, most, least))) more f.fill f.more
+      (omega (arith, long, no_skip)) f.joined f.rest)))
 
   -- ---- the first block of a section
 
   section_at : (o : ByteOrder) → length h ≡ 24 → u32_bytes Little (u32_at Little 0 h) ≡ u32_bytes o 0x0a0d0d0a → (n : ℕ)
       → u32_at o 4 h ≡ n → u32_bytes Little (u32_at Little 8 h) ≡ u32_bytes o 0x1a2b3c4d → u16_at o 12 h ≡ 1
       → h ≡ u32_bytes o 0x0a0d0d0a ++
-          (u32_bytes o n ++ (u32_bytes o 0x1a2b3c4d ++ (u16_bytes o 1 ++ (u16_bytes o (u16_at o 14 h) ++ drop 16 h))))
+      (u32_bytes o n ++ (u32_bytes o 0x1a2b3c4d ++ (u16_bytes o 1 ++ (u16_bytes o (u16_at o 14 h) ++ drop 16 h))))
   section_at o size kind n total mark major =
       u32_there Little h are 0 _ refl (omega (arith, size)) ∙ ap (λ l. l ++ drop 4 h) kind
       ∙ ap (λ l. u32_bytes o 0x0a0d0d0a ++ l) (u32_there o h are 4 n total (omega (arith, size))
@@ -204,36 +227,39 @@ module _ (p w : ℕ) (s : Scan) (h : List ℕ) (clean : s.fault ≡ None) (none 
       let minor = u16_at o 14 h in
       when (G stages.Section) ((u16_at o 12 h == 1) && ((minor == 0) || (minor == 2))) _ _
       (λ both. when (G stages.Section) (is_length 28 total) _ _
-        (λ fits. let whole = length_told 28 total fits in let least = whole.1 in
-          go stages.Section _ (total - 4) refl tt tt clean refl (omega (arith, size, none, least)) (λ more f.
-            let q : Closing s.passes_cut o total [] f.more = f.rest in
-            let versions = and_parts (u16_at o 12 h == 1) ((minor == 0) || (minor == 2)) both in
-            let x : FileSection = record { order = o; minor = minor; size = drop 16 h; options = f.fill; blocks = q.blocks.blocks } in
-            let left = length-drop 16 h in
-            let long = f.size in
-            let filled : length f.fill + 28 ≡ total = omega (arith, long, none, least) in
-            let eight : length (drop 16 h) ≡ 8 = omega (arith, left, size) in
-            let body : 12 + length (section_body x) ≡ total = grind (arith, length-append, u32_size, u16_size, eight, filled) in
-            let bl = blocks_bytes o q.blocks.blocks in
-            let se = sections_bytes q.blocks.sections in
-            record {
-              first = x;
-              sections = q.blocks.sections;
-              fits = record {
-                minor = minor_told minor versions.1;
-                size = eight;
-                body = record { size = let low = u32_low o h are 4 in omega (arith, body, low); whole = ap (λ (v : ℕ). v % 4) body
-                    ∙ whole.0 };
-                blocks = q.blocks.fit;
-              };
-              fit = q.blocks.fits;
-              joined = cat _ _ _ _ (section_at o size kind (12 + length (section_body x)) (sym body) mark (eq_told _ _ versions.0))
-                  (f.joined ∙ ap (λ l. f.fill ++ l) (q.joined ∙ ap (λ (v : ℕ). u32_bytes o v ++ q.tail) (sym body)
-                      ∙ ap (λ l. u32_bytes o (12 + length (section_body x)) ++ l) q.blocks.joined))
-                  ∙ regroup_section (u32_bytes o 0x0a0d0d0a) (u32_bytes o (12 + length (section_body x))) (u32_bytes o 0x1a2b3c4d)
-                      (u16_bytes o 1) (u16_bytes o minor) (drop 16 h) f.fill bl se;
-            }))
-        (λ other. refuse stages.Section 4 reasons.BlockLength refl tt (omega (arith, size))))
+      (λ fits. let whole = length_told 28 total fits in let least = whole.1 in
+      go stages.Section _ (total - 4) refl tt tt clean refl (omega (arith, size, none, least)) (λ more f.
+      let q : Closing s.passes_cut o total [] f.more = f.rest in
+      let versions = and_parts (u16_at o 12 h == 1) ((minor == 0) || (minor == 2)) both in
+      let x : FileSection = record { order = o; minor = minor; size = drop 16 h; options = f.fill; blocks = q.blocks.blocks } in
+      let left = length-drop 16 h in
+      let long = f.size in
+      let filled : length f.fill + 28 ≡ total = omega (arith, long, none, least) in
+      let eight : length (drop 16 h) ≡ 8 = omega (arith, left, size) in
+      let body : 12 + length (section_body x) ≡ total = grind (arith, length-append, u32_size, u16_size, eight, filled) in
+      let bl = blocks_bytes o q.blocks.blocks in
+      let se = sections_bytes q.blocks.sections in
+      record {
+        first = x;
+        sections = q.blocks.sections;
+        fits = record {
+          minor = minor_told minor versions.1;
+          size = eight;
+          body = record {
+            size = let low = u32_low o h are 4 in omega (arith, body, low);
+            whole = ap (λ (v : ℕ). v % 4) body
+                ∙ whole.0;
+          };
+          blocks = q.blocks.fit;
+        };
+        fit = q.blocks.fits;
+        joined = cat _ _ _ _ (section_at o size kind (12 + length (section_body x)) (sym body) mark (eq_told _ _ versions.0))
+            (f.joined ∙ ap (λ l. f.fill ++ l) (q.joined ∙ ap (λ (v : ℕ). u32_bytes o v ++ q.tail) (sym body)
+            ∙ ap (λ l. u32_bytes o (12 + length (section_body x)) ++ l) q.blocks.joined))
+            ∙ regroup_section (u32_bytes o 0x0a0d0d0a) (u32_bytes o (12 + length (section_body x))) (u32_bytes o 0x1a2b3c4d)
+            (u16_bytes o 1) (u16_bytes o minor) (drop 16 h) f.fill bl se;
+      }))
+      (λ other. refuse stages.Section 4 reasons.BlockLength refl tt (omega (arith, size))))
       (λ other. refuse stages.Section 12 reasons.Version refl tt (omega (arith, size)))
 
   section_goes : length h ≡ 24 → G stages.Section (section_head (at stages.Section) h)
@@ -242,9 +268,9 @@ module _ (p w : ℕ) (s : Scan) (h : List ℕ) (clean : s.fault ≡ None) (none 
       let P : Option ByteOrder → Type 0 = λ (v : Option ByteOrder). G stages.Section (section_by (at stages.Section) h v) in
       when (G stages.Section) (u32_at Little 0 h == 0x0a0d0d0a) _ _
       (λ k. let kind = ap (u32_bytes Little) (eq_told _ _ k) in
-        when P (m == 0x1a2b3c4d) _ _ (λ e. section_goes_in Little size kind (ap (u32_bytes Little) (eq_told _ _ e)))
-        (λ _. when P (m == 0x4d3c2b1a) _ _ (λ e. section_goes_in Big size kind (ap (u32_bytes Little) (eq_told _ _ e)))
-        (λ _. refuse stages.Section 8 reasons.OrderMark refl tt (omega (arith, size)))))
+      when P (m == 0x1a2b3c4d) _ _ (λ e. section_goes_in Little size kind (ap (u32_bytes Little) (eq_told _ _ e)))
+      (λ _. when P (m == 0x4d3c2b1a) _ _ (λ e. section_goes_in Big size kind (ap (u32_bytes Little) (eq_told _ _ e)))
+      (λ _. refuse stages.Section 8 reasons.OrderMark refl tt (omega (arith, size)))))
       (λ other. refuse stages.Section 0 reasons.Magic refl tt (omega arith))
 
   -- ---- the beginning and the end of a block
@@ -267,7 +293,7 @@ module _ (p w : ℕ) (s : Scan) (h : List ℕ) (clean : s.fault ≡ None) (none 
         joined = cat _ _ _ _ (u32_there o h are 0 (block_kind q.block) (type ∙ sym q.kind_is) (omega (arith, size))
             ∙ ap (λ l. u32_bytes o (block_kind q.block) ++ l) (u32_ends o h are 4 n (sym same) size))
             (q.joined ∙ ap (λ l. block_body o q.block ++ l) (q.closing.joined ∙ ap (λ (v : ℕ). u32_bytes o v ++ q.closing.tail)
-                (sym same) ∙ ap (λ l. u32_bytes o n ++ l) q.closing.blocks.joined))
+            (sym same) ∙ ap (λ l. u32_bytes o n ++ l) q.closing.blocks.joined))
             ∙ regroup_block (u32_bytes o (block_kind q.block)) (u32_bytes o n) (block_body o q.block) bl se;
       }
 
@@ -279,46 +305,50 @@ module _ (p w : ℕ) (s : Scan) (h : List ℕ) (clean : s.fault ≡ None) (none 
       let P : Option (Stage × ℕ) → Type 0 = λ (v : Option (Stage × ℕ)). G stages.Block (block_by (at stages.Block) total v) in
       when (G stages.Block) (kind == 0x0a0d0d0a) _ _
       (λ e. go stages.Block _ 0 refl tt are clean (omega (arith, next)) (omega (arith, none, no_skip)) (λ more f.
-        let q : Sections s.passes_cut (h ++ more) = unfilled _ more none no_skip f in
-        record { blocks = []; sections = q.first ∷ q.sections; fit = tt; fits = (q.fits, q.fit); joined = q.joined }))
+      let q : Sections s.passes_cut (h ++ more) = unfilled _ more none no_skip f in
+      record { blocks = []; sections = q.first ∷ q.sections; fit = tt; fits = (q.fits, q.fit); joined = q.joined }))
       (λ no_section. when P (kind == 1) _ _ (λ e. reads stages.InterfaceHead 20 1 refl (λ whole least. (least, refl, whole))
-          (λ bytes f. f) (eq_told _ _ e))
-        (λ a. when P (kind == 2) _ _ (λ e. reads stages.ObsoletePacket 32 2 refl (λ whole least. least) (λ bytes f. f) (eq_told _ _ e))
-        (λ b. when P (kind == 3) _ _ (λ e. reads stages.Simple 16 3 refl (λ whole least. least) (λ bytes f. f) (eq_told _ _ e))
-        (λ c. when P (kind == 6) _ _ (λ e. reads stages.Enhanced 32 6 refl (λ whole least. least) (λ bytes f. f) (eq_told _ _ e))
-        (λ d. when (G stages.Block) (is_length 12 total) _ _
-          (λ fits. let whole = length_told 12 total fits in let least = whole.1 in
-            go stages.Block _ (total - 4) refl tt tt clean refl (omega (arith, size, none, least)) (λ more f.
-              let long = f.size in
-              block_whole more kind size refl whole.0 (record {
-                block = OtherBlock kind f.fill;
-                tail = f.more;
-                kind_is = refl;
-                size = omega (arith, long, none, least);
-                fits = (u32_low o h are 0, eq_untold _ _ a, eq_untold _ _ b, eq_untold _ _ c, eq_untold _ _ d, eq_untold _ _ no_section);
-                joined = f.joined;
-                closing = f.rest;
-              })))
-          (λ other. refuse stages.Block 4 reasons.BlockLength refl tt (omega (arith, size))))))))
+      (λ bytes f. f) (eq_told _ _ e))
+      (λ a. when P (kind == 2) _ _ (λ e. reads stages.ObsoletePacket 32 2 refl (λ whole least. least) (λ bytes f. f) (eq_told _ _ e))
+      (λ b. when P (kind == 3) _ _ (λ e. reads stages.Simple 16 3 refl (λ whole least. least) (λ bytes f. f) (eq_told _ _ e))
+      (λ c. when P (kind == 6) _ _ (λ e. reads stages.Enhanced 32 6 refl (λ whole least. least) (λ bytes f. f) (eq_told _ _ e))
+      (λ d. when (G stages.Block) (is_length 12 total) _ _
+      (λ fits. let whole = length_told 12 total fits in let least = whole.1 in
+      go stages.Block _ (total - 4) refl tt tt clean refl (omega (arith, size, none, least)) (λ more f.
+      let long = f.size in
+      block_whole more kind size refl whole.0 (record {
+        block = OtherBlock kind f.fill;
+        tail = f.more;
+        kind_is = refl;
+        size = omega (arith, long, none, least);
+        fits = (u32_low o h are 0, eq_untold _ _ a, eq_untold _ _ b, eq_untold _ _ c, eq_untold _ _ d, eq_untold _ _ no_section);
+        joined = f.joined;
+        closing = f.rest;
+      })))
+      (λ other. refuse stages.Block 4 reasons.BlockLength refl tt (omega (arith, size))))))))
     where
       reads : (stage : Stage) (least kind : ℕ) → is_raw stage ≡ false
           → (u32_at s.order 4 h % 4 ≡ 0 → least ≤ u32_at s.order 4 h → IsSound stage (u32_at s.order 4 h) (u32_at s.order 4 h - 20))
           → let c : Context = record { passes = s.passes_cut; order = s.order; total = u32_at s.order 4 h; interfaces = s.interfaces } in
           ((bytes : List ℕ) → FollowsHead stage c (u32_at s.order 4 h - 20) s.interface bytes → Body c kind bytes)
-              → u32_at s.order 0 h ≡ kind → G stages.Block (block_by (at stages.Block) (u32_at s.order 4 h) (Some (stage, least)))
+          → u32_at s.order 0 h ≡ kind → G stages.Block (block_by (at stages.Block) (u32_at s.order 4 h) (Some (stage, least)))
       reads stage least kind filed sound taken type =
           when (G stages.Block) (is_length least (u32_at s.order 4 h)) _ _
           (λ fits. let whole = length_told least _ fits in
-            go stages.Block _ 8 filed (sound whole.0 whole.1) tt clean refl (omega (arith, size, none, no_skip))
-                (λ more f. block_whole more kind size type whole.0 (taken more (unfilled _ more none no_skip f))))
+          go stages.Block _ 8 filed (sound whole.0 whole.1) tt clean refl (omega (arith, size, none, no_skip))
+          (λ more f. block_whole more kind size type whole.0 (taken more (unfilled _ more none no_skip f))))
           (λ other. refuse stages.Block 4 reasons.BlockLength refl tt (omega (arith, size)))
 
   trailer_goes : length h ≡ 4 → G stages.Trailer (trailer (at stages.Trailer) h)
   trailer_goes size =
       when (G stages.Trailer) (u32_at s.order 0 h == s.total) _ _
       (λ e. go stages.Trailer _ 4 refl tt tt clean refl (omega (arith, size, none, no_skip))
-          (λ more f. record { tail = more; joined = ap (λ l. l ++ more) (u32_ends s.order h are 0 s.total (eq_told _ _ e) size); blocks =
-          unfilled _ more none no_skip f }))
+      (λ more f. record {
+        tail = more;
+        joined = ap (λ l. l ++ more) (u32_ends s.order h are 0 s.total (eq_told _ _ e) size);
+        blocks =
+            unfilled _ more none no_skip f;
+      }))
       (λ other. refuse stages.Trailer 0 reasons.BlockLengths refl tt (omega arith))
 
   -- ---- an interface
@@ -327,11 +357,16 @@ module _ (p w : ℕ) (s : Scan) (h : List ℕ) (clean : s.fault ≡ None) (none 
   interface_ends size =
       when (G stages.InterfaceTrailer) (u32_at s.order 0 h == s.total) _ _
       (λ e. when (G stages.InterfaceTrailer) (nat_le 64 (length s.interfaces)) _ _
-          (λ many. refuse stages.InterfaceTrailer 0 reasons.TooManyInterfaces refl tt (omega arith))
-        (λ few. go stages.InterfaceTrailer _ 4 refl tt tt clean refl (omega (arith, size, none, no_skip)) (λ more f.
-          (le_untold 64 (length s.interfaces) few,
-              record { tail = more; joined = ap (λ l. l ++ more) (u32_ends s.order h are 0 s.total (eq_told _ _ e) size); blocks =
-              unfilled _ more none no_skip f }))))
+      (λ many. refuse stages.InterfaceTrailer 0 reasons.TooManyInterfaces refl tt (omega arith))
+      (λ few. go stages.InterfaceTrailer _ 4 refl tt tt clean refl (omega (arith, size, none, no_skip)) (λ more f. (
+        le_untold 64 (length s.interfaces) few,
+        record {
+          tail = more;
+          joined = ap (λ l. l ++ more) (u32_ends s.order h are 0 s.total (eq_told _ _ e) size);
+          blocks =
+              unfilled _ more none no_skip f;
+        },
+      ))))
       (λ other. refuse stages.InterfaceTrailer 0 reasons.BlockLengths refl tt (omega arith))
 
   interface_goes : length h ≡ 8 → IsSound stages.InterfaceHead s.total s.rest → G stages.InterfaceHead
@@ -342,25 +377,25 @@ module _ (p w : ℕ) (s : Scan) (h : List ℕ) (clean : s.fault ≡ None) (none 
       let least = sound.0 in
       let left = sound.1 in
       go stages.InterfaceHead _ 8 (after_filed s.rest) (after_sound s.total s.rest (omega (arith, sound.2, left, least))) tt clean refl
-          (omega (arith, size, none, no_skip)) (λ more f.
-        let q = options_after (context s) s.rest i more (unfilled _ more none no_skip f) in
-        let options = options_bytes o q.options ++ end_bytes o q.end in
-        let q_size : length options ≡ s.rest = q.size in
-        let front = u16_bytes o (u16_at o 0 h) ++ (u16_bytes o (u16_at o 2 h) ++ u32_bytes o (u32_at o 4 h)) in
-        let h_is : h ≡ front = u16_there o h are 0 _ refl (omega (arith, size)) ∙ ap (λ l. u16_bytes o (u16_at o 0 h) ++ l)
-            (u16_there o h are 2 _ refl (omega (arith, size)) ∙ ap (λ l. u16_bytes o (u16_at o 2 h) ++ l)
-            (u32_ends o h are 4 _ refl size)) in
-        let eight : length front ≡ 8 = sym (ap length h_is) ∙ size in
-        let all = length-append front options in
-        record {
-          block = InterfaceBlock (u16_at o 0 h) (u16_at o 2 h) (u32_at o 4 h) q.options q.end;
-          tail = q.tail;
-          kind_is = refl;
-          size = omega (arith, all, eight, q_size, left, least);
-          fits = (u16_low o h are 0, u32_low o h are 4, q.fit, q.ends, q.few);
-          joined = cat _ _ _ _ h_is q.joined ∙ sym (append_assoc front options q.tail);
-          closing = q.closing;
-        })
+      (omega (arith, size, none, no_skip)) (λ more f.
+      let q = options_after (context s) s.rest i more (unfilled _ more none no_skip f) in
+      let options = options_bytes o q.options ++ end_bytes o q.end in
+      let q_size : length options ≡ s.rest = q.size in
+      let front = u16_bytes o (u16_at o 0 h) ++ (u16_bytes o (u16_at o 2 h) ++ u32_bytes o (u32_at o 4 h)) in
+      let h_is : h ≡ front = u16_there o h are 0 _ refl (omega (arith, size)) ∙ ap (λ l. u16_bytes o (u16_at o 0 h) ++ l)
+      (u16_there o h are 2 _ refl (omega (arith, size)) ∙ ap (λ l. u16_bytes o (u16_at o 2 h) ++ l)
+      (u32_ends o h are 4 _ refl size)) in
+      let eight : length front ≡ 8 = sym (ap length h_is) ∙ size in
+      let all = length-append front options in
+      record {
+        block = InterfaceBlock (u16_at o 0 h) (u16_at o 2 h) (u32_at o 4 h) q.options q.end;
+        tail = q.tail;
+        kind_is = refl;
+        size = omega (arith, all, eight, q_size, left, least);
+        fits = (u16_low o h are 0, u32_low o h are 4, q.fit, q.ends, q.few);
+        joined = cat _ _ _ _ h_is q.joined ∙ sym (append_assoc front options q.tail);
+        closing = q.closing;
+      })
 
   -- an option, and then others
   option_first : (bytes after : List ℕ) (o : InterfaceOption) (i : Interface) (rest : ℕ) → length h ≡ 4 → u16_at s.order 0 h ≡ o.code
@@ -374,7 +409,7 @@ module _ (p w : ℕ) (s : Scan) (h : List ℕ) (clean : s.fault ≡ None) (none 
       let filled = fits.filled in
       let front = u16_bytes order o.code ++ u16_bytes order (length o.value) in
       let h_is : h ≡ front = u16_there order h are 0 _ code (omega (arith, size)) ∙ ap (λ l. u16_bytes order o.code ++ l)
-          (u16_ends order h are 2 _ long size) in
+      (u16_ends order h are 2 _ long size) in
       let four : length front ≡ 4 = sym (ap length h_is) ∙ size in
       record {
         options = o ∷ q.options;
@@ -383,7 +418,7 @@ module _ (p w : ℕ) (s : Scan) (h : List ℕ) (clean : s.fault ≡ None) (none 
         fit = (fits, q.fit);
         ends = q.ends;
         size = let value_filled = length-append o.value o.filler in let a = length-append front (o.value ++ o.filler) in
-        let b = length-append (front ++ (o.value ++ o.filler)) others in
+            let b = length-append (front ++ (o.value ++ o.filler)) others in
             let c = length-append ((front ++ (o.value ++ o.filler)) ++ others) end in let d = length-append others end in
             omega (arith, a, b, c, d, value_filled, four, filled, q_size, left);
         joined = cat _ _ _ _ h_is (b ∙ ap (λ l. (o.value ++ o.filler) ++ l) q.joined) ∙ regroup_option (u16_bytes order o.code)
@@ -401,46 +436,51 @@ module _ (p w : ℕ) (s : Scan) (h : List ℕ) (clean : s.fault ≡ None) (none 
       let some = sound.1 in
       let four : 4 ≤ s.rest = let whole = sound.0 in omega (arith, whole, some) in
       let h_is : h ≡ u16_bytes o code ++ u16_bytes o n = u16_there o h are 0 _ refl (omega (arith, size))
-          ∙ ap (λ l. u16_bytes o code ++ l) (u16_ends o h are 2 _ refl size) in
+      ∙ ap (λ l. u16_bytes o code ++ l) (u16_ends o h are 2 _ refl size) in
       when (G stages.OptionHead) (code == 0) _ _
       (λ e. go stages.OptionHead _ s.rest refl tt tt clean refl (omega (arith, size, none, four)) (λ more f.
-        let q : (length s.interfaces < 64) × Closing s.passes_cut o s.total (s.interfaces ++ s.interface ∷ []) f.more = f.rest in
-        let long = f.size in
-        let two = u16_size o n in
-        let two_zero = u16_size o 0 in
-        let unread = length-append (u16_bytes o n) f.fill in
-        let all = length-append (u16_bytes o 0) (u16_bytes o n ++ f.fill) in
-        record {
-          options = [];
-          end = Some (u16_bytes o n ++ f.fill);
-          tail = f.more;
-          fit = tt;
-          ends = omega (arith, two, unread);
-          size = omega (arith, all, unread, two, two_zero, long, none, four);
-          joined = cat _ _ _ _ (h_is ∙ ap (λ (v : ℕ). u16_bytes o v ++ u16_bytes o n) (eq_told code 0 e)) f.joined
-              ∙ regroup_end (u16_bytes o 0) (u16_bytes o n) f.fill f.more;
-          few = q.0;
-          closing = q.1;
-        }))
+      let q : (length s.interfaces < 64) × Closing s.passes_cut o s.total (s.interfaces ++ s.interface ∷ []) f.more = f.rest in
+      let long = f.size in
+      let two = u16_size o n in
+      let two_zero = u16_size o 0 in
+      let unread = length-append (u16_bytes o n) f.fill in
+      let all = length-append (u16_bytes o 0) (u16_bytes o n ++ f.fill) in
+      record {
+        options = [];
+        end = Some (u16_bytes o n ++ f.fill);
+        tail = f.more;
+        fit = tt;
+        ends = omega (arith, two, unread);
+        size = omega (arith, all, unread, two, two_zero, long, none, four);
+        joined = cat _ _ _ _ (h_is ∙ ap (λ (v : ℕ). u16_bytes o v ++ u16_bytes o n) (eq_told code 0 e)) f.joined
+            ∙ regroup_end (u16_bytes o 0) (u16_bytes o n) f.fill f.more;
+        few = q.0;
+        closing = q.1;
+      }))
       (λ e. when (G stages.OptionHead) (nat_lt (s.rest - 4) (padded n)) _ _
-          (λ long. refuse stages.OptionHead 2 reasons.OptionLength refl sound (omega (arith, size)))
-        (λ enough. let room = lt_untold (s.rest - 4) (padded n) enough in when (G stages.OptionHead) (code == 9) _ _
-          (λ nine. when (G stages.OptionHead) (n == 1) _ _
-            (λ one. go stages.OptionHead _ 4 refl (let whole = sound.0 in omega (arith, whole)) tt clean refl
-                (omega (arith, size, none, no_skip)) (λ more f.
-              let q : TimeUnit (context s) (s.rest - 8) s.interface more = unfilled _ more none no_skip f in
-              let three = q.filled in
-              let x : InterfaceOption = record { code = 9; value = q.value ∷ []; filler = q.filler } in
-              let is_one = eq_told n 1 one in
-              option_first more q.more x _ (s.rest - 8) size (eq_told code 9 nine) is_one
-              (record { code = omega arith; no_end = λ z. absurd (omega (arith, z)); size = omega arith; filled = omega (arith, three);
-                  resolution = λ z. refl }) refl (omega (arith, room, is_one)) q.joined q.options))
-            (λ other. refuse stages.OptionHead 2 reasons.OptionLength refl sound (omega (arith, size))))
-          (λ not_nine. when (G stages.OptionHead) (code == 14) _ _
-            (λ offset. passed size sound (record s.interface { has_offset = true }) (eq_untold code 0 e) (eq_untold code 9 not_nine) room
-                (λ v. when_false _ _ _ not_nine ∙ when_true _ _ _ offset))
-            (λ no_offset. passed size sound s.interface (eq_untold code 0 e) (eq_untold code 9 not_nine) room
-                (λ v. when_false _ _ _ not_nine ∙ when_false _ _ _ no_offset)))))
+      (λ long. refuse stages.OptionHead 2 reasons.OptionLength refl sound (omega (arith, size)))
+      (λ enough. let room = lt_untold (s.rest - 4) (padded n) enough in when (G stages.OptionHead) (code == 9) _ _
+      (λ nine. when (G stages.OptionHead) (n == 1) _ _
+      (λ one. go stages.OptionHead _ 4 refl (let whole = sound.0 in omega (arith, whole)) tt clean refl
+      (omega (arith, size, none, no_skip)) (λ more f.
+      let q : TimeUnit (context s) (s.rest - 8) s.interface more = unfilled _ more none no_skip f in
+      let three = q.filled in
+      let x : InterfaceOption = record { code = 9; value = q.value ∷ []; filler = q.filler } in
+      let is_one = eq_told n 1 one in
+      option_first more q.more x _ (s.rest - 8) size (eq_told code 9 nine) is_one
+      (record {
+        code = omega arith;
+        no_end = λ z. absurd (omega (arith, z));
+        size = omega arith;
+        filled = omega (arith, three);
+        resolution = λ z. refl;
+      }) refl (omega (arith, room, is_one)) q.joined q.options))
+      (λ other. refuse stages.OptionHead 2 reasons.OptionLength refl sound (omega (arith, size))))
+      (λ not_nine. when (G stages.OptionHead) (code == 14) _ _
+      (λ offset. passed size sound (record s.interface { has_offset = true }) (eq_untold code 0 e) (eq_untold code 9 not_nine) room
+      (λ v. when_false _ _ _ not_nine ∙ when_true _ _ _ offset))
+      (λ no_offset. passed size sound s.interface (eq_untold code 0 e) (eq_untold code 9 not_nine) room
+      (λ v. when_false _ _ _ not_nine ∙ when_false _ _ _ no_offset)))))
     where
       regroup_end : (c n f t : List ℕ) → (c ++ n) ++ (f ++ t) ≡ ([] ++ (c ++ (n ++ f))) ++ t
       regroup_end c n f t = simp append_assoc
@@ -448,69 +488,75 @@ module _ (p w : ℕ) (s : Scan) (h : List ℕ) (clean : s.fault ≡ None) (none 
       passed : length h ≡ 4 → IsSound stages.OptionHead s.total s.rest → (i : Interface) → let code = u16_at s.order 0 h in
           let n = u16_at s.order 2 h in code ≢ 0 → code ≢ 9 → padded n ≤ s.rest - 4
           → ((v : List ℕ) → cond (code == 9) (record s.interface { resolution = slice_index v 0 })
-              (cond (code == 14) (record s.interface { has_offset = true }) s.interface) ≡ i)
-              → G stages.OptionHead (pass_option (at stages.OptionHead) (padded n) i)
+          (cond (code == 14) (record s.interface { has_offset = true }) s.interface) ≡ i)
+          → G stages.OptionHead (pass_option (at stages.OptionHead) (padded n) i)
       passed size sound i no_end no_unit room says =
           let code = u16_at s.order 0 h in
           let n = u16_at s.order 2 h in
           let whole = sound.0 in
           let rest = s.rest - 4 - padded n in
           go stages.OptionHead _ (4 + padded n) (after_filed rest) (after_sound s.total rest (omega (arith, whole, room))) tt clean refl
-              (omega (arith, size, none)) (λ more f.
-            let long = f.size in
-            let fits : n ≤ length f.fill = omega (arith, long, none) in
-            let value = take n f.fill in
-            let filler = drop n f.fill in
-            let value_size : length value ≡ n = length-take-le n f.fill fits in
-            let filler_size = length-drop n f.fill in
-            let x : InterfaceOption = record { code = code; value = value; filler = filler } in
-            let low_code = u16_low s.order h are 0 in
-            let low_size = u16_low s.order h are 2 in
-            option_first more f.more x i rest size refl (sym value_size)
-            (record { code = low_code; no_end = no_end; size = omega (arith, value_size, low_size); filled =
-                omega (arith, value_size, filler_size, long, none); resolution = λ z. absurd (no_unit z) })
-            (says value) (omega (arith, value_size, room)) (f.joined ∙ ap (λ l. l ++ f.more) (sym (take-append-drop n f.fill)))
-                (options_after (context s) rest i f.more f.rest))
+          (omega (arith, size, none)) (λ more f.
+          let long = f.size in
+          let fits : n ≤ length f.fill = omega (arith, long, none) in
+          let value = take n f.fill in
+          let filler = drop n f.fill in
+          let value_size : length value ≡ n = length-take-le n f.fill fits in
+          let filler_size = length-drop n f.fill in
+          let x : InterfaceOption = record { code = code; value = value; filler = filler } in
+          let low_code = u16_low s.order h are 0 in
+          let low_size = u16_low s.order h are 2 in
+          option_first more f.more x i rest size refl (sym value_size)
+          (record {
+            code = low_code;
+            no_end = no_end;
+            size = omega (arith, value_size, low_size);
+            filled =
+                omega (arith, value_size, filler_size, long, none);
+            resolution = λ z. absurd (no_unit z);
+          })
+          (says value) (omega (arith, value_size, room)) (f.joined ∙ ap (λ l. l ++ f.more) (sym (take-append-drop n f.fill)))
+          (options_after (context s) rest i f.more f.rest))
 
   resolution_goes : length h ≡ 4 → IsSound stages.Resolution s.total s.rest → G stages.Resolution (resolution_head (at stages.Resolution) h)
   resolution_goes size sound =
       go stages.Resolution _ 4 (after_filed s.rest) (after_sound s.total s.rest sound) tt clean refl (omega (arith, size, none, no_skip))
-          (λ more f.
-        let left = length-drop 1 h in
-        record {
-          value = slice_index h 0;
-          filler = drop 1 h;
-          more = more;
-          filled = omega (arith, left, size);
-          joined = ap (λ l. l ++ more) (first_is h (omega (arith, size)));
-          options = options_after (context s) s.rest _ more (unfilled _ more none no_skip f);
-        })
+      (λ more f.
+      let left = length-drop 1 h in
+      record {
+        value = slice_index h 0;
+        filler = drop 1 h;
+        more = more;
+        filled = omega (arith, left, size);
+        joined = ap (λ l. l ++ more) (first_is h (omega (arith, size)));
+        options = options_after (context s) s.rest _ more (unfilled _ more none no_skip f);
+      })
 
   -- ---- a packet
 
   packet_goes : (stage : Stage) (k room link_type : ℕ) (time : Option ℕ) (n original : ℕ) → is_raw stage ≡ false
       → IsSound stage s.total s.rest → k ≤ length h → length h ≤ 20
       → ((fill after : List ℕ) → length fill ≡ room → padded n ≤ room → (link_type ≡ 231 → IsCaptured s.passes_cut original n)
-          → Closing s.passes_cut s.order s.total s.interfaces after → FollowsFrom stage s (h ++ (fill ++ after)))
+      → Closing s.passes_cut s.order s.total s.interfaces after → FollowsFrom stage s (h ++ (fill ++ after)))
       → G stage (block_packet (at stage) (length h) k room link_type time n original)
   packet_goes stage k room link_type time n original filed sound low small spelled =
       when (G stage) (nat_lt room (padded n)) _ _ (λ e. refuse stage k reasons.Lengths filed sound low)
       (λ e. let enough = lt_untold room (padded n) e in when (G stage) (link_type == 231) _ _
-        (λ l. when (G stage) (nat_lt original n) _ _ (λ m. refuse stage k reasons.Lengths filed sound low)
-          (λ m. let most = lt_untold original n m in when (G stage) (nat_lt n original) _ _
-            (λ cut. when (G stage) s.passes_cut _ _
-              (λ c. go stage _ (length h + room) refl tt tt clean refl (omega (arith, none)) (λ more f. let long = f.size in
-                subst (λ v. FollowsFrom stage s (h ++ v)) (sym f.joined)
-                    (spelled f.fill f.more (omega (arith, long, none)) enough (λ z. captured_part s.passes_cut original n c most) f.rest)))
-              (λ c. refuse stage k reasons.PacketCut filed sound low))
-            (λ all. let least = lt_untold n original all in go stage _ (length h + room) refl tt tt clean refl (omega (arith, enough))
-                (λ more f. let long = f.size in
-              subst (λ v. FollowsFrom stage s (h ++ v)) (sym f.joined)
-                  (spelled f.fill f.more (omega (arith, long, enough)) enough
-                  (λ z. captured_all s.passes_cut original n (omega (arith, most, least))) f.rest)))))
-        (λ other. go stage _ (length h + room) refl tt tt clean refl (omega (arith, none)) (λ more f. let long = f.size in
-          subst (λ v. FollowsFrom stage s (h ++ v)) (sym f.joined)
-              (spelled f.fill f.more (omega (arith, long, none)) enough (λ z. absurd (eq_untold _ _ other z)) f.rest))))
+      (λ l. when (G stage) (nat_lt original n) _ _ (λ m. refuse stage k reasons.Lengths filed sound low)
+      (λ m. let most = lt_untold original n m in when (G stage) (nat_lt n original) _ _
+      (λ cut. when (G stage) s.passes_cut _ _
+      (λ c. go stage _ (length h + room) refl tt tt clean refl (omega (arith, none)) (λ more f. let long = f.size in
+      subst (λ v. FollowsFrom stage s (h ++ v)) (sym f.joined)
+      (spelled f.fill f.more (omega (arith, long, none)) enough (λ z. captured_part s.passes_cut original n c most) f.rest)))
+      (λ c. refuse stage k reasons.PacketCut filed sound low))
+      (λ all. let least = lt_untold n original all in go stage _ (length h + room) refl tt tt clean refl (omega (arith, enough))
+      (λ more f. let long = f.size in
+      subst (λ v. FollowsFrom stage s (h ++ v)) (sym f.joined)
+      (spelled f.fill f.more (omega (arith, long, enough)) enough
+      (λ z. captured_all s.passes_cut original n (omega (arith, most, least))) f.rest)))))
+      (λ other. go stage _ (length h + room) refl tt tt clean refl (omega (arith, none)) (λ more f. let long = f.size in
+      subst (λ v. FollowsFrom stage s (h ++ v)) (sym f.joined)
+      (spelled f.fill f.more (omega (arith, long, none)) enough (λ z. absurd (eq_untold _ _ other z)) f.rest))))
 
   -- the bytes of a packet of this length, and the rest of its block
   body_parts : (head fill after : List ℕ) (n : ℕ) → n ≤ length fill → head ++ (fill ++ after) ≡
@@ -521,18 +567,18 @@ module _ (p w : ℕ) (s : Scan) (h : List ℕ) (clean : s.fault ≡ None) (none 
   enhanced_goes_by : (stage : Stage) (kind : ℕ) (number : ℕ) (front : List ℕ) → is_raw stage ≡ false → IsSound stage s.total s.rest
       → 32 ≤ s.total → length h ≡ 20
       → ((n : ℕ) → u32_at s.order 12 h ≡ n
-          → h ≡ front ++ (u32_bytes s.order (u32_at s.order 4 h) ++
-          (u32_bytes s.order (u32_at s.order 8 h) ++ (u32_bytes s.order n ++ u32_bytes s.order (u32_at s.order 16 h)))))
+      → h ≡ front ++ (u32_bytes s.order (u32_at s.order 4 h) ++
+      (u32_bytes s.order (u32_at s.order 8 h) ++ (u32_bytes s.order n ++ u32_bytes s.order (u32_at s.order 16 h)))))
       → (block : List ℕ → List ℕ → FileBlock) → ((bytes rest : List ℕ) → block_kind (block bytes rest) ≡ kind)
-          → ((bytes rest : List ℕ) → interfaces_after s.interfaces (block bytes rest) ≡ s.interfaces)
+      → ((bytes rest : List ℕ) → interfaces_after s.interfaces (block bytes rest) ≡ s.interfaces)
       → ((bytes rest : List ℕ) → block_body s.order (block bytes rest) ≡
-          (front ++ (u32_bytes s.order (u32_at s.order 4 h) ++
-          (u32_bytes s.order (u32_at s.order 8 h) ++ (u32_bytes s.order (length bytes) ++ u32_bytes s.order (u32_at s.order 16 h))))) ++
-          (bytes ++ rest))
+      (front ++ (u32_bytes s.order (u32_at s.order 4 h) ++
+      (u32_bytes s.order (u32_at s.order 8 h) ++ (u32_bytes s.order (length bytes) ++ u32_bytes s.order (u32_at s.order 16 h))))) ++
+      (bytes ++ rest))
       → ((i : Interface) (bytes rest : List ℕ) → slice_get s.interfaces number ≡ Some i → length bytes < 2 ^ 32
-          → padded (length bytes) ≤ length bytes + length rest
-          → (i.link_type ≡ 231 → IsCaptured s.passes_cut (u32_at s.order 16 h) (length bytes)) → FitsBlock s.passes_cut s.interfaces
-          (block bytes rest))
+      → padded (length bytes) ≤ length bytes + length rest
+      → (i.link_type ≡ 231 → IsCaptured s.passes_cut (u32_at s.order 16 h) (length bytes)) → FitsBlock s.passes_cut s.interfaces
+      (block bytes rest))
       → ((bytes : List ℕ) → Body (context s) kind bytes → FollowsFrom stage s bytes)
       → (o : Option Interface) → slice_get s.interfaces number ≡ o → G stage (enhanced_by (at stage) h o)
   enhanced_goes_by stage kind number front filed sound least size words block is same body fits taken None e =
@@ -543,31 +589,31 @@ module _ (p w : ℕ) (s : Scan) (h : List ℕ) (clean : s.fault ≡ None) (none 
       let time = time_of i (u32_at s.order 4 h * 2 ^ 32 + u32_at s.order 8 h) in
       subst (λ (v : ℕ). G stage (block_packet (at stage) v 12 (s.total - 32) i.link_type time n original)) size
       (packet_goes stage 12 (s.total - 32) i.link_type time n original filed sound (omega (arith, size)) (omega (arith, size))
-          (λ fill after long enough whole closing.
-        let bytes = take n fill in
-        let rest = drop n fill in
-        let low = u32_low s.order h are 12 in
-        let there : n ≤ length fill = omega (arith, long, enough) in
-        let bytes_size : length bytes ≡ n = length-take-le n fill there in
-        let rest_size = length-drop n fill in
-        let b = block bytes rest in
-        let front_is = words (length bytes) (sym bytes_size) in
-        let all : h ++ (fill ++ after) ≡ block_body s.order b ++ after = body_parts h fill after n there
-            ∙ ap (λ l. l ++ after) (ap (λ l. l ++ (bytes ++ rest)) front_is ∙ sym (body bytes rest)) in
-        let length_all = ap length all in
-        let one = length-append h (fill ++ after) in
-        let two = length-append fill after in
-        let three = length-append (block_body s.order b) after in
-        taken (h ++ (fill ++ after)) (record {
-          block = b;
-          tail = after;
-          kind_is = is bytes rest;
-          size = omega (arith, length_all, one, two, three, size, long, least);
-          fits = fits i bytes rest e (omega (arith, bytes_size, low)) (omega (arith, bytes_size, rest_size, long, enough))
-              (λ z. subst (IsCaptured s.passes_cut original) (sym bytes_size) (whole z));
-          joined = all;
-          closing = subst (λ v. Closing s.passes_cut s.order s.total v after) (sym (same bytes rest)) closing;
-        })))
+      (λ fill after long enough whole closing.
+      let bytes = take n fill in
+      let rest = drop n fill in
+      let low = u32_low s.order h are 12 in
+      let there : n ≤ length fill = omega (arith, long, enough) in
+      let bytes_size : length bytes ≡ n = length-take-le n fill there in
+      let rest_size = length-drop n fill in
+      let b = block bytes rest in
+      let front_is = words (length bytes) (sym bytes_size) in
+      let all : h ++ (fill ++ after) ≡ block_body s.order b ++ after = body_parts h fill after n there
+      ∙ ap (λ l. l ++ after) (ap (λ l. l ++ (bytes ++ rest)) front_is ∙ sym (body bytes rest)) in
+      let length_all = ap length all in
+      let one = length-append h (fill ++ after) in
+      let two = length-append fill after in
+      let three = length-append (block_body s.order b) after in
+      taken (h ++ (fill ++ after)) (record {
+        block = b;
+        tail = after;
+        kind_is = is bytes rest;
+        size = omega (arith, length_all, one, two, three, size, long, least);
+        fits = fits i bytes rest e (omega (arith, bytes_size, low)) (omega (arith, bytes_size, rest_size, long, enough))
+            (λ z. subst (IsCaptured s.passes_cut original) (sym bytes_size) (whole z));
+        joined = all;
+        closing = subst (λ v. Closing s.passes_cut s.order s.total v after) (sym (same bytes rest)) closing;
+      })))
 
   enhanced_goes : length h ≡ 20 → 32 ≤ s.total → G stages.Enhanced (enhanced_head (at stages.Enhanced) h)
   enhanced_goes size least =
@@ -575,10 +621,10 @@ module _ (p w : ℕ) (s : Scan) (h : List ℕ) (clean : s.fault ≡ None) (none 
       let original = u32_at o 16 h in
       enhanced_goes_by stages.Enhanced 6 (u32_at o 0 h) (u32_bytes o (u32_at o 0 h)) refl least least size
       (λ n e. u32_there o h are 0 _ refl (omega (arith, size)) ∙ ap (λ l. u32_bytes o (u32_at o 0 h) ++ l)
-          (words o 4 8 12 16 n refl refl refl e size))
+      (words o 4 8 12 16 n refl refl refl e size))
       (PacketBlock (u32_at o 0 h) (u32_at o 4 h) (u32_at o 8 h) original) (λ bytes rest. refl) (λ bytes rest. refl) (λ bytes rest. refl)
       (λ i bytes rest found low enough whole. (u32_low o h are 0, low, enough, u32_low o h are 16, (i, found, whole))) (λ bytes b. b)
-          (slice_get s.interfaces (u32_at o 0 h)) refl
+      (slice_get s.interfaces (u32_at o 0 h)) refl
 
   obsolete_goes : length h ≡ 20 → 32 ≤ s.total → G stages.ObsoletePacket (obsolete_head (at stages.ObsoletePacket) h)
   obsolete_goes size least =
@@ -588,13 +634,13 @@ module _ (p w : ℕ) (s : Scan) (h : List ℕ) (clean : s.fault ≡ None) (none 
       let drops = u16_bytes o (u16_at o 2 h) in
       enhanced_goes_by stages.ObsoletePacket 2 (u16_at o 0 h) (number ++ drops) refl least least size
       (λ n e. u16_there o h are 0 _ refl (omega (arith, size)) ∙ ap (λ l. number ++ l) (u16_there o h are 2 _ refl (omega (arith, size))
-          ∙ ap (λ l. drops ++ l) (words o 4 8 12 16 n refl refl refl e size))
-        ∙ sym (append_assoc number drops
-            (u32_bytes o (u32_at o 4 h) ++ (u32_bytes o (u32_at o 8 h) ++ (u32_bytes o n ++ u32_bytes o original)))))
+      ∙ ap (λ l. drops ++ l) (words o 4 8 12 16 n refl refl refl e size))
+      ∙ sym (append_assoc number drops
+      (u32_bytes o (u32_at o 4 h) ++ (u32_bytes o (u32_at o 8 h) ++ (u32_bytes o n ++ u32_bytes o original)))))
       (ObsoleteBlock (u16_at o 0 h) (u16_at o 2 h) (u32_at o 4 h) (u32_at o 8 h) original) (λ bytes rest. refl) (λ bytes rest. refl)
-          (λ bytes rest. refl)
+      (λ bytes rest. refl)
       (λ i bytes rest found low enough whole. (u16_low o h are 0, low, enough, u32_low o h are 16, (i, found, whole))) (λ bytes b. b)
-          (slice_get s.interfaces (u16_at o 0 h)) refl
+      (slice_get s.interfaces (u16_at o 0 h)) refl
 
   simple_goes_by : length h ≡ 4 → 16 ≤ s.total → (o : Option Interface) → slice_get s.interfaces 0 ≡ o
       → G stages.Simple (simple_by (at stages.Simple) h o)
@@ -604,27 +650,30 @@ module _ (p w : ℕ) (s : Scan) (h : List ℕ) (clean : s.fault ≡ None) (none 
       let n = captured_length i.snap_length original in
       subst (λ (v : ℕ). G stages.Simple (block_packet (at stages.Simple) v 0 (s.total - 16) i.link_type None n original)) size
       (packet_goes stages.Simple 0 (s.total - 16) i.link_type None n original refl least (omega arith) (omega (arith, size))
-          (λ fill after long enough whole closing.
-        let there : n ≤ length fill = omega (arith, long, enough) in
-        let bytes = take n fill in
-        let rest = drop n fill in
-        let bytes_size : length bytes ≡ n = length-take-le n fill there in
-        let rest_size = length-drop n fill in
-        let all : h ++ (fill ++ after) ≡ (u32_bytes s.order original ++ (bytes ++ rest)) ++ after = body_parts h fill after n there
-            ∙ ap (λ l. (l ++ (bytes ++ rest)) ++ after) (u32_ends s.order h are 0 _ refl size) in
-        let four = u32_size s.order original in
-        let one = length-append (u32_bytes s.order original) (bytes ++ rest) in
-        let two = length-append bytes rest in
-        record {
-          block = SimpleBlock original bytes rest;
-          tail = after;
-          kind_is = refl;
-          size = omega (arith, one, two, four, bytes_size, rest_size, long, least, there);
-          fits = (u32_low s.order h are 0, omega (arith, bytes_size, rest_size, long, enough),
-              (i, e, (sym bytes_size, λ z. subst (IsCaptured s.passes_cut original) (sym bytes_size) (whole z))));
-          joined = all;
-          closing = closing;
-        }))
+      (λ fill after long enough whole closing.
+      let there : n ≤ length fill = omega (arith, long, enough) in
+      let bytes = take n fill in
+      let rest = drop n fill in
+      let bytes_size : length bytes ≡ n = length-take-le n fill there in
+      let rest_size = length-drop n fill in
+      let all : h ++ (fill ++ after) ≡ (u32_bytes s.order original ++ (bytes ++ rest)) ++ after = body_parts h fill after n there
+      ∙ ap (λ l. (l ++ (bytes ++ rest)) ++ after) (u32_ends s.order h are 0 _ refl size) in
+      let four = u32_size s.order original in
+      let one = length-append (u32_bytes s.order original) (bytes ++ rest) in
+      let two = length-append bytes rest in
+      record {
+        block = SimpleBlock original bytes rest;
+        tail = after;
+        kind_is = refl;
+        size = omega (arith, one, two, four, bytes_size, rest_size, long, least, there);
+        fits = (
+          u32_low s.order h are 0,
+          omega (arith, bytes_size, rest_size, long, enough),
+          (i, e, (sym bytes_size, λ z. subst (IsCaptured s.passes_cut original) (sym bytes_size) (whole z))),
+        );
+        joined = all;
+        closing = closing;
+      }))
 
   simple_goes : length h ≡ 4 → 16 ≤ s.total → G stages.Simple (simple_head (at stages.Simple) h)
   simple_goes size least = simple_goes_by size least (slice_get s.interfaces 0) refl
