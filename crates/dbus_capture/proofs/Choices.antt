@@ -43,9 +43,6 @@ eq_told a b e = grind (arith, nat_tests)
 pub eq_untold : (a b : ℕ) → nat_eq a b ≡ false → a ≢ b
 eq_untold a b e = λ same. absurd (let is : nat_eq a b ≡ true = eq_is a b same in let no : ◌≡◌ {A = Bool} true false = sym is ∙ e in cc)
 
-pub lt_told : (a b : ℕ) → nat_lt a b ≡ true → a < b
-lt_told a b e = grind (arith, nat_tests)
-
 pub lt_untold : (a b : ℕ) → nat_lt a b ≡ false → b ≤ a
 lt_untold a b e = grind (arith, nat_tests)
 

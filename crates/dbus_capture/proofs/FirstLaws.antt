@@ -3,7 +3,6 @@ use Rattle.std.proofs.Common.{◌≡◌, ◌≢◌, ◌≤◌, ◌<◌, ℕ, Boo
 use Rattle.std.specs.Prelude.{◌==◌}
 use Rattle.dbus_capture.specs.declared.byte_order.ByteOrder.{ByteOrder}
 use Rattle.dbus_capture.specs.declared.byte_order.ByteOrder.TheVariants.{Little, Big}
-use Rattle.dbus_capture.specs.declared.stage.Stage.{Stage}
 use Rattle.dbus_capture.specs.declared.stage.Stage.TheVariants.{Raw, FileHeader, Section}
 use Rattle.dbus_capture.specs.Numbers.{u32_at, u32_bytes}
 use Rattle.dbus_capture.specs.Heads.{magic}
@@ -14,11 +13,6 @@ use Rattle.dbus_capture.proofs.Choices.{eq_not, lt_false, when_false}
 
 first_by : (bytes : List ℕ) → 4 ≤ length bytes → first_stage bytes ≡ stage_by (u32_at Little 0 bytes)
 first_by bytes enough = when_false _ _ _ (lt_false (length bytes) 4 enough)
-
--- an input that begins as a file does has bytes
-pub some_first : (bytes : List ℕ) (stage : Stage) → first_stage bytes ≡ stage → (Raw ≡ stage → ⊥) → bytes ≢ []
-some_first [] stage first other = absurd (other first)
-some_first (x ∷ xs) stage first other = λ e. cc
 
 -- what follows four bytes does not matter
 pub first_front : (front more : List ℕ) → 4 ≤ length front → first_stage (front ++ more) ≡ first_stage front

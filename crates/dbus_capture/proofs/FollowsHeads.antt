@@ -17,21 +17,22 @@ use Rattle.dbus_capture.specs.declared.scan.Scan.{Scan}
 use Rattle.dbus_capture.specs.Numbers.{u32_bytes, u16_bytes, u32_at, u16_at}
 use Rattle.dbus_capture.specs.Stages.{is_raw, begun}
 use Rattle.dbus_capture.specs.Scans.{place, refused}
-use Rattle.dbus_capture.specs.Heads.{file_header, file_header_by, file_header_in, record_head}
+use Rattle.dbus_capture.specs.Heads.{file_header, file_header_by, file_header_in, record_head, packet_head}
+use Rattle.dbus_capture.specs.declared.packet.PacketHead.{PacketHead}
 use Rattle.dbus_capture.specs.Blocks.{padded, is_length, section_in, section_by, section_head, block_by, block_head, trailer, after_option}
 use Rattle.dbus_capture.specs.Blocks.{interface_head, option_head, pass_option, resolution_head, interface_trailer, block_packet, time_of}
 use Rattle.dbus_capture.specs.Blocks.{enhanced_by, enhanced_head, obsolete_head, captured_length, simple_by, simple_head, decoded}
 use Rattle.dbus_capture.specs.CutPackets.{IsCaptured}
 use Rattle.dbus_capture.specs.Outcomes.{AreBytes}
-use Rattle.dbus_capture.specs.PcapFiles.{PcapHeader, PcapPacket, magic_number}
-use Rattle.dbus_capture.specs.BlockFiles.{FileBlock, InterfaceBlock, PacketBlock, ObsoleteBlock, SimpleBlock, OtherBlock, block_kind}
-use Rattle.dbus_capture.specs.BlockFiles.{block_body, blocks_bytes, interfaces_after, InterfaceOption, options_bytes, end_bytes, FitsOption}
-use Rattle.dbus_capture.specs.BlockFiles.{with_option, with_options, FitsBlock, FileSection, section_body, sections_bytes}
+use Rattle.dbus_capture.specs.PcapFiles.{magic_number}
+use Rattle.dbus_capture.specs.BlockFiles.{InterfaceBlock, PacketBlock, OtherBlock, PacketForm, EnhancedHead, ObsoleteHead, SimpleHead, head_kind, head_bytes, head_interface, FitsHead, block_kind}
+use Rattle.dbus_capture.specs.BlockFiles.{block_body, blocks_bytes, InterfaceOption, options_bytes, end_bytes, FitsOption}
+use Rattle.dbus_capture.specs.BlockFiles.{with_option, with_options, FileSection, section_body, sections_bytes}
 use Rattle.dbus_capture.proofs.Choices.{eq_told, eq_untold, lt_untold, le_untold, when, when_true, when_false}
 use Rattle.dbus_capture.proofs.NumberLaws.{u32_size, u16_size}
 use Rattle.dbus_capture.proofs.ByteLaws.{u32_low, u16_low, u32_there, u16_there, u32_ends, u16_ends}
-use Rattle.dbus_capture.proofs.Follows.{Context, context, PcapFile, Packets, Sections, Blocks, Closing, Options, TimeUnit, Body}
-use Rattle.dbus_capture.proofs.Follows.{FollowsHead, FollowsFrom, Follows, IsSound, IsAt, Standing, Goes, unfilled, HeadsGo}
+use Rattle.dbus_capture.proofs.Follows.{Context, context, Packets, Sections, Blocks, Closing, Options, TimeUnit, Body}
+use Rattle.dbus_capture.proofs.Follows.{FollowsHead, FollowsFrom, Follows, IsSound, IsAt, Goes, unfilled, HeadsGo}
 
 cat : (a b c d : List ℕ) → a ≡ b → c ≡ d → a ++ c ≡ b ++ d
 cat a b c d p q = ap (λ l. l ++ c) p ∙ ap (λ l. b ++ l) q
@@ -89,19 +90,24 @@ regroup_option : (c n v f o e t : List ℕ) → (c ++ n) ++ ((v ++ f) ++ ((o ++ 
 regroup_option c n v f o e t = simp append_assoc
 
 module _ (p w : ℕ) (s : Scan) (h : List ℕ) (clean : s.fault ≡ None) (none : s.give ≡ 0) (no_skip : s.skip ≡ 0)
-    (next : s.next ≡ place (p + w)) (are : AreBytes h) where
+    (next_is : s.next ≡ place (p + w)) (are : AreBytes h) where
   abbrev at : Stage → Scan
   at stage = record s { head = begun stage }
 
   abbrev G : Stage → Scan → Type 0
   G stage t = Goes stage p w s h t
 
-  refuse : (stage : Stage) (k : ℕ) (r : CaptureReason) → is_raw stage ≡ false → IsSound stage s.total s.rest → k ≤ length h
-      → G stage (refused (at stage) k r)
-  refuse stage k r filed sound low = record {
-    stands = record { filed = filed; sound = sound; are = tt; at = (w + k, omega (arith, next), omega (arith, low)) };
+  -- a head of another kind may be there already
+  refuse_in : (stage next : Stage) (k : ℕ) (r : CaptureReason) → is_raw next ≡ false → IsSound next s.total s.rest → k ≤ length h
+      → G stage (refused (at next) k r)
+  refuse_in stage next k r filed sound low = record {
+    stands = record { filed = filed; sound = sound; are = tt; at = (w + k, omega (arith, next_is), omega (arith, low)) };
     follows = λ more f. absurd (let u = f.unfaulted in cc);
   }
+
+  refuse : (stage : Stage) (k : ℕ) (r : CaptureReason) → is_raw stage ≡ false → IsSound stage s.total s.rest → k ≤ length h
+      → G stage (refused (at stage) k r)
+  refuse stage = refuse_in stage stage
 
   go : (stage : Stage) (t : Scan) (k : ℕ) → is_raw t.head.stage ≡ false → IsSound t.head.stage t.total t.rest → AreBytes t.head.bytes
       → t.fault ≡ None → t.next ≡ place (s.next + k)
@@ -113,10 +119,25 @@ module _ (p w : ℕ) (s : Scan) (h : List ℕ) (clean : s.fault ≡ None) (none 
       sound = sound;
       are = held;
       at = subst (IsAt p (w + length h) t) (sym u)
-          (w + k, omega (arith, moved, next), omega (arith, even));
+          (w + k, omega (arith, moved, next_is), omega (arith, even));
     };
     follows = follows;
   }
+
+  -- ---- a packet, if it is of D-Bus
+
+  packet_head_goes : (stage next : Stage) (q : PacketHead) → is_raw next ≡ false → IsSound next s.total s.rest → q.captured_at ≤ length h → q.original_at ≤ length h → q.size ≡ length h → q.captured ≤ q.room
+      → ((more fill after : List ℕ) → more ≡ fill ++ after → length fill ≡ q.room → IsCaptured s.passes_cut q.original q.captured → FollowsFrom next s after → FollowsFrom stage s (h ++ more))
+      → G stage (packet_head (at next) q)
+  packet_head_goes stage next q filed sound low low_original size within spelled =
+      when (G stage) (nat_lt q.original q.captured) _ _ (λ e. refuse_in stage next q.original_at reasons.Lengths filed sound low_original)
+      (λ e. when (G stage) (q.captured == q.original) _ _
+      (λ all. go stage _ (q.size + q.room) filed sound tt clean refl (omega (arith, size, within)) (λ more f. let long = f.size in
+      spelled more f.fill f.more f.joined (omega (arith, long, within)) (captured_all s.passes_cut q.original q.captured (sym (eq_told _ _ all))) f.rest))
+      (λ part. when (G stage) s.passes_cut _ _
+      (λ c. go stage _ (q.size + q.room) filed sound tt clean refl (omega (arith, size, none)) (λ more f. let long = f.size in
+      spelled more f.fill f.more f.joined (omega (arith, long, none)) (captured_part s.passes_cut q.original q.captured c (lt_untold _ _ e)) f.rest))
+      (λ c. refuse_in stage next q.captured_at reasons.PacketCut filed sound low)))
 
   -- ---- a pcap file
 
@@ -190,19 +211,8 @@ module _ (p w : ℕ) (s : Scan) (h : List ℕ) (clean : s.fault ≡ None) (none 
 
   record_goes : length h ≡ 16 → G stages.Record (record_head (at stages.Record) h)
   record_goes size =
-      let n = u32_at s.order 8 h in
-      let original = u32_at s.order 12 h in
-      when (G stages.Record) (nat_lt original n) _ _ (λ e. refuse stages.Record 12 reasons.Lengths refl tt (omega (arith, size)))
-      (λ e. let most = lt_untold original n e in when (G stages.Record) (nat_lt n original) _ _
-      (λ l. when (G stages.Record) s.passes_cut _ _
-      (λ c. go stages.Record _ (16 + n) refl tt tt clean refl (omega (arith, size, none)) (λ more f.
-      let long = f.size in packet_first size (captured_part s.passes_cut original n c most) more f.fill f.more
-      (omega (arith, long, none)) f.joined f.rest))
-      (λ c. refuse stages.Record 8 reasons.PacketCut refl tt (omega (arith, size))))
-      (λ l. let least = lt_untold n original l in go stages.Record _ (16 + n) refl tt tt clean refl (omega (arith, size, no_skip))
-      (λ more f.
-      let long = f.size in packet_first size (captured_all s.passes_cut original n (omega (arith, most, least))) more f.fill f.more
-      (omega (arith, long, no_skip)) f.joined f.rest)))
+      packet_head_goes stages.Record stages.Record _ refl tt (omega (arith, size)) (omega (arith, size)) (sym size) (omega arith)
+      (λ more fill after joined long whole q. packet_first size whole more fill after long joined q)
 
   -- ---- the first block of a section
 
@@ -304,7 +314,7 @@ module _ (p w : ℕ) (s : Scan) (h : List ℕ) (clean : s.fault ≡ None) (none 
       let total = u32_at o 4 h in
       let P : Option (Stage × ℕ) → Type 0 = λ (v : Option (Stage × ℕ)). G stages.Block (block_by (at stages.Block) total v) in
       when (G stages.Block) (kind == 0x0a0d0d0a) _ _
-      (λ e. go stages.Block _ 0 refl tt are clean (omega (arith, next)) (omega (arith, none, no_skip)) (λ more f.
+      (λ e. go stages.Block _ 0 refl tt are clean (omega (arith, next_is)) (omega (arith, none, no_skip)) (λ more f.
       let q : Sections s.passes_cut (h ++ more) = unfilled _ more none no_skip f in
       record { blocks = []; sections = q.first ∷ q.sections; fit = tt; fits = (q.fits, q.fit); joined = q.joined }))
       (λ no_section. when P (kind == 1) _ _ (λ e. reads stages.InterfaceHead 20 1 refl (λ whole least. (least, refl, whole))
@@ -534,146 +544,88 @@ module _ (p w : ℕ) (s : Scan) (h : List ℕ) (clean : s.fault ≡ None) (none 
 
   -- ---- a packet
 
-  packet_goes : (stage : Stage) (k room link_type : ℕ) (time : Option ℕ) (n original : ℕ) → is_raw stage ≡ false
-      → IsSound stage s.total s.rest → k ≤ length h → length h ≤ 20
-      → ((fill after : List ℕ) → length fill ≡ room → padded n ≤ room → (link_type ≡ 231 → IsCaptured s.passes_cut original n)
-      → Closing s.passes_cut s.order s.total s.interfaces after → FollowsFrom stage s (h ++ (fill ++ after)))
-      → G stage (block_packet (at stage) (length h) k room link_type time n original)
-  packet_goes stage k room link_type time n original filed sound low small spelled =
-      when (G stage) (nat_lt room (padded n)) _ _ (λ e. refuse stage k reasons.Lengths filed sound low)
-      (λ e. let enough = lt_untold room (padded n) e in when (G stage) (link_type == 231) _ _
-      (λ l. when (G stage) (nat_lt original n) _ _ (λ m. refuse stage k reasons.Lengths filed sound low)
-      (λ m. let most = lt_untold original n m in when (G stage) (nat_lt n original) _ _
-      (λ cut. when (G stage) s.passes_cut _ _
-      (λ c. go stage _ (length h + room) refl tt tt clean refl (omega (arith, none)) (λ more f. let long = f.size in
-      subst (λ v. FollowsFrom stage s (h ++ v)) (sym f.joined)
-      (spelled f.fill f.more (omega (arith, long, none)) enough (λ z. captured_part s.passes_cut original n c most) f.rest)))
-      (λ c. refuse stage k reasons.PacketCut filed sound low))
-      (λ all. let least = lt_untold n original all in go stage _ (length h + room) refl tt tt clean refl (omega (arith, enough))
-      (λ more f. let long = f.size in
-      subst (λ v. FollowsFrom stage s (h ++ v)) (sym f.joined)
-      (spelled f.fill f.more (omega (arith, long, enough)) enough
-      (λ z. captured_all s.passes_cut original n (omega (arith, most, least))) f.rest)))))
-      (λ other. go stage _ (length h + room) refl tt tt clean refl (omega (arith, none)) (λ more f. let long = f.size in
-      subst (λ v. FollowsFrom stage s (h ++ v)) (sym f.joined)
-      (spelled f.fill f.more (omega (arith, long, none)) enough (λ z. absurd (eq_untold _ _ other z)) f.rest))))
+  -- the packet of a block whose head has this form, and the rest of the block
+  module _ (stage : Stage) (k : ℕ) (form : PacketForm) (i : Interface) (time : Option ℕ) (n original : ℕ) (filed : is_raw stage ≡ false) (sound : IsSound stage s.total s.rest) (place_low : k ≤ length h)
+      (small : length h ≤ 20) (least : length h + 12 ≤ s.total) (found : slice_get s.interfaces (head_interface form) ≡ Some i) (low : original < 2 ^ 32)
+      (words : (m : ℕ) → n ≡ m → (h ≡ head_bytes s.order form m original) × FitsHead form i m original)
+      (taken : (bytes : List ℕ) → Body (context s) (head_kind form) bytes → FollowsFrom stage s bytes) where
+    abbrev room : ℕ
+    room = s.total - (length h + 12)
 
-  -- the bytes of a packet of this length, and the rest of its block
-  body_parts : (head fill after : List ℕ) (n : ℕ) → n ≤ length fill → head ++ (fill ++ after) ≡
-      (head ++ (take n fill ++ drop n fill)) ++ after
-  body_parts head fill after n low = sym (append_assoc head (take n fill ++ drop n fill) after ∙ ap (λ l. head ++ (l ++ after))
-      (take-append-drop n fill))
+    spelled : (more fill after : List ℕ) → more ≡ fill ++ after → length fill ≡ room → padded n ≤ room → (i.link_type ≡ 231 → IsCaptured s.passes_cut original n)
+        → Closing s.passes_cut s.order s.total s.interfaces after → FollowsFrom stage s (h ++ more)
+    spelled more fill after joined long enough whole closing =
+        let bytes = take n fill in
+        let rest = drop n fill in
+        let bytes_size : length bytes ≡ n = length-take-le n fill (omega (arith, long, enough)) in
+        let rest_size = length-drop n fill in
+        let told = words (length bytes) (sym bytes_size) in
+        let all : h ++ more ≡ (head_bytes s.order form (length bytes) original ++ (bytes ++ rest)) ++ after =
+        cat _ _ _ _ told.0 (joined ∙ ap (λ l. l ++ after) (sym (take-append-drop n fill))) ∙ sym (append_assoc (head_bytes s.order form (length bytes) original) (bytes ++ rest) after) in
+        let one = ap length told.0 in
+        let two = length-append (head_bytes s.order form (length bytes) original) (bytes ++ rest) in
+        let three = length-append bytes rest in
+        taken (h ++ more) (record {
+          block = PacketBlock form original bytes rest;
+          tail = after;
+          kind_is = refl;
+          size = omega (arith, one, two, three, bytes_size, rest_size, long, least, enough);
+          fits = (
+            low,
+            omega (arith, bytes_size, rest_size, long, enough),
+            (i, found, (told.1, λ z. subst (IsCaptured s.passes_cut original) (sym bytes_size) (whole z))),
+          );
+          joined = all;
+          closing = closing;
+        })
 
-  enhanced_goes_by : (stage : Stage) (kind : ℕ) (number : ℕ) (front : List ℕ) → is_raw stage ≡ false → IsSound stage s.total s.rest
-      → 32 ≤ s.total → length h ≡ 20
-      → ((n : ℕ) → u32_at s.order 12 h ≡ n
-      → h ≡ front ++ (u32_bytes s.order (u32_at s.order 4 h) ++
-      (u32_bytes s.order (u32_at s.order 8 h) ++ (u32_bytes s.order n ++ u32_bytes s.order (u32_at s.order 16 h)))))
-      → (block : List ℕ → List ℕ → FileBlock) → ((bytes rest : List ℕ) → block_kind (block bytes rest) ≡ kind)
-      → ((bytes rest : List ℕ) → interfaces_after s.interfaces (block bytes rest) ≡ s.interfaces)
-      → ((bytes rest : List ℕ) → block_body s.order (block bytes rest) ≡
-      (front ++ (u32_bytes s.order (u32_at s.order 4 h) ++
-      (u32_bytes s.order (u32_at s.order 8 h) ++ (u32_bytes s.order (length bytes) ++ u32_bytes s.order (u32_at s.order 16 h))))) ++
-      (bytes ++ rest))
-      → ((i : Interface) (bytes rest : List ℕ) → slice_get s.interfaces number ≡ Some i → length bytes < 2 ^ 32
-      → padded (length bytes) ≤ length bytes + length rest
-      → (i.link_type ≡ 231 → IsCaptured s.passes_cut (u32_at s.order 16 h) (length bytes)) → FitsBlock s.passes_cut s.interfaces
-      (block bytes rest))
-      → ((bytes : List ℕ) → Body (context s) kind bytes → FollowsFrom stage s bytes)
-      → (o : Option Interface) → slice_get s.interfaces number ≡ o → G stage (enhanced_by (at stage) h o)
-  enhanced_goes_by stage kind number front filed sound least size words block is same body fits taken None e =
-      refuse stage 0 reasons.NoInterface filed sound (omega arith)
-  enhanced_goes_by stage kind number front filed sound least size words block is same body fits taken (Some i) e =
-      let n = u32_at s.order 12 h in
-      let original = u32_at s.order 16 h in
+    packet_goes : G stage (block_packet (at stage) i.link_type (record { before = 8; size = length h; captured_at = k; original_at = k; room = room; time = time; captured = n; original = original }))
+    packet_goes =
+        when (G stage) (nat_lt room (padded n)) _ _ (λ e. refuse stage k reasons.Lengths filed sound place_low)
+        (λ e. let enough = lt_untold room (padded n) e in when (G stage) (i.link_type == 231) _ _
+        (λ l. packet_head_goes stage stages.Trailer _ refl tt place_low place_low refl (omega (arith, enough)) (λ more fill after joined long whole f. spelled more fill after joined long enough (λ z. whole) f))
+        (λ other. go stage _ (length h + room) refl tt tt clean refl (omega (arith, none))
+        (λ more f. let long = f.size in spelled more f.fill f.more f.joined (omega (arith, long, none)) enough (λ z. absurd (eq_untold _ _ other z)) f.rest)))
+
+  enhanced_by_goes : (stage : Stage) (form : PacketForm) → is_raw stage ≡ false → IsSound stage s.total s.rest → 32 ≤ s.total → length h ≡ 20
+      → ((i : Interface) (n : ℕ) → u32_at s.order 12 h ≡ n → (h ≡ head_bytes s.order form n (u32_at s.order 16 h)) × FitsHead form i n (u32_at s.order 16 h))
+      → ((bytes : List ℕ) → Body (context s) (head_kind form) bytes → FollowsFrom stage s bytes)
+      → (o : Option Interface) → slice_get s.interfaces (head_interface form) ≡ o → G stage (enhanced_by (at stage) h o)
+  enhanced_by_goes stage form filed sound least size words taken None e = refuse stage 0 reasons.NoInterface filed sound (omega arith)
+  enhanced_by_goes stage form filed sound least size words taken (Some i) e =
       let time = time_of i (u32_at s.order 4 h * 2 ^ 32 + u32_at s.order 8 h) in
-      subst (λ (v : ℕ). G stage (block_packet (at stage) v 12 (s.total - 32) i.link_type time n original)) size
-      (packet_goes stage 12 (s.total - 32) i.link_type time n original filed sound (omega (arith, size)) (omega (arith, size))
-      (λ fill after long enough whole closing.
-      let bytes = take n fill in
-      let rest = drop n fill in
-      let low = u32_low s.order h are 12 in
-      let there : n ≤ length fill = omega (arith, long, enough) in
-      let bytes_size : length bytes ≡ n = length-take-le n fill there in
-      let rest_size = length-drop n fill in
-      let b = block bytes rest in
-      let front_is = words (length bytes) (sym bytes_size) in
-      let all : h ++ (fill ++ after) ≡ block_body s.order b ++ after = body_parts h fill after n there
-      ∙ ap (λ l. l ++ after) (ap (λ l. l ++ (bytes ++ rest)) front_is ∙ sym (body bytes rest)) in
-      let length_all = ap length all in
-      let one = length-append h (fill ++ after) in
-      let two = length-append fill after in
-      let three = length-append (block_body s.order b) after in
-      taken (h ++ (fill ++ after)) (record {
-        block = b;
-        tail = after;
-        kind_is = is bytes rest;
-        size = omega (arith, length_all, one, two, three, size, long, least);
-        fits = fits i bytes rest e (omega (arith, bytes_size, low)) (omega (arith, bytes_size, rest_size, long, enough))
-            (λ z. subst (IsCaptured s.passes_cut original) (sym bytes_size) (whole z));
-        joined = all;
-        closing = subst (λ v. Closing s.passes_cut s.order s.total v after) (sym (same bytes rest)) closing;
-      })))
+      subst (λ (v : ℕ). G stage (block_packet (at stage) i.link_type (record { before = 8; size = v; captured_at = 12; original_at = 12; room = s.total - (v + 12); time = time; captured = u32_at s.order 12 h; original = u32_at s.order 16 h }))) size
+      (packet_goes stage 12 form i time (u32_at s.order 12 h) (u32_at s.order 16 h) filed sound (omega (arith, size)) (omega (arith, size)) (omega (arith, size, least)) e (u32_low s.order h are 16) (words i) taken)
 
   enhanced_goes : length h ≡ 20 → 32 ≤ s.total → G stages.Enhanced (enhanced_head (at stages.Enhanced) h)
   enhanced_goes size least =
       let o = s.order in
-      let original = u32_at o 16 h in
-      enhanced_goes_by stages.Enhanced 6 (u32_at o 0 h) (u32_bytes o (u32_at o 0 h)) refl least least size
-      (λ n e. u32_there o h are 0 _ refl (omega (arith, size)) ∙ ap (λ l. u32_bytes o (u32_at o 0 h) ++ l)
-      (words o 4 8 12 16 n refl refl refl e size))
-      (PacketBlock (u32_at o 0 h) (u32_at o 4 h) (u32_at o 8 h) original) (λ bytes rest. refl) (λ bytes rest. refl) (λ bytes rest. refl)
-      (λ i bytes rest found low enough whole. (u32_low o h are 0, low, enough, u32_low o h are 16, (i, found, whole))) (λ bytes b. b)
-      (slice_get s.interfaces (u32_at o 0 h)) refl
+      let number = u32_at o 0 h in
+      enhanced_by_goes stages.Enhanced (EnhancedHead number (u32_at o 4 h) (u32_at o 8 h)) refl least least size
+      (λ i n e. (u32_there o h are 0 _ refl (omega (arith, size)) ∙ ap (λ l. u32_bytes o number ++ l) (words o 4 8 12 16 n refl refl refl e size), u32_low o h are 0))
+      (λ bytes b. b) (slice_get s.interfaces number) refl
 
   obsolete_goes : length h ≡ 20 → 32 ≤ s.total → G stages.ObsoletePacket (obsolete_head (at stages.ObsoletePacket) h)
   obsolete_goes size least =
       let o = s.order in
-      let original = u32_at o 16 h in
-      let number = u16_bytes o (u16_at o 0 h) in
-      let drops = u16_bytes o (u16_at o 2 h) in
-      enhanced_goes_by stages.ObsoletePacket 2 (u16_at o 0 h) (number ++ drops) refl least least size
-      (λ n e. u16_there o h are 0 _ refl (omega (arith, size)) ∙ ap (λ l. number ++ l) (u16_there o h are 2 _ refl (omega (arith, size))
-      ∙ ap (λ l. drops ++ l) (words o 4 8 12 16 n refl refl refl e size))
-      ∙ sym (append_assoc number drops
-      (u32_bytes o (u32_at o 4 h) ++ (u32_bytes o (u32_at o 8 h) ++ (u32_bytes o n ++ u32_bytes o original)))))
-      (ObsoleteBlock (u16_at o 0 h) (u16_at o 2 h) (u32_at o 4 h) (u32_at o 8 h) original) (λ bytes rest. refl) (λ bytes rest. refl)
-      (λ bytes rest. refl)
-      (λ i bytes rest found low enough whole. (u16_low o h are 0, low, enough, u32_low o h are 16, (i, found, whole))) (λ bytes b. b)
-      (slice_get s.interfaces (u16_at o 0 h)) refl
+      let number = u16_at o 0 h in
+      let drops = u16_at o 2 h in
+      enhanced_by_goes stages.ObsoletePacket (ObsoleteHead number drops (u32_at o 4 h) (u32_at o 8 h)) refl least least size
+      (λ i n e. (
+        u16_there o h are 0 _ refl (omega (arith, size)) ∙ ap (λ l. u16_bytes o number ++ l) (u16_there o h are 2 _ refl (omega (arith, size))
+            ∙ ap (λ l. u16_bytes o drops ++ l) (words o 4 8 12 16 n refl refl refl e size)) ∙ sym (append_assoc (u16_bytes o number) (u16_bytes o drops) _),
+        u16_low o h are 0,
+      ))
+      (λ bytes b. b) (slice_get s.interfaces number) refl
 
-  simple_goes_by : length h ≡ 4 → 16 ≤ s.total → (o : Option Interface) → slice_get s.interfaces 0 ≡ o
-      → G stages.Simple (simple_by (at stages.Simple) h o)
+  simple_goes_by : length h ≡ 4 → 16 ≤ s.total → (o : Option Interface) → slice_get s.interfaces 0 ≡ o → G stages.Simple (simple_by (at stages.Simple) h o)
   simple_goes_by size least None e = refuse stages.Simple 0 reasons.NoInterface refl least (omega arith)
   simple_goes_by size least (Some i) e =
       let original = u32_at s.order 0 h in
       let n = captured_length i.snap_length original in
-      subst (λ (v : ℕ). G stages.Simple (block_packet (at stages.Simple) v 0 (s.total - 16) i.link_type None n original)) size
-      (packet_goes stages.Simple 0 (s.total - 16) i.link_type None n original refl least (omega arith) (omega (arith, size))
-      (λ fill after long enough whole closing.
-      let there : n ≤ length fill = omega (arith, long, enough) in
-      let bytes = take n fill in
-      let rest = drop n fill in
-      let bytes_size : length bytes ≡ n = length-take-le n fill there in
-      let rest_size = length-drop n fill in
-      let all : h ++ (fill ++ after) ≡ (u32_bytes s.order original ++ (bytes ++ rest)) ++ after = body_parts h fill after n there
-      ∙ ap (λ l. (l ++ (bytes ++ rest)) ++ after) (u32_ends s.order h are 0 _ refl size) in
-      let four = u32_size s.order original in
-      let one = length-append (u32_bytes s.order original) (bytes ++ rest) in
-      let two = length-append bytes rest in
-      record {
-        block = SimpleBlock original bytes rest;
-        tail = after;
-        kind_is = refl;
-        size = omega (arith, one, two, four, bytes_size, rest_size, long, least, there);
-        fits = (
-          u32_low s.order h are 0,
-          omega (arith, bytes_size, rest_size, long, enough),
-          (i, e, (sym bytes_size, λ z. subst (IsCaptured s.passes_cut original) (sym bytes_size) (whole z))),
-        );
-        joined = all;
-        closing = closing;
-      }))
+      subst (λ (v : ℕ). G stages.Simple (block_packet (at stages.Simple) i.link_type (record { before = 8; size = v; captured_at = 0; original_at = 0; room = s.total - (v + 12); time = None; captured = n; original = original }))) size
+      (packet_goes stages.Simple 0 SimpleHead i None n original refl least (omega arith) (omega (arith, size)) (omega (arith, size, least)) e (u32_low s.order h are 0)
+      (λ m same. (u32_ends s.order h are 0 _ refl size, same)) (λ bytes b. b))
 
   simple_goes : length h ≡ 4 → 16 ≤ s.total → G stages.Simple (simple_head (at stages.Simple) h)
   simple_goes size least = simple_goes_by size least (slice_get s.interfaces 0) refl

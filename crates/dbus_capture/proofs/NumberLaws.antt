@@ -1,11 +1,11 @@
 -- Numbers that are read where they were written.
-use Rattle.std.proofs.Common.{◌≡◌, ℕ, ◌+◌, ◌-◌, ◌<◌, ◌≤◌, ◌^◌, List, [], ◌++◌, length, take, drop, refl, sym, ap, ◌∙◌, arith, append-nil}
+use Rattle.std.proofs.Common.{◌≡◌, ℕ, ◌+◌, ◌-◌, ◌<◌, ◌≤◌, ◌^◌, List, ◌++◌, length, take, drop, refl, sym, ap, ◌∙◌, arith}
 use Rattle.std.specs.List.{slice_range}
-use Rattle.std.proofs.lemmas.List.{take_at, drop_at, length-drop, drop-drop, drop-append-le, take-append-le}
+use Rattle.std.proofs.lemmas.List.{take_all, drop_at, length-drop, drop-append-le, take-append-le}
 use Rattle.std.proofs.lemmas.Nat.{from_le_bytes-to_le_bytes_4, from_be_bytes-to_be_bytes_4, from_le_bytes-to_le_bytes_2, from_be_bytes-to_be_bytes_2}
 use Rattle.dbus_capture.specs.declared.byte_order.ByteOrder.{ByteOrder}
 use Rattle.dbus_capture.specs.declared.byte_order.ByteOrder.TheVariants.{Little, Big}
-use Rattle.dbus_capture.specs.Numbers.{u32_of, u16_of, u32_bytes, u16_bytes, u32_at, u16_at}
+use Rattle.dbus_capture.specs.Numbers.{u32_of, u16_of, u32_bytes, u16_bytes, u32_at}
 
 pub u32_size : (o : ByteOrder) (n : ℕ) → length (u32_bytes o n) ≡ 4
 u32_size Little n = refl
@@ -23,21 +23,11 @@ pub u16_again : (o : ByteOrder) (n : ℕ) → n < 2 ^ 16 → u16_of o (u16_bytes
 u16_again Little n h = from_le_bytes-to_le_bytes_2 n h
 u16_again Big n h = from_be_bytes-to_be_bytes_2 n h
 
--- the part that comes after a front
-pub part_after : (front part rest : List ℕ) (k n : ℕ) → length front ≡ k → length part ≡ n → slice_range (front ++ (part ++ rest)) k (k + n) ≡ part
-part_after front part rest k n f p =
-    let size : k + n - k ≡ n = omega arith in
-    ap (λ m. take m (drop k (front ++ (part ++ rest)))) size ∙ ap (take n) (drop_at front (part ++ rest) k f) ∙ take_at part rest n p
-
-pub u32_after : (o : ByteOrder) (front : List ℕ) (n : ℕ) (rest : List ℕ) (k : ℕ) → length front ≡ k → n < 2 ^ 32 → u32_at o k (front ++ (u32_bytes o n ++ rest)) ≡ n
-u32_after o front n rest k f h = ap (u32_of o) (part_after front (u32_bytes o n) rest k 4 f (u32_size o n)) ∙ u32_again o n h
-
-pub u16_after : (o : ByteOrder) (front : List ℕ) (n : ℕ) (rest : List ℕ) (k : ℕ) → length front ≡ k → n < 2 ^ 16 → u16_at o k (front ++ (u16_bytes o n ++ rest)) ≡ n
-u16_after o front n rest k f h = ap (u16_of o) (part_after front (u16_bytes o n) rest k 2 f (u16_size o n)) ∙ u16_again o n h
-
 -- the last part
 pub u32_last : (o : ByteOrder) (front : List ℕ) (n k : ℕ) → length front ≡ k → n < 2 ^ 32 → u32_at o k (front ++ u32_bytes o n) ≡ n
-u32_last o front n k f h = ap (λ l. u32_at o k (front ++ l)) (sym (append-nil (u32_bytes o n))) ∙ u32_after o front n [] k f h
+u32_last o front n k f h =
+    let size : k + 4 - k ≡ 4 = omega arith in
+    ap (u32_of o) (ap (λ m. take m (drop k (front ++ u32_bytes o n))) size ∙ ap (take 4) (drop_at front (u32_bytes o n) k f) ∙ take_all 4 (u32_bytes o n) (let z = u32_size o n in omega (arith, z))) ∙ u32_again o n h
 
 -- ---- in front of more bytes
 
@@ -50,16 +40,3 @@ part_of_front front more k n h =
 
 pub u32_in_front : (o : ByteOrder) (front more : List ℕ) (k : ℕ) → k + 4 ≤ length front → u32_at o k (front ++ more) ≡ u32_at o k front
 u32_in_front o front more k h = ap (u32_of o) (part_of_front front more k 4 h)
-
-pub u16_in_front : (o : ByteOrder) (front more : List ℕ) (k : ℕ) → k + 2 ≤ length front → u16_at o k (front ++ more) ≡ u16_at o k front
-u16_in_front o front more k h = ap (u16_of o) (part_of_front front more k 2 h)
-
--- the first one, and one that comes after a part
-pub u32_now : (o : ByteOrder) (n : ℕ) (rest : List ℕ) → n < 2 ^ 32 → u32_at o 0 (u32_bytes o n ++ rest) ≡ n
-u32_now o n rest h = u32_after o [] n rest 0 refl h
-
-pub u32_skip : (o : ByteOrder) (part rest : List ℕ) (k : ℕ) → length part ≡ 4 → u32_at o (4 + k) (part ++ rest) ≡ u32_at o k rest
-u32_skip o part rest k e =
-    let size : 4 + k + 4 - (4 + k) ≡ k + 4 - k = omega arith in
-    ap (u32_of o) (ap (λ m. take m (drop (4 + k) (part ++ rest))) size
-    ∙ ap (take (k + 4 - k)) (sym (drop-drop k 4 (part ++ rest)) ∙ ap (drop k) (drop_at part rest 4 e)))

@@ -1,12 +1,11 @@
 -- How many bytes at once are read as they are one by one.
-use Rattle.std.proofs.Common.{◌≡◌, ℕ, zero, suc, ◌+◌, ◌-◌, ◌≤◌, ◌^◌, Bool, true, false, cond, List, [], ◌∷◌, ◌++◌, length, Option, Some, None, is_some, refl, ap, ◌∙◌, arith}
+use Rattle.std.proofs.Common.{◌≡◌, ℕ, zero, suc, ◌+◌, ◌-◌, ◌≤◌, ◌^◌, Bool, true, false, cond, List, [], ◌∷◌, ◌++◌, length, Option, Some, None, is_some, refl, sym, ap, ◌∙◌, arith, ◌≢◌, ◌<◌, append_assoc, append-nil, nat_eq, length-append}
 use Rattle.dbus_capture.specs.declared.fault.CaptureFault.{CaptureFault}
-use Rattle.dbus_capture.specs.declared.stage.Stage.{Stage}
-use Rattle.dbus_capture.specs.declared.stage.Stage.TheVariants.{Raw}
-use Rattle.dbus_capture.specs.Stages.{is_raw, is_filed}
+use Rattle.dbus_capture.specs.Stages.{want, is_raw, begun}
 use Rattle.dbus_capture.specs.declared.scan.Scan.{Scan}
-use Rattle.dbus_capture.specs.Steps.{Turn, Stays, Passes, Gives, Skips, Gathers, turn_by, turn_of, stepped, with_byte, step, run, told, given, may_end, ended}
+use Rattle.dbus_capture.specs.Steps.{Turn, Stays, Passes, Gives, Skips, Gathers, turn_by, turn_of, stepped, gathered, with_byte, step, run, told, given, may_end, ended}
 use Rattle.dbus_capture.specs.Scans.{place}
+use Rattle.dbus_capture.specs.Blocks.{decoded}
 use Rattle.dbus_capture.specs.declared.fault.CaptureReason.TheVariants.{Truncated}
 
 -- ---- any pieces
@@ -61,10 +60,6 @@ turn_gathers None false (suc m) skip p q h k = absurd (omega (arith, h))
 turn_gathers None false zero (suc m) p q h k = absurd (omega (arith, k))
 turn_gathers None false zero zero p q h k = refl
 
-pub filed_not_raw : (stage : Stage) → is_filed stage ≡ true → is_raw stage ≡ false
-filed_not_raw Raw p = cc
-filed_not_raw _ p = refl
-
 -- ---- one turn
 
 step_as : (s : Scan) (b : ℕ) (t : Turn) → turn_of s ≡ t → step s b ≡ stepped s b t
@@ -105,14 +100,13 @@ run_raw s (x ∷ xs) p q =
     let rest = run_raw s xs p q in
     (run_first s x Passes xs t ∙ rest.0, given_first s x Passes xs t ∙ ap (λ l. x ∷ l) rest.1)
 
-pub run_gives : (s : Scan) (xs : List ℕ) → s.fault ≡ None → is_filed s.head.stage ≡ true → length xs ≤ s.give
+pub run_gives : (s : Scan) (xs : List ℕ) → s.fault ≡ None → is_raw s.head.stage ≡ false → length xs ≤ s.give
     → (run s xs ≡ record s { give = s.give - length xs }) × (given s xs ≡ xs)
 unfolding run given told
 run_gives s [] p q h = (ap (λ (n : ℕ). record s { give = n }) (let e : s.give ≡ s.give - 0 = omega arith in e), refl)
 run_gives s (x ∷ xs) p q h =
     let some : s.give ≡ suc (s.give - 1) = omega (arith, h) in
-    let raw = filed_not_raw s.head.stage q in
-    let t : turn_of s ≡ Gives = turn_gives s.fault (is_raw s.head.stage) s.give s.skip (s.give - 1) p raw some in
+    let t : turn_of s ≡ Gives = turn_gives s.fault (is_raw s.head.stage) s.give s.skip (s.give - 1) p q some in
     let fewer : length xs ≤ s.give - 1 = omega (arith, h) in
     let rest = run_gives (record s { give = s.give - 1 }) xs p q fewer in
     let left : s.give - 1 - length xs ≡ s.give - suc (length xs) = omega arith in (
@@ -120,19 +114,84 @@ run_gives s (x ∷ xs) p q h =
       given_first s x Gives xs t ∙ ap (λ l. x ∷ l) rest.1,
     )
 
-pub run_skips : (s : Scan) (xs : List ℕ) → s.fault ≡ None → is_filed s.head.stage ≡ true → s.give ≡ 0 → length xs ≤ s.skip
+pub run_skips : (s : Scan) (xs : List ℕ) → s.fault ≡ None → is_raw s.head.stage ≡ false → s.give ≡ 0 → length xs ≤ s.skip
     → (run s xs ≡ record s { skip = s.skip - length xs }) × (given s xs ≡ [])
 unfolding run given told
 run_skips s [] p q z h = (ap (λ (n : ℕ). record s { skip = n }) (let e : s.skip ≡ s.skip - 0 = omega arith in e), refl)
 run_skips s (x ∷ xs) p q z h =
     let some : s.skip ≡ suc (s.skip - 1) = omega (arith, h) in
-    let raw = filed_not_raw s.head.stage q in
-    let t : turn_of s ≡ Skips = turn_skips s.fault (is_raw s.head.stage) s.give s.skip (s.skip - 1) p raw z some in
+    let t : turn_of s ≡ Skips = turn_skips s.fault (is_raw s.head.stage) s.give s.skip (s.skip - 1) p q z some in
     let fewer : length xs ≤ s.skip - 1 = omega (arith, h) in
     let rest = run_skips (record s { skip = s.skip - 1 }) xs p q z fewer in
     let left : s.skip - 1 - length xs ≡ s.skip - suc (length xs) = omega arith in (
       run_first s x Skips xs t ∙ rest.0 ∙ ap (λ (n : ℕ). record s { skip = n }) left,
       given_first s x Skips xs t ∙ rest.1,
+    )
+
+-- ---- a head that comes in pieces
+
+eq_same : (a b : ℕ) → a ≡ b → nat_eq a b ≡ true
+eq_same a b e = grind (arith, e)
+
+eq_other : (a b : ℕ) → a < b → nat_eq a b ≡ false
+eq_other a b h = grind (arith, h)
+
+gathered_more : (s : Scan) (bytes : List ℕ) → length bytes < want s.head.stage → gathered s bytes ≡ record s { head = record { stage = s.head.stage; bytes = bytes } }
+gathered_more s bytes h =
+    ap (λ (b : Bool). cond b (decoded (record s { head = begun s.head.stage }) bytes) (record s { head = record { stage = s.head.stage; bytes = bytes } })) (eq_other _ _ h)
+
+gathered_all : (s : Scan) (bytes : List ℕ) → length bytes ≡ want s.head.stage → gathered s bytes ≡ decoded (record s { head = begun s.head.stage }) bytes
+gathered_all s bytes h =
+    ap (λ (b : Bool). cond b (decoded (record s { head = begun s.head.stage }) bytes) (record s { head = record { stage = s.head.stage; bytes = bytes } })) (eq_same _ _ h)
+
+one_more : (held : List ℕ) (x : ℕ) → length (held ++ x ∷ []) ≡ length held + 1
+one_more held x = length-append held (x ∷ [])
+
+regrouped : (held : List ℕ) (x : ℕ) (xs : List ℕ) → (held ++ x ∷ []) ++ xs ≡ held ++ x ∷ xs
+regrouped held x xs = append_assoc held (x ∷ []) xs
+
+-- less than the whole head
+pub run_gathers : (s : Scan) (xs : List ℕ) → s.fault ≡ None → is_raw s.head.stage ≡ false → s.give ≡ 0 → s.skip ≡ 0 → length s.head.bytes + length xs < want s.head.stage
+    → (run s xs ≡ record s { head = record { stage = s.head.stage; bytes = s.head.bytes ++ xs } }) × (given s xs ≡ [])
+unfolding run given told
+run_gathers s [] p q z k h = (ap (λ (l : List ℕ). record s { head = record { stage = s.head.stage; bytes = l } }) (sym (append-nil s.head.bytes)), refl)
+run_gathers s (x ∷ xs) p q z k h =
+    let held = s.head.bytes in
+    let t : turn_of s ≡ Gathers = turn_gathers s.fault (is_raw s.head.stage) s.give s.skip p q z k in
+    let longer = one_more held x in
+    let less : length (held ++ x ∷ []) < want s.head.stage = omega (arith, h, longer) in
+    let next : Scan = record s { head = record { stage = s.head.stage; bytes = held ++ x ∷ [] } } in
+    let now : gathered s (held ++ x ∷ []) ≡ next = gathered_more s (held ++ x ∷ []) less in
+    let fewer : length (held ++ x ∷ []) + length xs < want s.head.stage = omega (arith, h, longer) in
+    let rest = run_gathers next xs p q z k fewer in (
+      run_first s x Gathers xs t ∙ ap (λ v. run v xs) now ∙ rest.0
+          ∙ ap (λ (l : List ℕ). record s { head = record { stage = s.head.stage; bytes = l } }) (regrouped held x xs),
+      given_first s x Gathers xs t ∙ ap (λ v. given v xs) now ∙ rest.1,
+    )
+
+-- the whole head
+pub run_head : (s : Scan) (xs : List ℕ) → s.fault ≡ None → is_raw s.head.stage ≡ false → s.give ≡ 0 → s.skip ≡ 0 → xs ≢ [] → length s.head.bytes + length xs ≡ want s.head.stage
+    → (run s xs ≡ decoded (record s { head = begun s.head.stage }) (s.head.bytes ++ xs)) × (given s xs ≡ [])
+unfolding run given told
+run_head s [] p q z k some h = absurd (some refl)
+run_head s (x ∷ []) p q z k some h =
+    let held = s.head.bytes in
+    let t : turn_of s ≡ Gathers = turn_gathers s.fault (is_raw s.head.stage) s.give s.skip p q z k in
+    let longer = one_more held x in
+    let all : length (held ++ x ∷ []) ≡ want s.head.stage = omega (arith, h, longer) in
+    (run_first s x Gathers [] t ∙ gathered_all s (held ++ x ∷ []) all, given_first s x Gathers [] t)
+run_head s (x ∷ y ∷ xs) p q z k some h =
+    let held = s.head.bytes in
+    let t : turn_of s ≡ Gathers = turn_gathers s.fault (is_raw s.head.stage) s.give s.skip p q z k in
+    let longer = one_more held x in
+    let less : length (held ++ x ∷ []) < want s.head.stage = omega (arith, h, longer) in
+    let next : Scan = record s { head = record { stage = s.head.stage; bytes = held ++ x ∷ [] } } in
+    let now : gathered s (held ++ x ∷ []) ≡ next = gathered_more s (held ++ x ∷ []) less in
+    let fewer : length (held ++ x ∷ []) + length (y ∷ xs) ≡ want s.head.stage = omega (arith, h, longer) in
+    let rest = run_head next (y ∷ xs) p q z k (λ e. cc) fewer in (
+      run_first s x Gathers (y ∷ xs) t ∙ ap (λ v. run v (y ∷ xs)) now ∙ rest.0
+          ∙ ap (λ (l : List ℕ). decoded (record s { head = begun s.head.stage }) l) (regrouped held x (y ∷ xs)),
+      given_first s x Gathers (y ∷ xs) t ∙ ap (λ v. given v (y ∷ xs)) now ∙ rest.1,
     )
 
 -- ---- after a fault

@@ -62,33 +62,45 @@ FitsEnd (Some more) = 2 ≤ length more
 
 -- ---- blocks
 
+-- what the head of a packet's block says but for how many bytes there are
+pub data PacketForm : Type 0 where
+  -- the number of an interface, and a time of two numbers
+  EnhancedHead : ℕ → ℕ → ℕ → PacketForm
+  -- the same in the obsolete packet block, with a count of drops behind the number
+  ObsoleteHead : ℕ → ℕ → ℕ → ℕ → PacketForm
+  -- no time, of the first interface
+  SimpleHead : PacketForm
+
 pub data FileBlock : Type 0 where
   -- an interface of this link type and snap length
   InterfaceBlock : ℕ → ℕ → ℕ → List InterfaceOption → Option (List ℕ) → FileBlock
-  -- a packet of an interface, at a time of two numbers, which had so many bytes, of which these were
-  -- captured; its padding and its options
-  PacketBlock : ℕ → ℕ → ℕ → ℕ → List ℕ → List ℕ → FileBlock
-  -- the same in the obsolete packet block, with a count of drops
-  ObsoleteBlock : ℕ → ℕ → ℕ → ℕ → ℕ → List ℕ → List ℕ → FileBlock
-  -- the same with no time, of the first interface
-  SimpleBlock : ℕ → List ℕ → List ℕ → FileBlock
+  -- a packet that had so many bytes, of which these were captured; its padding and its options
+  PacketBlock : PacketForm → ℕ → List ℕ → List ℕ → FileBlock
   -- a block of another type
   OtherBlock : ℕ → List ℕ → FileBlock
 
+abbrev pub head_kind : PacketForm → ℕ
+head_kind (EnhancedHead number high low) = 6
+head_kind (ObsoleteHead number drops high low) = 2
+head_kind SimpleHead = 3
+
 abbrev pub block_kind : FileBlock → ℕ
 block_kind (InterfaceBlock link_type reserved snap_length options end) = 1
-block_kind (PacketBlock number high low original bytes rest) = 6
-block_kind (ObsoleteBlock number drops high low original bytes rest) = 2
-block_kind (SimpleBlock original bytes rest) = 3
+block_kind (PacketBlock head original bytes rest) = head_kind head
 block_kind (OtherBlock kind body) = kind
 
+-- the head of a packet's block
+abbrev pub head_bytes : ByteOrder → PacketForm → (captured original : ℕ) → List ℕ
+head_bytes order (EnhancedHead number high low) captured original =
+    u32_bytes order number ++ (u32_bytes order high ++ (u32_bytes order low ++ (u32_bytes order captured ++ u32_bytes order original)))
+head_bytes order (ObsoleteHead number drops high low) captured original =
+    (u16_bytes order number ++ u16_bytes order drops) ++ (u32_bytes order high ++ (u32_bytes order low ++ (u32_bytes order captured ++ u32_bytes order original)))
+head_bytes order SimpleHead captured original = u32_bytes order original
+
 abbrev pub block_body : ByteOrder → FileBlock → List ℕ
-block_body order (InterfaceBlock link_type reserved snap_length options end) = (u16_bytes order link_type ++ (u16_bytes order reserved ++ u32_bytes order snap_length)) ++ (options_bytes order options ++ end_bytes order end)
-block_body order (PacketBlock number high low original bytes rest) =
-    (u32_bytes order number ++ (u32_bytes order high ++ (u32_bytes order low ++ (u32_bytes order (length bytes) ++ u32_bytes order original)))) ++ (bytes ++ rest)
-block_body order (ObsoleteBlock number drops high low original bytes rest) =
-    ((u16_bytes order number ++ u16_bytes order drops) ++ (u32_bytes order high ++ (u32_bytes order low ++ (u32_bytes order (length bytes) ++ u32_bytes order original)))) ++ (bytes ++ rest)
-block_body order (SimpleBlock original bytes rest) = u32_bytes order original ++ (bytes ++ rest)
+block_body order (InterfaceBlock link_type reserved snap_length options end) =
+    (u16_bytes order link_type ++ (u16_bytes order reserved ++ u32_bytes order snap_length)) ++ (options_bytes order options ++ end_bytes order end)
+block_body order (PacketBlock head original bytes rest) = head_bytes order head (length bytes) original ++ (bytes ++ rest)
 block_body order (OtherBlock kind body) = body
 
 abbrev pub block_bytes : ByteOrder → FileBlock → List ℕ
@@ -100,11 +112,9 @@ blocks_bytes order (block ∷ blocks) = block_bytes order block ++ blocks_bytes 
 
 -- the interfaces after a block
 abbrev pub interfaces_after : List Interface → FileBlock → List Interface
-interfaces_after interfaces (InterfaceBlock link_type reserved snap_length options end) = interfaces ++ with_options (record { link_type = link_type; snap_length = snap_length; resolution = 6; has_offset = false }) options ∷ []
-interfaces_after interfaces (PacketBlock number high low original bytes rest) = interfaces
-interfaces_after interfaces (ObsoleteBlock number drops high low original bytes rest) = interfaces
-interfaces_after interfaces (SimpleBlock original bytes rest) = interfaces
-interfaces_after interfaces (OtherBlock kind body) = interfaces
+interfaces_after interfaces (InterfaceBlock link_type reserved snap_length options end) =
+    interfaces ++ with_options (record { link_type = link_type; snap_length = snap_length; resolution = 6; has_offset = false }) options ∷ []
+interfaces_after interfaces block = interfaces
 
 -- a D-Bus packet was captured whole, or it may be passed over
 abbrev pub IsCapturedBy : (passes_cut : Bool) → Interface → (original : ℕ) → List ℕ → Type 0
@@ -114,16 +124,25 @@ IsCapturedBy passes_cut i original bytes = i.link_type ≡ 231 → IsCaptured pa
 abbrev pub HasInterface : List Interface → ℕ → (Interface → Type 0) → Type 0
 HasInterface interfaces number P = (i : Interface) × (slice_get interfaces number ≡ Some i) × P i
 
--- a block that has a spelling
+-- the number of the interface of a packet
+abbrev pub head_interface : PacketForm → ℕ
+head_interface (EnhancedHead number high low) = number
+head_interface (ObsoleteHead number drops high low) = number
+head_interface SimpleHead = 0
+
+-- what has a spelling; in a simple packet block the lengths say how many bytes were captured
+abbrev pub FitsHead : PacketForm → Interface → (captured original : ℕ) → Type 0
+FitsHead (EnhancedHead number high low) i captured original = number < 2 ^ 32
+FitsHead (ObsoleteHead number drops high low) i captured original = number < 2 ^ 16
+FitsHead SimpleHead i captured original = captured_length i.snap_length original ≡ captured
+
 abbrev pub FitsBlock : (passes_cut : Bool) → List Interface → FileBlock → Type 0
-FitsBlock passes_cut interfaces (InterfaceBlock link_type reserved snap_length options end) = (link_type < 2 ^ 16) × (snap_length < 2 ^ 32) × AllFitOptions options × FitsEnd end × (length interfaces < 64)
-FitsBlock passes_cut interfaces (PacketBlock number high low original bytes rest) = (number < 2 ^ 32) × (length bytes < 2 ^ 32) × (padded (length bytes) ≤ length bytes + length rest) × (original < 2 ^ 32)
-    × HasInterface interfaces number (λ i. IsCapturedBy passes_cut i original bytes)
-FitsBlock passes_cut interfaces (ObsoleteBlock number drops high low original bytes rest) = (number < 2 ^ 16) × (length bytes < 2 ^ 32) × (padded (length bytes) ≤ length bytes + length rest) × (original < 2 ^ 32)
-    × HasInterface interfaces number (λ i. IsCapturedBy passes_cut i original bytes)
-FitsBlock passes_cut interfaces (SimpleBlock original bytes rest) = (original < 2 ^ 32) × (padded (length bytes) ≤ length bytes + length rest)
-    × HasInterface interfaces 0 (λ i. (captured_length i.snap_length original ≡ length bytes) × IsCapturedBy passes_cut i original bytes)
-FitsBlock passes_cut interfaces (OtherBlock kind body) = (kind < 2 ^ 32) × (kind ≢ 1) × (kind ≢ 2) × (kind ≢ 3) × (kind ≢ 6) × (kind ≢ 0x0a0d0d0a)
+FitsBlock passes_cut interfaces (InterfaceBlock link_type reserved snap_length options end) =
+    (link_type < 2 ^ 16) × (snap_length < 2 ^ 32) × AllFitOptions options × FitsEnd end × (length interfaces < 64)
+FitsBlock passes_cut interfaces (PacketBlock head original bytes rest) = (original < 2 ^ 32) × (padded (length bytes) ≤ length bytes + length rest)
+    × HasInterface interfaces (head_interface head) (λ i. FitsHead head i (length bytes) original × IsCapturedBy passes_cut i original bytes)
+FitsBlock passes_cut interfaces (OtherBlock kind body) =
+    (kind < 2 ^ 32) × (kind ≢ 1) × (kind ≢ 2) × (kind ≢ 3) × (kind ≢ 6) × (kind ≢ 0x0a0d0d0a)
 
 abbrev pub AllFitBlocks : (passes_cut : Bool) → ByteOrder → List Interface → List FileBlock → Type 0
 AllFitBlocks passes_cut order interfaces [] = Unit {0}

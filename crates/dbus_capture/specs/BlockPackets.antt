@@ -3,7 +3,7 @@
 use Rattle.std.specs.Prelude.{◌==◌, ℕ, if◌then◌else◌, List, [], ◌∷◌, ◌++◌, slice_get, Option, Some, None}
 use Rattle.dbus_capture.specs.declared.interface.Interface.{Interface}
 use Rattle.dbus_capture.specs.CutPackets.{Captured}
-use Rattle.dbus_capture.specs.BlockFiles.{FileBlock, InterfaceBlock, PacketBlock, ObsoleteBlock, SimpleBlock, OtherBlock, interfaces_after, FileSection}
+use Rattle.dbus_capture.specs.BlockFiles.{FileBlock, PacketBlock, head_interface, interfaces_after, FileSection}
 
 -- a packet, if its link type is 231, D-Bus
 abbrev pub packet_by : (original : ℕ) → List ℕ → Option Interface → List Captured
@@ -12,11 +12,8 @@ packet_by original bytes (Some i) = if i.link_type == 231 then record { original
 
 -- the D-Bus packet of a block
 abbrev pub block_packets : List Interface → FileBlock → List Captured
-block_packets interfaces (InterfaceBlock link_type reserved snap_length options end) = []
-block_packets interfaces (PacketBlock number high low original bytes rest) = packet_by original bytes (slice_get interfaces number)
-block_packets interfaces (ObsoleteBlock number drops high low original bytes rest) = packet_by original bytes (slice_get interfaces number)
-block_packets interfaces (SimpleBlock original bytes rest) = packet_by original bytes (slice_get interfaces 0)
-block_packets interfaces (OtherBlock kind body) = []
+block_packets interfaces (PacketBlock head original bytes rest) = packet_by original bytes (slice_get interfaces (head_interface head))
+block_packets interfaces block = []
 
 -- those of blocks
 abbrev pub blocks_packets : List Interface → List FileBlock → List Captured

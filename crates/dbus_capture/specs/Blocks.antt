@@ -5,12 +5,13 @@ use Rattle.dbus_capture.specs.declared.stage.Stage.{Stage}
 use Rattle.dbus_capture.specs.declared.stage.Stage.TheVariants.{Raw, FileHeader, Record, Section, Block, InterfaceHead, OptionHead, Resolution, InterfaceTrailer, Enhanced, ObsoletePacket, Simple, Trailer}
 use Rattle.dbus_capture.specs.declared.byte_order.ByteOrder.{ByteOrder}
 use Rattle.dbus_capture.specs.declared.byte_order.ByteOrder.TheVariants.{Little, Big}
-use Rattle.dbus_capture.specs.declared.fault.CaptureReason.TheVariants.{Magic, Version, Lengths, PacketCut, BlockLength, BlockLengths, OrderMark, OptionLength, TooManyInterfaces, NoInterface}
+use Rattle.dbus_capture.specs.declared.fault.CaptureReason.TheVariants.{Magic, Version, Lengths, BlockLength, BlockLengths, OrderMark, OptionLength, TooManyInterfaces, NoInterface}
 use Rattle.dbus_capture.specs.declared.interface.Interface.{Interface}
+use Rattle.dbus_capture.specs.declared.packet.PacketHead.{PacketHead}
 use Rattle.dbus_capture.specs.declared.scan.Scan.{Scan}
 use Rattle.dbus_capture.specs.Stages.{begun}
 use Rattle.dbus_capture.specs.Scans.{place, refused}
-use Rattle.dbus_capture.specs.Heads.{file_header, record_head}
+use Rattle.dbus_capture.specs.Heads.{file_header, record_head, pass_packet, packet_head}
 use Rattle.dbus_capture.specs.Numbers.{u32_at, u16_at}
 
 -- a length, up to a multiple of four
@@ -129,40 +130,27 @@ fitting n = if nat_lt n (2 ^ 64) then Some n else None
 abbrev pub time_of : Interface → ℕ → Option ℕ
 time_of i units = if i.has_offset then None else (if nat_le i.resolution 9 then fitting (units * 10 ^ (9 - i.resolution)) else None)
 
--- the rest of a packet's block is passed over
-abbrev pub pass_packet : Scan → ℕ → ℕ → Scan
-pass_packet s size room = record s { head = begun Trailer; skip = room; next = place (s.next + (size + room)); passed_over = place (s.passed_over + 1) }
+-- a packet of another link type is passed over
+abbrev pub block_packet : Scan → ℕ → PacketHead → Scan
+block_packet s link_type p = if nat_lt p.room (padded p.captured) then refused s p.captured_at Lengths
+    else (let t = record s { head = begun Trailer } in if link_type == 231 then packet_head t p else pass_packet t p.size p.room)
 
--- the same of a packet that was cut
-abbrev pub pass_cut : Scan → ℕ → ℕ → Scan
-pass_cut s size room = record (pass_packet s size room) { cut = place (s.cut + 1) }
-
--- so many bytes of a packet come
-abbrev pub give_packet : Scan → ℕ → ℕ → Option ℕ → ℕ → Scan
-give_packet s size room time captured = record s {
-  head = begun Trailer;
-  give = captured;
-  skip = room - captured;
-  next = place (s.next + (size + room));
-  packets = place (s.packets + 1);
-  packet = Some (record { number = place (s.packets + 1); at = place (s.next + 2 ^ 64 - 8); time = time; length = captured });
+-- the packet of an enhanced or an obsolete packet block
+abbrev pub enhanced_of : Scan → List ℕ → Interface → PacketHead
+enhanced_of s head i = record {
+  before = 8;
+  size = 20;
+  captured_at = 12;
+  original_at = 12;
+  room = s.total - 32;
+  time = time_of i (u32_at s.order 4 head * 2 ^ 32 + u32_at s.order 8 head);
+  captured = u32_at s.order 12 head;
+  original = u32_at s.order 16 head;
 }
-
--- So many bytes of a packet were captured, which had so many, and its block has room for so many. A
--- packet of another link type is passed over.
-abbrev pub block_packet : Scan → ℕ → ℕ → ℕ → ℕ → Option ℕ → ℕ → ℕ → Scan
-block_packet s size k room link_type time captured original =
-    if nat_lt room (padded captured) then refused s k Lengths
-    else (if link_type == 231
-    then (if nat_lt original captured then refused s k Lengths
-    else (if nat_lt captured original then (if s.passes_cut then pass_cut s size room else refused s k PacketCut)
-    else give_packet s size room time captured))
-    else pass_packet s size room)
 
 abbrev pub enhanced_by : Scan → List ℕ → Option Interface → Scan
 enhanced_by s head None = refused s 0 NoInterface
-enhanced_by s head (Some i) = block_packet s 20 12 (s.total - 32) i.link_type (time_of i (u32_at s.order 4 head * 2 ^ 32 + u32_at s.order 8 head))
-    (u32_at s.order 12 head) (u32_at s.order 16 head)
+enhanced_by s head (Some i) = block_packet s i.link_type (enhanced_of s head i)
 
 abbrev pub enhanced_head : Scan → List ℕ → Scan
 enhanced_head s head = enhanced_by s head (slice_get s.interfaces (u32_at s.order 0 head))
@@ -176,7 +164,18 @@ captured_length snap_length original = if (snap_length == 0) || nat_le original 
 
 abbrev pub simple_by : Scan → List ℕ → Option Interface → Scan
 simple_by s head None = refused s 0 NoInterface
-simple_by s head (Some i) = block_packet s 4 0 (s.total - 16) i.link_type None (captured_length i.snap_length (u32_at s.order 0 head)) (u32_at s.order 0 head)
+simple_by s head (Some i) =
+    let original = u32_at s.order 0 head in
+    block_packet s i.link_type (record {
+      before = 8;
+      size = 4;
+      captured_at = 0;
+      original_at = 0;
+      room = s.total - 16;
+      time = None;
+      captured = captured_length i.snap_length original;
+      original = original;
+    })
 
 abbrev pub simple_head : Scan → List ℕ → Scan
 simple_head s head = simple_by s head (slice_get s.interfaces 0)

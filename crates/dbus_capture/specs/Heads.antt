@@ -1,9 +1,10 @@
 -- What the heads of a pcap file say. "PCAP Capture File Format", "File Header" and "Packet Record".
-use Rattle.std.specs.Prelude.{ℕ, ◌+◌, ◌*◌, ◌&&◌, ◌==◌, nat_lt, Bool, true, false, if◌then◌else◌, List, Option, Some, None}
+use Rattle.std.specs.Prelude.{ℕ, ◌+◌, ◌-◌, ◌*◌, ◌^◌, ◌&&◌, ◌==◌, nat_lt, Bool, true, false, if◌then◌else◌, List, Option, Some, None}
 use Rattle.dbus_capture.specs.declared.stage.Stage.TheVariants.{Record}
 use Rattle.dbus_capture.specs.declared.byte_order.ByteOrder.{ByteOrder}
 use Rattle.dbus_capture.specs.declared.byte_order.ByteOrder.TheVariants.{Little, Big}
 use Rattle.dbus_capture.specs.declared.fault.CaptureReason.TheVariants.{Magic, Version, LinkType, Lengths, PacketCut}
+use Rattle.dbus_capture.specs.declared.packet.PacketHead.{PacketHead}
 use Rattle.dbus_capture.specs.declared.scan.Scan.{Scan}
 use Rattle.dbus_capture.specs.Stages.{begun}
 use Rattle.dbus_capture.specs.Scans.{place, refused}
@@ -39,25 +40,36 @@ abbrev pub record_time : Bool → ℕ → ℕ → ℕ
 record_time true seconds fraction = seconds * 1000000000 + fraction
 record_time false seconds fraction = seconds * 1000000000 + fraction * 1000
 
--- so many bytes of a packet come, of which so many were captured at this time
-abbrev pub packet_of : Scan → ℕ → Option ℕ → ℕ → Scan
-packet_of s size time captured = record s {
-  give = captured;
-  next = place (s.next + (size + captured));
+-- so many bytes of a packet come, and then what is passed over
+abbrev pub give_packet : Scan → PacketHead → Scan
+give_packet s p = record s {
+  give = p.captured;
+  skip = p.room - p.captured;
+  next = place (s.next + (p.size + p.room));
   packets = place (s.packets + 1);
-  packet = Some (record { number = place (s.packets + 1); at = s.next; time = time; length = captured });
+  packet = Some (record { number = place (s.packets + 1); at = place (s.next + 2 ^ 64 - p.before); time = p.time; length = p.captured });
 }
 
--- so many bytes of a packet that was cut are passed over
-abbrev pub passed_over : Scan → ℕ → ℕ → Scan
-passed_over s size captured = record s { skip = captured; next = place (s.next + (size + captured)); passed_over = place (s.passed_over + 1); cut = place (s.cut + 1) }
+-- a packet is passed over
+abbrev pub pass_packet : Scan → (size room : ℕ) → Scan
+pass_packet s size room = record s { skip = room; next = place (s.next + (size + room)); passed_over = place (s.passed_over + 1) }
+
+-- So many bytes of a packet were captured, which had so many. One that was cut is passed over, or
+-- refused.
+abbrev pub packet_head : Scan → PacketHead → Scan
+packet_head s p = if nat_lt p.original p.captured then refused s p.original_at Lengths
+    else (if p.captured == p.original then give_packet s p
+    else (if s.passes_cut then record (pass_packet s p.size p.room) { cut = place (s.cut + 1) } else refused s p.captured_at PacketCut))
 
 -- the header of a packet
 abbrev pub record_head : Scan → List ℕ → Scan
-record_head s head =
-    let captured = u32_at s.order 8 head in
-    let original = u32_at s.order 12 head in
-    if nat_lt original captured then refused s 12 Lengths
-    else (if nat_lt captured original
-    then (if s.passes_cut then passed_over s 16 captured else refused s 8 PacketCut)
-    else packet_of s 16 (Some (record_time s.nanoseconds (u32_at s.order 0 head) (u32_at s.order 4 head))) captured)
+record_head s head = packet_head s (record {
+  before = 0;
+  size = 16;
+  captured_at = 8;
+  original_at = 12;
+  room = u32_at s.order 8 head;
+  time = Some (record_time s.nanoseconds (u32_at s.order 0 head) (u32_at s.order 4 head));
+  captured = u32_at s.order 8 head;
+  original = u32_at s.order 12 head;
+})

@@ -9,9 +9,9 @@ use Rattle.dbus_capture.specs.PcapFiles.{PcapHeader, PcapPacket, pcap_bytes, cap
 use Rattle.dbus_capture.specs.declared.byte_order.ByteOrder.{ByteOrder}
 use Rattle.dbus_capture.specs.declared.interface.Interface.{Interface}
 use Rattle.dbus_capture.specs.declared.scan.Scan.{Scan}
-use Rattle.dbus_capture.specs.Numbers.{u32_bytes, u16_bytes}
+use Rattle.dbus_capture.specs.Numbers.{u32_bytes}
 use Rattle.dbus_capture.specs.Blocks.{time_of}
-use Rattle.dbus_capture.specs.BlockFiles.{FileBlock, InterfaceBlock, PacketBlock, ObsoleteBlock, SimpleBlock, OtherBlock, block_kind, block_body, FileSection, sections_bytes}
+use Rattle.dbus_capture.specs.BlockFiles.{PacketForm, EnhancedHead, ObsoleteHead, SimpleHead, FileBlock, PacketBlock, head_bytes, head_interface, block_kind, block_body, FileSection, sections_bytes}
 use Rattle.dbus_capture.specs.BlockPackets.{sections_packets}
 
 -- The packet of the bytes that were handed on last, after a read: the one that began last, if the
@@ -34,47 +34,45 @@ pcap_packet_reported h packets p = record {
   length = length p.bytes;
 }
 
+-- a time is spelled by two numbers
+abbrev pub FitsTime : PacketForm → Type 0
+FitsTime (EnhancedHead number high low) = (high < 2 ^ 32) × (low < 2 ^ 32)
+FitsTime (ObsoleteHead number drops high low) = (high < 2 ^ 32) × (low < 2 ^ 32)
+FitsTime SimpleHead = Unit {0}
+
+abbrev pub head_time : Interface → PacketForm → Option ℕ
+head_time i (EnhancedHead number high low) = time_of i (high * 2 ^ 32 + low)
+head_time i (ObsoleteHead number drops high low) = time_of i (high * 2 ^ 32 + low)
+head_time i SimpleHead = None
+
 -- a block has a packet, and its time, if it has one, is spelled by two numbers
 abbrev pub IsTimed : FileBlock → Type 0
-IsTimed (InterfaceBlock link_type reserved snap_length options end) = ⊥
-IsTimed (PacketBlock number high low original bytes rest) = (high < 2 ^ 32) × (low < 2 ^ 32)
-IsTimed (ObsoleteBlock number drops high low original bytes rest) = (high < 2 ^ 32) × (low < 2 ^ 32)
-IsTimed (SimpleBlock original bytes rest) = Unit {0}
-IsTimed (OtherBlock kind body) = ⊥
+IsTimed (PacketBlock head original bytes rest) = FitsTime head
+IsTimed block = ⊥
 
 -- the number of the interface of a block's packet
 abbrev pub interface_of : FileBlock → ℕ
-interface_of (PacketBlock number high low original bytes rest) = number
-interface_of (ObsoleteBlock number drops high low original bytes rest) = number
+interface_of (PacketBlock head original bytes rest) = head_interface head
 interface_of block = 0
 
 -- how many bytes a block's packet had
 abbrev pub packet_original : FileBlock → ℕ
-packet_original (PacketBlock number high low original bytes rest) = original
-packet_original (ObsoleteBlock number drops high low original bytes rest) = original
-packet_original (SimpleBlock original bytes rest) = original
+packet_original (PacketBlock head original bytes rest) = original
 packet_original block = 0
 
 -- the bytes of it that were captured
 abbrev pub packet_bytes : FileBlock → List ℕ
-packet_bytes (PacketBlock number high low original bytes rest) = bytes
-packet_bytes (ObsoleteBlock number drops high low original bytes rest) = bytes
-packet_bytes (SimpleBlock original bytes rest) = bytes
+packet_bytes (PacketBlock head original bytes rest) = bytes
 packet_bytes block = []
 
 -- its time
 abbrev pub packet_time : Interface → FileBlock → Option ℕ
-packet_time i (PacketBlock number high low original bytes rest) = time_of i (high * 2 ^ 32 + low)
-packet_time i (ObsoleteBlock number drops high low original bytes rest) = time_of i (high * 2 ^ 32 + low)
+packet_time i (PacketBlock head original bytes rest) = head_time i head
 packet_time i block = None
 
 -- what comes before these bytes in the block, after its type and its length
 abbrev pub packet_front : ByteOrder → FileBlock → List ℕ
-packet_front order (PacketBlock number high low original bytes rest) =
-    u32_bytes order number ++ (u32_bytes order high ++ (u32_bytes order low ++ (u32_bytes order (length bytes) ++ u32_bytes order original)))
-packet_front order (ObsoleteBlock number drops high low original bytes rest) =
-    (u16_bytes order number ++ u16_bytes order drops) ++ (u32_bytes order high ++ (u32_bytes order low ++ (u32_bytes order (length bytes) ++ u32_bytes order original)))
-packet_front order (SimpleBlock original bytes rest) = u32_bytes order original
+packet_front order (PacketBlock head original bytes rest) = head_bytes order head (length bytes) original
 packet_front order block = []
 
 -- what comes before them in all

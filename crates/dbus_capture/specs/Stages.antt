@@ -32,31 +32,4 @@ want Trailer = 4
 -- no file is around the messages
 abbrev pub is_raw : Stage → Bool
 is_raw Raw = true
-is_raw FileHeader = false
-is_raw Record = false
-is_raw Section = false
-is_raw Block = false
-is_raw InterfaceHead = false
-is_raw OptionHead = false
-is_raw Resolution = false
-is_raw InterfaceTrailer = false
-is_raw Enhanced = false
-is_raw ObsoletePacket = false
-is_raw Simple = false
-is_raw Trailer = false
-
--- a head of a file comes
-abbrev pub is_filed : Stage → Bool
-is_filed Raw = false
-is_filed FileHeader = true
-is_filed Record = true
-is_filed Section = true
-is_filed Block = true
-is_filed InterfaceHead = true
-is_filed OptionHead = true
-is_filed Resolution = true
-is_filed InterfaceTrailer = true
-is_filed Enhanced = true
-is_filed ObsoletePacket = true
-is_filed Simple = true
-is_filed Trailer = true
+is_raw stage = false

@@ -2,15 +2,15 @@
 //! Generic (pcapng) Capture File Format".
 ghost use Rattle.std.specs.Prelude.{◌≡◌, ◌≤◌, ◌<◌, ◌*◌, ◌-◌, ◌^◌, length, slice_get, None};
 ghost use Rattle.dbus_capture.specs.Scans.{refused};
-ghost use Rattle.dbus_capture.specs.Blocks.{padded, is_length, order_mark, section_in, section_head, block_stage, block_by, block_head, trailer, after_option, interface_head, pass_option, option_in, option_head, resolution_head, interface_trailer, fitting, time_of, pass_packet, pass_cut, give_packet, block_packet, enhanced_by, enhanced_head, obsolete_head, captured_length, simple_by, simple_head};
+ghost use Rattle.dbus_capture.specs.Blocks.{padded, is_length, order_mark, section_in, section_head, block_stage, block_by, block_head, trailer, after_option, interface_head, pass_option, option_in, option_head, resolution_head, interface_trailer, fitting, time_of, block_packet, enhanced_by, enhanced_head, obsolete_head, captured_length, simple_by, simple_head};
 
 use crate::byte_order::ByteOrder;
 use crate::fault::CaptureReason;
 use crate::head::Head;
 use crate::interface::{Interface, Interfaces};
+use crate::packet::PacketHead;
 use crate::scan::Scan;
 use crate::stage::Stage;
-use dbus_device::Packet;
 
 // A length, rounded up to a multiple of four.
 fn padded(length: u32) -> u64
@@ -113,20 +113,6 @@ fn captured_length(snap_length: u32, original: u32) -> u32
     } else {
         snap_length
     }
-}
-
-// What a packet block says of its packet.
-#[derive(Clone, Copy)]
-struct BlockPacket {
-    // How many bytes the head has, and at which place of it the captured length is.
-    size: u32,
-    place: u32,
-    // How many bytes the block has for the packet, its padding and its options.
-    room: u32,
-    link_type: u16,
-    time: Option<u64>,
-    captured: u32,
-    original: u32,
 }
 
 impl Scan {
@@ -362,16 +348,17 @@ impl Scan {
         };
         let high = self.order.u32_at(4, head) as u64;
         let low = self.order.u32_at(8, head) as u64;
-        let packet = BlockPacket {
+        let packet = PacketHead {
+            before: 8,
             size: 20,
-            place: 12,
+            captured_at: 12,
+            original_at: 12,
             room: self.total.saturating_sub(32),
-            link_type: interface.link_type,
             time: time_of(interface, high * 0x1_0000_0000 + low),
             captured: self.order.u32_at(12, head),
             original: self.order.u32_at(16, head),
         };
-        self.block_packet(packet);
+        self.block_packet(interface.link_type, packet);
     }
 
     // Follows what a simple packet block says of its packet, which is of the first interface.
@@ -393,84 +380,33 @@ impl Scan {
             return;
         };
         let original = self.order.u32_at(0, head);
-        let packet = BlockPacket {
+        let packet = PacketHead {
+            before: 8,
             size: 4,
-            place: 0,
+            captured_at: 0,
+            original_at: 0,
             room: self.total.saturating_sub(16),
-            link_type: interface.link_type,
             time: None,
             captured: captured_length(interface.snap_length, original),
             original,
         };
-        self.block_packet(packet);
+        self.block_packet(interface.link_type, packet);
     }
 
-    // Follows what a block says of its packet.
-    fn block_packet(&mut self, packet: BlockPacket)
+    // Follows what a block says of its packet. One of another link type is passed over.
+    fn block_packet(&mut self, link_type: u16, packet: PacketHead)
         requires size { packet.size ≤ 20 }
-        requires place { packet.place ≤ 12 }
-        ensures { self.new ≡ block_packet self.old packet.size packet.place packet.room
-            packet.link_type packet.time packet.captured packet.original }
+        ensures { self.new ≡ block_packet self.old link_type packet }
     {
         if (packet.room as u64) < padded(packet.captured) {
-            self.refuse(packet.place, CaptureReason::Lengths);
+            self.refuse(packet.captured_at, CaptureReason::Lengths);
             return;
         }
-        if packet.link_type != 231 {
+        self.head = Head::new(Stage::Trailer);
+        if link_type == 231 {
+            self.packet_head(packet);
+        } else {
             self.pass_packet(packet.size, packet.room);
-            return;
         }
-        if packet.original < packet.captured {
-            self.refuse(packet.place, CaptureReason::Lengths);
-            return;
-        }
-        if packet.captured < packet.original {
-            if self.passes_cut {
-                self.pass_cut(packet.size, packet.room);
-            } else {
-                self.refuse(packet.place, CaptureReason::PacketCut);
-            }
-            return;
-        }
-        self.give_packet(packet.size, packet.room, packet.time, packet.captured);
-    }
-
-    // Passes over the rest of a packet's block.
-    fn pass_packet(&mut self, size: u32, room: u32)
-        requires { size ≤ 20 }
-        ensures { self.new ≡ pass_packet self.old size room }
-    {
-        self.head = Head::new(Stage::Trailer);
-        self.skip = room as usize;
-        self.next = self.next.wrapping_add(size as u64 + room as u64);
-        self.passed_over = self.passed_over.wrapping_add(1);
-    }
-
-    // The same of a packet that was cut.
-    fn pass_cut(&mut self, size: u32, room: u32)
-        requires { size ≤ 20 }
-        ensures { self.new ≡ pass_cut self.old size room }
-    {
-        self.pass_packet(size, room);
-        self.cut = self.cut.wrapping_add(1);
-    }
-
-    // Hands on the bytes of a packet, and passes over the rest of its block.
-    fn give_packet(&mut self, size: u32, room: u32, time: Option<u64>, captured: u32)
-        requires size { size ≤ 20 }
-        requires within { captured ≤ room }
-        ensures { self.new ≡ give_packet self.old size room time captured }
-    {
-        self.head = Head::new(Stage::Trailer);
-        self.give = captured as usize;
-        self.skip = room as usize - captured as usize;
-        self.packets = self.packets.wrapping_add(1);
-        self.packet = Some(Packet {
-            number: self.packets,
-            at: self.next.wrapping_sub(8),
-            time,
-            length: captured,
-        });
-        self.next = self.next.wrapping_add(size as u64 + room as u64);
     }
 }

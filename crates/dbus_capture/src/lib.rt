@@ -26,6 +26,7 @@ mod fault_text;
 mod head;
 mod interface;
 pub mod laws;
+mod packet;
 mod pcap;
 mod scan;
 mod stage;

@@ -1,14 +1,13 @@
 //! The heads of a pcap file. "File Header" and "Packet Record" of "PCAP Capture File Format".
-ghost use Rattle.std.specs.Prelude.{◌≡◌, ◌<◌, ◌^◌, length};
-ghost use Rattle.dbus_capture.specs.Scans.{refused};
-ghost use Rattle.dbus_capture.specs.Heads.{magic, record_time, file_header, file_header_in, record_head, packet_of, passed_over};
+ghost use Rattle.std.specs.Prelude.{◌≡◌, length};
+ghost use Rattle.dbus_capture.specs.Heads.{magic, record_time, file_header, file_header_in, record_head};
 
 use crate::byte_order::ByteOrder;
-use crate::fault::{CaptureFault, CaptureReason};
+use crate::fault::CaptureReason;
 use crate::head::Head;
+use crate::packet::PacketHead;
 use crate::scan::Scan;
 use crate::stage::Stage;
-use dbus_device::Packet;
 
 // The order that a magic number says, and whether fractions of seconds are nanoseconds: the number
 // as a little-endian machine reads it.
@@ -78,58 +77,17 @@ impl Scan {
     {
         let captured = self.order.u32_at(8, head);
         let original = self.order.u32_at(12, head);
-        if original < captured {
-            self.refuse(12, CaptureReason::Lengths);
-            return;
-        }
-        if captured < original {
-            if self.passes_cut {
-                self.pass_over(16, captured);
-            } else {
-                self.refuse(8, CaptureReason::PacketCut);
-            }
-            return;
-        }
         let seconds = self.order.u32_at(0, head);
         let fraction = self.order.u32_at(4, head);
-        let time = record_time(self.nanoseconds, seconds, fraction);
-        self.begin_packet(16, Some(time), captured);
-    }
-
-    // Hands on the bytes of a packet, which come after so many bytes of a head.
-    fn begin_packet(&mut self, size: u32, time: Option<u64>, captured: u32)
-        requires { size < 2 ^ 31 }
-        ensures { self.new ≡ packet_of self.old size time captured }
-    {
-        self.give = captured as usize;
-        self.packets = self.packets.wrapping_add(1);
-        self.packet = Some(Packet {
-            number: self.packets,
-            at: self.next,
-            time,
-            length: captured,
-        });
-        self.next = self.next.wrapping_add(size as u64 + captured as u64);
-    }
-
-    // Passes over the bytes of a packet that was cut, which come after so many bytes of a head.
-    fn pass_over(&mut self, size: u32, captured: u32)
-        requires { size < 2 ^ 31 }
-        ensures { self.new ≡ passed_over self.old size captured }
-    {
-        self.skip = captured as usize;
-        self.next = self.next.wrapping_add(size as u64 + captured as u64);
-        self.passed_over = self.passed_over.wrapping_add(1);
-        self.cut = self.cut.wrapping_add(1);
-    }
-
-    // Refuses the file at a place of the head. No byte of it is handed on from now on.
-    pub(crate) fn refuse(&mut self, place: u32, reason: CaptureReason)
-        ensures { self.new ≡ refused self.old place reason }
-    {
-        self.fault = Some(CaptureFault {
-            at: self.next.wrapping_add(place as u64),
-            reason,
+        self.packet_head(PacketHead {
+            before: 0,
+            size: 16,
+            captured_at: 8,
+            original_at: 12,
+            room: captured,
+            time: Some(record_time(self.nanoseconds, seconds, fraction)),
+            captured,
+            original,
         });
     }
 }

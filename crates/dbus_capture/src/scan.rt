@@ -39,9 +39,9 @@ pub struct Scan {
 }
 
 impl Scan {
-    ghost use Rattle.std.specs.Prelude.{[], None, true};
+    ghost use Rattle.std.specs.Prelude.{[], None, false};
     ghost use Rattle.dbus_capture.specs.Scans.{fresh, refused};
-    ghost use Rattle.dbus_capture.specs.Stages.{begun, is_filed, want};
+    ghost use Rattle.dbus_capture.specs.Stages.{begun, is_raw, want};
     ghost use Rattle.dbus_capture.specs.Steps.{IsPart, run, given, ended, may_end, turn_of};
     ghost use Rattle.dbus_capture.specs.Blocks.{decoded};
 
@@ -107,7 +107,7 @@ impl Scan {
     // The same, in a file.
     fn take_filed(&mut self, piece: &[u8], out: &mut [u8]) -> (usize, usize)
         requires unfaulted { self.old.fault ≡ None }
-        requires filed { is_filed self.old.head.stage ≡ true }
+        requires filed { is_raw self.old.head.stage ≡ false }
         ensures took { result.0 ≤ length piece.now }
         ensures gave { result.1 ≤ length out.new }
         ensures runs { self.new ≡ run self.old (take result.0 piece.now) }
@@ -130,7 +130,7 @@ impl Scan {
     fn give_some(&mut self, piece: &[u8], out: &mut [u8]) -> usize
         requires unfaulted { self.old.fault ≡ None }
         requires some { 0 < self.old.give }
-        requires filed { is_filed self.old.head.stage ≡ true }
+        requires filed { is_raw self.old.head.stage ≡ false }
         ensures took { result ≤ length piece.now }
         ensures gave { result ≤ length out.new }
         ensures runs { self.new ≡ run self.old (take result piece.now) }
@@ -147,7 +147,7 @@ impl Scan {
     // Passes over bytes.
     fn skip_some(&mut self, piece: &[u8]) -> usize
         requires unfaulted { self.old.fault ≡ None }
-        requires filed { is_filed self.old.head.stage ≡ true }
+        requires filed { is_raw self.old.head.stage ≡ false }
         requires some { 0 < self.old.skip }
         requires given { self.old.give ≡ 0 }
         ensures took { result ≤ length piece.now }
@@ -163,7 +163,7 @@ impl Scan {
     // Gathers bytes of a head, and follows what it says once it is whole.
     fn gather(&mut self, piece: &[u8]) -> usize
         requires unfaulted { self.old.fault ≡ None }
-        requires filed { is_filed self.old.head.stage ≡ true }
+        requires filed { is_raw self.old.head.stage ≡ false }
         requires given { self.old.give ≡ 0 }
         requires skipped { self.old.skip ≡ 0 }
         ensures took { result ≤ length piece.now }
@@ -187,6 +187,7 @@ impl Scan {
     }
 
     // Follows what a whole head says.
+    #[tactic(auto, unfolding(crate::specs::Blocks::decoded))]
     pub(crate) fn decode(&mut self, head: &[u8])
         requires { length head.now ≡ want self.old.head.stage }
         ensures { self.new ≡ decoded self.old head.now }

@@ -7,8 +7,7 @@ use Rattle.dbus_capture.specs.Reading.{IsRead}
 use Rattle.dbus_capture.specs.Beginnings.{first_scan}
 use Rattle.dbus_capture.specs.Scans.{place}
 use Rattle.dbus_capture.specs.Steps.{packet_given}
-use Rattle.dbus_capture.proofs.PacketLaws.{pcap_packet_of}
-use Rattle.dbus_capture.proofs.PcapFileLaws.{pcap_read}
+use Rattle.dbus_capture.proofs.PcapReads.{pcap_packet_of, pcap_read}
 use Rattle.dbus_pcap.specs.Written.{AllFit, CapturedMessage, file_of, messages_bytes, packet_of, written_header, written_time}
 
 pub fits_header : FitsHeader written_header
@@ -61,6 +60,6 @@ times_read passes before m more i f low there =
     let packets = map packet_of before in
     let bytes = (file_of before ++ packet_header_bytes written_header.order (packet_of m)) ++ (m.bytes ++ more) in
     ap (λ (l : List ℕ). packet_given (first_scan passes bytes) bytes (length l + i)) (sym (payload_is before))
-    ∙ pcap_packet_of passes written_header packets (packet_of m) fits_header (all_fit passes before f) (fits_packet passes m low) refl more i there
+    ∙ pcap_packet_of passes written_header packets (packet_of m) more i fits_header (all_fit passes before f) (fits_packet passes m low) refl there
     ∙ ap (λ (n : ℕ). Some (record { number = place (n + 1); at = place (length (file_of before)); time = Some (record_time true (packet_of m).seconds (packet_of m).fraction); length = length m.bytes })) (count_is before)
     ∙ ap (λ (t : ℕ). Some (record { number = place (length before + 1); at = place (length (file_of before)); time = Some t; length = length m.bytes })) (time_is (written_time m.time))

@@ -1,5 +1,7 @@
-use Rattle.dbus_capture.proofs.PacketLaws.{pcap_reported}
+use Rattle.dbus_capture.proofs.Leads.{reported_from}
+use Rattle.dbus_capture.proofs.PcapReads.{first_of_pcap, file_read, packet_begins}
 use Rattle.dbus_capture.proofs.laws.pcap_packet_is_reported.Goals as goal
 
 pub returns : goal.returns
-returns c passes header packets packet front back f g fits whole e = pcap_reported passes header packets packet f g fits whole front back e
+returns c passes header packets packet front back f g fits whole e =
+    reported_from (first_of_pcap passes header f packets) (file_read passes header f packets g) (packet_begins passes header f packets g packet fits whole) front back e

@@ -1,4 +1,4 @@
-use Rattle.dbus_capture.proofs.BlockPacketLaws.{pcapng_read}
+use Rattle.dbus_capture.proofs.SectionReads.{pcapng_read}
 use Rattle.dbus_capture.proofs.laws.pcapng_is_read.Goals as goal
 
 pub returns : goal.returns

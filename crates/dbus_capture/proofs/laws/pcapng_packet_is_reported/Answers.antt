@@ -1,5 +1,7 @@
-use Rattle.dbus_capture.proofs.BlockPacketLaws.{pcapng_reported}
+use Rattle.dbus_capture.proofs.Leads.{reported_from}
+use Rattle.dbus_capture.proofs.SectionReads.{first_of_sections, file_read, packet_follows}
 use Rattle.dbus_capture.proofs.laws.pcapng_packet_is_reported.Goals as goal
 
 pub returns : goal.returns
-returns c passes x sections i block front back f g fits body timed found link_type captured e = pcapng_reported passes x sections i block f g fits body timed found link_type captured front back e
+returns c passes x sections i block front back f g fits body timed found link_type captured e =
+    reported_from (first_of_sections x sections) (file_read passes x sections f g) (packet_follows passes x sections i block f g fits body timed found link_type captured) front back e

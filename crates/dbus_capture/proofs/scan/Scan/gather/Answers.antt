@@ -1,11 +1,11 @@
-use Rattle.std.proofs.Common.{true, ◌≡◌, ℕ, ◌+◌, ◌<◌, ◌≤◌, List, [], ◌++◌, length, take, None, sym, ap, ◌∙◌, arith}
+use Rattle.std.proofs.Common.{false, ◌≡◌, ℕ, ◌+◌, ◌<◌, ◌≤◌, List, [], ◌++◌, length, take, None, sym, ap, ◌∙◌, arith}
 use Rattle.std.proofs.lemmas.List.{length-take-le, nil_from_length, take_all}
 use Rattle.dbus_capture.specs.declared.scan.Scan.{Scan}
 use Rattle.dbus_capture.specs.declared.stage.Stage.{Stage}
-use Rattle.dbus_capture.specs.Stages.{is_filed, want, Heading, begun}
+use Rattle.dbus_capture.specs.Stages.{is_raw, want, Heading, begun}
 use Rattle.dbus_capture.specs.Blocks.{decoded}
 use Rattle.dbus_capture.specs.Steps.{run, given}
-use Rattle.dbus_capture.proofs.HeadLaws.{run_gathers, run_head}
+use Rattle.dbus_capture.proofs.StepLaws.{run_gathers, run_head}
 use Rattle.dbus_capture.proofs.scan.Scan.gather.Goals as goal
 
 pub returns-then-piece-missing-clause-runs : goal.returns-then-piece-missing-clause-runs
@@ -28,7 +28,7 @@ returns-then-piece-missing-clause-gives c =
     let law = run_gathers s piece c.requires.unfaulted c.requires.filed c.requires.given c.requires.skipped (omega (arith, count, short)) in
     ap (given s) all ∙ law.1
 
-whole : (s : Scan) (piece : List ℕ) (n : ℕ) → s.fault ≡ None → is_filed s.head.stage ≡ true → s.give ≡ 0 → s.skip ≡ 0 → 0 < n → n ≤ length piece
+whole : (s : Scan) (piece : List ℕ) (n : ℕ) → s.fault ≡ None → is_raw s.head.stage ≡ false → s.give ≡ 0 → s.skip ≡ 0 → 0 < n → n ≤ length piece
     → length s.head.bytes + n ≡ want s.head.stage
     → (run s (take n piece) ≡ decoded (record s { head = begun s.head.stage }) (s.head.bytes ++ take n piece)) × (given s (take n piece) ≡ [])
 whole s piece n p q z k some short count =
