@@ -36,33 +36,8 @@ reason_number reason.NotYet = 27
 
 -- the code of the field that is missing; where that is not the reason, 0, which is no field's code
 abbrev pub field_named : Reason → ℕ
-field_named reason.ByteOrder = 0
-field_named reason.Kind = 0
-field_named reason.Version = 0
-field_named reason.ZeroSerial = 0
-field_named reason.ArrayTooLong = 0
-field_named reason.MessageTooLong = 0
-field_named reason.Padding = 0
-field_named reason.Overrun = 0
-field_named reason.Bool = 0
-field_named reason.Text = 0
-field_named reason.Nul = 0
-field_named reason.Path = 0
-field_named reason.Signature = 0
-field_named reason.Interface = 0
-field_named reason.Member = 0
-field_named reason.ErrorName = 0
-field_named reason.BusName = 0
-field_named reason.NameTooLong = 0
-field_named reason.FieldCode = 0
-field_named reason.FieldTwice = 0
-field_named reason.FieldType = 0
 field_named (reason.FieldMissing code) = code
-field_named reason.Trailing = 0
-field_named reason.TooDeep = 0
-field_named reason.Truncated = 0
-field_named reason.FdIndex = 0
-field_named reason.NotYet = 0
+field_named _ = 0
 
 -- Reasons that have one number and name one field are the same.
 abbrev pub OneNumber : Type 0
@@ -92,33 +67,8 @@ name_at n =
 
 -- what stands after a reason's name in its text: of a missing field its code
 abbrev pub code_text : Reason → List ℕ
-code_text reason.ByteOrder = []
-code_text reason.Kind = []
-code_text reason.Version = []
-code_text reason.ZeroSerial = []
-code_text reason.ArrayTooLong = []
-code_text reason.MessageTooLong = []
-code_text reason.Padding = []
-code_text reason.Overrun = []
-code_text reason.Bool = []
-code_text reason.Text = []
-code_text reason.Nul = []
-code_text reason.Path = []
-code_text reason.Signature = []
-code_text reason.Interface = []
-code_text reason.Member = []
-code_text reason.ErrorName = []
-code_text reason.BusName = []
-code_text reason.NameTooLong = []
-code_text reason.FieldCode = []
-code_text reason.FieldTwice = []
-code_text reason.FieldType = []
 code_text (reason.FieldMissing code) = codes "(" ++ (decimal code ++ codes ")")
-code_text reason.Trailing = []
-code_text reason.TooDeep = []
-code_text reason.Truncated = []
-code_text reason.FdIndex = []
-code_text reason.NotYet = []
+code_text _ = []
 
 -- The text of a reason is the name at its number, and the code of the field that is missing.
 abbrev pub NamesAreTexts : Type 0

@@ -16,7 +16,7 @@ use Rattle.dbus_json.specs.JsonValues.{AreJson, IsJson, array, listed, member, o
 use Rattle.dbus_explain.specs.Explained.{bytes_line, place_in, rule_line}
 use Rattle.dbus_explain.specs.Heads.{AreWhole, IsHead, flags_of, head_lines, kind_of, serial_of}
 use Rattle.dbus_explain.specs.Laws.{AreOfOne, FieldsHaveNoDouble, HasNoDouble, HaveNoDouble, OneExplanation, OneRefusal}
-use Rattle.dbus_explain.specs.Looks.{look_of}
+use Rattle.dbus_explain.specs.Looks.{look_at}
 use Rattle.dbus_explain.specs.Members.{AreMembersOf, IsJsonHead}
 use Rattle.dbus_explain.specs.Members as members
 use Rattle.dbus_explain.specs.Names.{IsNameOf, text_part}
@@ -34,7 +34,7 @@ abbrev lines_of : (bytes : List ℕ) → Fault → (number offset : ℕ) → (na
 lines_of bytes fault number offset name text head =
     let at = place_in bytes fault in
     (codes "  message " ++ (decimal number ++ (codes " at " ++ (decimal offset ++ (codes ", byte " ++ (decimal at ++ (codes ": " ++ (name ++ text_part text))))))))
-    ∷ (head_lines head ++ (bytes_line bytes at ∷ rule_line (rule_text fault.reason ++ (if nat_eq offset 0 && nat_eq fault.at 0 then look_of bytes else [])) ∷ []))
+    ∷ (head_lines head ++ (bytes_line bytes at ∷ rule_line (rule_text fault.reason ++ look_at bytes fault offset) ∷ []))
 
 same_name : (a b : Refused) (x y : List ℕ) (t u : Option StatedText) → AreOfOne a b → IsNameOf a.bytes.now a.fault.reason (place_in a.bytes.now a.fault) x t → IsNameOf b.bytes.now b.fault.reason (place_in b.bytes.now b.fault) y u
     → (x ≡ y) × (t ≡ u)

@@ -19,7 +19,7 @@ use Rattle.dbus_explain.proofs.VisibleLines.{line_visible}
 use Rattle.dbus_explain.specs.Explained.{IsMarkAt, lines_of, bytes_line, place_line, rule_line, mark_line, quoted_line, AreLines, byte_text, marked}
 use Rattle.dbus_explain.specs.Explained.{window}
 use Rattle.dbus_explain.specs.Heads.{head_part}
-use Rattle.dbus_explain.specs.Looks.{begins, is_letter, look_of, look_text}
+use Rattle.dbus_explain.specs.Looks.{begins, is_letter, lacks_serial, look_of, look_text}
 use Rattle.dbus_explain.specs.Names.{IsFieldName, in_field, behind_fields, text_part, IsValueName, in_value, behind_values, IsNameOf, first, missing}
 use Rattle.dbus_explain.specs.Names.{field, padding, value, code_name, first_part, path_text, step_text, is_missing}
 use Rattle.dbus_explain.specs.Rules.{rule_text as rule_of}
@@ -150,7 +150,10 @@ line_look_of bytes =
     (literal [] refl)))))))
 
 line_look : (refused : Refused) → IsOneLine (look_text refused)
-line_look refused = line_either (nat_eq refused.offset 0 && nat_eq refused.fault.at 0) _ _ (line_look_of refused.bytes.now) (literal [] refl)
+line_look refused =
+    line_either (nat_eq refused.offset 0 && nat_eq refused.fault.at 0) _ _ (line_look_of refused.bytes.now)
+    (line_either (lacks_serial refused.bytes.now refused.fault) _ _
+    (literal (codes "; libdbus makes such a signal when its bus ends, and dbus-monitor writes it") refl) (literal [] refl))
 
 -- ---- three of them, and four
 

@@ -1,6 +1,10 @@
--- What an input is that does not begin as a message does, by its first bytes.
-use Rattle.std.specs.Prelude.{ℕ, List, [], ◌∷◌, Bool, codes, nat_eq, ◌||◌, ◌&&◌, if◌then◌else◌, take}
+-- What an input is that does not begin as a message does, by its first bytes; and what a signal is
+-- that has no serial. D-Bus Specification, "Message Format".
+use Rattle.std.specs.Prelude.{ℕ, List, [], ◌∷◌, ◌++◌, Bool, true, false, codes, nat_eq, ◌||◌, ◌&&◌, if◌then◌else◌, take}
 use Rattle.std.specs.List.{list_all, starts_with}
+use Rattle.dbus_value_model.specs.declared.fault.Fault.{Fault}
+use Rattle.dbus_value_model.specs.declared.fault.Reason.{Reason}
+use Rattle.dbus_value_model.specs.declared.fault.Reason.TheVariants.{ZeroSerial}
 use Rattle.dbus_explain.specs.Places.{is_printable}
 use Rattle.dbus_explain.specs.declared.message.Refused.{Refused}
 
@@ -24,6 +28,21 @@ look_of bytes =
     else if list_all is_letter (take 8 bytes) then codes "; text, where dbus-monitor --binary and busctl capture write messages"
     else []
 
--- what is said of the input behind the rule, if its very first byte is refused
+-- such a message is a signal with serial 0
+abbrev pub is_zero_serial : Reason → Bool
+is_zero_serial ZeroSerial = true
+is_zero_serial reason = false
+
+abbrev pub lacks_serial : List ℕ → Fault → Bool
+lacks_serial bytes fault = is_zero_serial fault.reason && nat_eq fault.at 8 && (begins bytes (codes "l" ++ (4 ∷ [])) || begins bytes (codes "B" ++ (4 ∷ [])))
+
+-- what is said behind the rule: what the input is, if its very first byte is refused; or who makes
+-- such a signal
+abbrev pub look_at : (bytes : List ℕ) → Fault → (offset : ℕ) → List ℕ
+look_at bytes fault offset =
+    if nat_eq offset 0 && nat_eq fault.at 0 then look_of bytes
+    else if lacks_serial bytes fault then codes "; libdbus makes such a signal when its bus ends, and dbus-monitor writes it"
+    else []
+
 abbrev pub look_text : Refused → List ℕ
-look_text refused = if nat_eq refused.offset 0 && nat_eq refused.fault.at 0 then look_of refused.bytes.now else []
+look_text refused = look_at refused.bytes.now refused.fault refused.offset

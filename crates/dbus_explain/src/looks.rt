@@ -1,22 +1,35 @@
-//! What an input is that does not begin as a message does.
+//! What an input is that does not begin as a message does, and a signal that has no serial.
 #![tactic(auto)]
 
 ghost use Rattle.std.specs.Prelude.{◌≡◌, take};
 ghost use Rattle.std.specs.List.{list_all};
-ghost use Rattle.dbus_explain.specs.Looks.{is_letter, look_of, look_text};
+ghost use Rattle.dbus_explain.specs.Looks.{is_letter, lacks_serial, look_of, look_text};
 
 use crate::message::Refused;
 use crate::search::is_printable;
+use dbus_value_model::Reason;
 
-/// What is said of the input behind the rule, if its very first byte is refused.
+/// What is said behind the rule: what the input is, if its very first byte is refused; or who makes
+/// a signal with serial 0.
 pub(crate) fn look_in(refused: &Refused) -> &'static str
     ensures { result.now ≡ look_text refused.now }
 {
     if refused.offset == 0 && refused.fault.at == 0 {
         look_of(refused.bytes)
+    } else if lacks_serial(refused) {
+        "; libdbus makes such a signal when its bus ends, and dbus-monitor writes it"
     } else {
         ""
     }
+}
+
+// Whether it is a signal with serial 0.
+fn lacks_serial(refused: &Refused) -> bool
+    ensures { result ≡ lacks_serial refused.now.bytes.now refused.now.fault }
+{
+    matches!(refused.fault.reason, Reason::ZeroSerial)
+        && refused.fault.at == 8
+        && (refused.bytes.starts_with(b"l\x04") || refused.bytes.starts_with(b"B\x04"))
 }
 
 // What is said of an input that begins with these bytes.

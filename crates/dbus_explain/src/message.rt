@@ -46,7 +46,8 @@ pub struct Refused<'a> {
 /// bytes around the place in hexadecimal, and the one there between brackets, which are empty at
 /// the end of what was read. The last says what has to be there, and names the section of the D-Bus
 /// Specification; if the very first byte of the input is refused, it also says what that looks
-/// like, as a handshake, an ELF program, a gzip, xz or zstd file, or text, and what to do.
+/// like, as a handshake, an ELF program, a gzip, xz or zstd file, or text, and what to do; and of a
+/// signal with serial 0 that libdbus makes it.
 ///
 /// ```text
 ///   message 2 at 96, byte 72: body[1][3].key
