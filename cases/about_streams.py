@@ -3,7 +3,7 @@ dbus-wire, and all of these over devices that fail; and hostile inputs."""
 
 from devices import ask_copies, ask_device, ask_failing, ask_passing, ask_pieces, ask_reader
 from growths import ask_made
-from handshakes import ask_cuts, ask_dialogue, ask_handshake, asker_of_lines
+from handshakes import ask_cuts, ask_dialogue, ask_handshake, ask_watch, asker_of_lines
 from read_cases import read_bytes
 from runs import ORDERS, ask_addresses, ask_match, ask_printed, ask_rule, ask_stream, ask_tool
 from streams import ask_message
@@ -44,6 +44,7 @@ FILES = {
     "cut_lines.txt": ask_cuts,
     "dialogues.txt": ask_dialogue,
     "handshakes.txt": ask_handshake,
+    "watched.txt": ask_watch,
     "growths_of_lines.txt": ask_made,
     **{f"{command}.txt": ask_tool for command in ("words", *COMMANDS, "explained")},
     "handshake.txt": ask_listed,

@@ -112,10 +112,15 @@ def acts_of(side, sent, status):
     return [*(hexed(line + CRLF) for line in lines), *acts.get(status, [])]
 
 
+def variant_of(words):
+    """The name of a variant, as a machine or a watch says it."""
+    return "".join(map(str.capitalize, words.split(" ")))
+
+
 def standing(side, state):
     """The status of an end or the state of a machine as it says it, in one word, of a client with the server's GUID; and whether both agreed."""
     guid, agreed = KNOWN.search(state).groups(default="")
-    word = "".join(map(str.capitalize, KNOWN.sub("", state, count=1).split(" ")))
+    word = variant_of(KNOWN.sub("", state, count=1))
     return (f"{word}{guid or ' none'}" if side == "client" else word) + agreed
 
 
@@ -156,3 +161,11 @@ def ask_handshake(case, _):
     for way, pieces in WAYS.items():
         words = words_of("handshake", f"message={MESSAGE.hex()}", settings_of(client), settings_of(server), pieces, "taken=all")
         yield Question(f"by {way}", words, wanted)
+
+
+def ask_watch(case, _):
+    _, column, becomes, state, unanswered, asked = case
+    said = [it.partition(" ") for it in column.split(", ")]
+    lines = ",".join(f"{side}:{read_bytes(items).hex()}" for side, _, items in said)
+    told = map(variant_of, [*becomes.split(", "), state])
+    yield Question("watch", f"watch lines={lines}", words_of(*told, unanswered, asked))

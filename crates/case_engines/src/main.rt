@@ -41,6 +41,7 @@ mod showing;
 mod streams;
 mod texts;
 mod values;
+mod watching;
 mod whole;
 mod writing;
 

@@ -18,6 +18,7 @@ use crate::running::say_runs;
 use crate::streams::OfStream;
 use crate::texts::OfText;
 use crate::values::OfValue;
+use crate::watching::say_watched;
 use crate::whole::OfWhole;
 use crate::{made, streams, texts, values, whole};
 use case_questions::{Answerer, Memory, Question, Reply, named};
@@ -63,8 +64,9 @@ enum Kind {
     Machine(Side),
     // The lines that bytes are cut into.
     CutLines,
-    // Both ends.
+    // Both ends, and one who looks on.
     Handshake,
+    Watch,
     // A message of which each byte is changed, and streams that are too long to hold.
     Changed,
     Long,
@@ -126,6 +128,7 @@ const KINDS: &[(&str, Kind)] = &[
     ("server-machine", Kind::Machine(Side::Server)),
     ("cut-lines", Kind::CutLines),
     ("handshake", Kind::Handshake),
+    ("watch", Kind::Watch),
     ("changed", Kind::Changed),
     ("long", Kind::Long),
 ];
@@ -168,6 +171,7 @@ impl Answerer for Engines {
             Kind::Machine(side) => say_machine(reply, memory, question, side),
             Kind::CutLines => say_cut(reply, memory, question),
             Kind::Handshake => say_handshake(reply, memory, question),
+            Kind::Watch => say_watched(reply, memory, question),
             Kind::Changed => say_changed(reply, question),
             Kind::Long => say_long(reply, question),
         };
