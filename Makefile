@@ -103,7 +103,7 @@ COMPLETIONS = bash-completion/completions/dbus-wire fish/vendor_completions.d/db
 INSTALLED = $(BINDIR)/dbus-wire $(MANDIR)/man1/dbus-wire.1 $(addprefix $(DATADIR)/,$(COMPLETIONS)) $(ZSHDIR)/_dbus-wire \
 	$(addprefix $(DOCDIR)/,LICENSE NOTICES PROVED.md) $(MANDIR)/man3/dbus_wire*.3 \
 	$(INCLUDEDIR)/dbus_wire.h $(addprefix $(LIBDIR)/,libdbus_wire.a libdbus_wire.so $(SONAME) libdbus_wire.so.$(VERSION)) \
-	$(LIBDIR)/pkgconfig/dbus-wire.pc
+	$(LIBDIR)/pkgconfig/dbus-wire.pc $(LIBDIR)/cmake/dbus-wire/*.cmake
 
 # What make run does, and with which capture.
 ARGS = check
@@ -257,11 +257,11 @@ bench: build
 	cd crates/examples && rt run -- speed 64 < ../../samples/session.dbus
 
 bench-c: library
-	$(CC) -std=c99 -D_GNU_SOURCE -O2 -Iinclude -o out/calls bench/calls.c $(ARCHIVE)
+	$(CC) -std=c99 -O2 -Iinclude -o out/calls bench/calls.c $(ARCHIVE)
 	head -c 169 samples/session.dbus | out/calls 100000
-	$(CC) -std=c99 -D_GNU_SOURCE -O2 -Iinclude -o out/pieces bench/pieces.c $(ARCHIVE)
+	$(CC) -std=c99 -O2 -Iinclude -o out/pieces bench/pieces.c $(ARCHIVE)
 	bench/pieces.sh out/pieces
-	$(CC) -std=c99 -D_GNU_SOURCE -O2 -Iinclude -o out/rules bench/rules.c $(ARCHIVE)
+	$(CC) -std=c99 -O2 -Iinclude -o out/rules bench/rules.c $(ARCHIVE)
 
 install: install-program install-c
 
@@ -285,9 +285,11 @@ install-dev: install-notices
 	install -D -m 644 include/dbus_wire.h $(DESTDIR)$(INCLUDEDIR)/dbus_wire.h
 	install -D -m 644 $(ARCHIVE) $(DESTDIR)$(LIBDIR)/libdbus_wire.a
 	ln -sf $(SONAME) $(DESTDIR)$(LIBDIR)/libdbus_wire.so
-	install -d $(DESTDIR)$(LIBDIR)/pkgconfig
-	sed 's|@INCLUDEDIR@|$(INCLUDEDIR)|; s|@LIBDIR@|$(LIBDIR)|; s|@VERSION@|$(VERSION)|' include/dbus-wire.pc.in \
-		> $(DESTDIR)$(LIBDIR)/pkgconfig/dbus-wire.pc
+	install -d $(DESTDIR)$(LIBDIR)/pkgconfig $(DESTDIR)$(LIBDIR)/cmake/dbus-wire
+	for file in pkgconfig/dbus-wire.pc cmake/dbus-wire/dbus-wire-config.cmake cmake/dbus-wire/dbus-wire-config-version.cmake; do \
+		sed 's|@INCLUDEDIR@|$(INCLUDEDIR)|; s|@LIBDIR@|$(LIBDIR)|; s|@VERSION@|$(VERSION)|; s|@SONAME@|$(SONAME)|' \
+			include/$${file##*/}.in > $(DESTDIR)$(LIBDIR)/$$file || exit 1; \
+	done
 	install -d $(DESTDIR)$(MANDIR)/man3
 	packaging/manual.py > $(DESTDIR)$(MANDIR)/man3/dbus_wire.3
 	for call in $$(packaging/manual.py --calls); do ln -sf dbus_wire.3 $(DESTDIR)$(MANDIR)/man3/$$call.3; done

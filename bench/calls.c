@@ -1,6 +1,7 @@
 /* calls RULES: of the message on standard input the nanoseconds of processor time that some calls of the C library take, the best of
  * several rounds; those of spelling and building the signal of signal.h; and of a set of so many match rules, of which ten match each
  * signal NameAcquired of the bus, those of adding a rule and of finding the rules that match. */
+#define _GNU_SOURCE /* clock_gettime */
 #include "signal.h"
 #include <dbus_wire.h>
 

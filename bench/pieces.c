@@ -1,5 +1,6 @@
 /* pieces NAME: how fast a checker of the C library takes the messages of standard input if they come in pieces of 1, 7, 64 and 4,096
  * bytes, and if all of them come at once: a line with the name and MB per second of processor time, the best of several rounds. */
+#define _GNU_SOURCE /* clock_gettime */
 #include "read_input.h"
 #include <dbus_wire.h>
 #include <stdint.h>

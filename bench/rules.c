@@ -1,6 +1,7 @@
 /* rules COUNT NAME MATCHING OTHER: of a set of COUNT match rules the nanoseconds of processor time that it takes to add a rule, and to find those that match
  * the message on standard input, the best of several rounds. Ten rules are MATCHING, the others OTHER with a number of their own in place of %ld. The
  * message's SENDER, :1.7, owns NAME. */
+#define _GNU_SOURCE /* clock_gettime */
 #include <dbus_wire.h>
 
 #include <stdio.h>

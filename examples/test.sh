@@ -41,10 +41,17 @@ sed -n 's/^\(DBUS_WIRE_[A-Z_]*((.*)) \)\{0,1\}\(void\|uint[0-9]*_t\|size_t\) \(d
 test "$("${tools}objdump" -p "$shared" | grep -c NEEDED)" = 1
 "$here/stack.py" "$shared" 131072 $target
 # The deepest messages take less of it.
-"$CC" -std=c99 -O2 -D_GNU_SOURCE $flags -pthread -o "$built/stack" "$here/c/stack.c" "$archive"
+"$CC" -std=c99 -O2 $flags -pthread -o "$built/stack" "$here/c/stack.c" "$archive"
 $run "$built/stack" | awk '{ print } $3 > ($1 == "dbus_wire_from_json" ? 131072 : 65536) { is_more = 1 } END { exit is_more }'
-# The header is C99 and C++, and the archive needs no other.
-echo '#include <dbus_wire.h>' | "$CXX" $flags -x c++ -fsyntax-only -
+# The header is C and C++ without a warning, whose -Wswitch knows its enums, and the archive needs no other.
+strict="-Wconversion -Wsign-conversion -Wshadow -Wcast-qual -fsyntax-only"
+for std in c99 c11 c17; do echo '#include <dbus_wire.h>' | "$CC" -std=$std $flags $strict -x c -; done
+for std in c++11 c++17 c++20; do echo '#include <dbus_wire.h>' | "$CXX" -std=$std $flags $strict -x c++ -; done
+for source in "$here"/c/*.c; do "$CC" -std=c11 $flags -Wconversion -fsyntax-only "$source"; done
+switch='switch ((enum dbus_wire_answer)it) { case DBUS_WIRE_OK: return 1; }'
+printf '#include <dbus_wire.h>\nint is_ok(uint32_t it) { %s return 0; }' "$switch" > "$built/switch.c"
+must_fail "$CC" $flags -fsyntax-only "$built/switch.c" 2> "$built/said"
+grep -q 'switch\]' "$built/said"
 "$CC" -std=c99 -O2 $flags -o "$built/check" "$here/c/check.c" -L"$built" -ldbus_wire
 "$CC" -std=c99 -O2 $flags -o "$built/check_shared" "$here/c/check.c" "$shared" -Wl,-rpath,"$(cd "$(dirname "$shared")" && pwd)"
 "$CC" $sanitized -o "$built/check_sanitized" "$here/c/check.c" -L"$built" -ldbus_wire
@@ -89,7 +96,7 @@ for sample in session big-endian; do
 done
 "$here/../cases/refused_lines.py" "$program" 3000 1 $run "$built/encode"
 # Both ends of a handshake: one with the other, a client with a bus, and a server with a client of libdbus.
-"$CC" $sanitized -D_GNU_SOURCE -o "$built/handshake" "$here/c/handshake.c" -L"$built" -ldbus_wire
+"$CC" $sanitized -o "$built/handshake" "$here/c/handshake.c" -L"$built" -ldbus_wire
 for length in 1 7 4096; do $run "$built/handshake" pieces $length; done
 sockets=$(mktemp -d) proxy=
 if command -v dbus-daemon > /dev/null; then
@@ -97,7 +104,7 @@ if command -v dbus-daemon > /dev/null; then
 	trap 'kill "$bus" $proxy' EXIT
 	$run "$built/handshake" client "unix:path=$sockets/none;unix:path=$sockets/bus"
 	# A client behind a proxy asks the bus, but not for what a rule denies, in none of the ways past it that are known.
-	"$CC" $sanitized -D_GNU_SOURCE -o "$built/proxy" "$here/c/proxy.c" -L"$built" -ldbus_wire
+	"$CC" $sanitized -o "$built/proxy" "$here/c/proxy.c" -L"$built" -ldbus_wire
 	$run "$built/proxy" deny "$sockets/door" "unix:path=$sockets/bus" "type='method_call',member='GetId'" & proxy=$!
 	while test ! -S "$sockets/door"; do sleep 0.1; done
 	if command -v dbus-send > /dev/null; then
@@ -122,7 +129,7 @@ fi
 rm -rf "$sockets"
 # A service at a bus, which the words run, sends the values and descriptors of each call back: to a caller in C, and to gdbus and busctl, if they are
 # there; busctl sends no descriptors.
-"$CC" $sanitized -D_GNU_SOURCE -o "$built/descriptors" "$here/c/descriptors.c" -L"$built" -ldbus_wire
+"$CC" $sanitized -o "$built/descriptors" "$here/c/descriptors.c" -L"$built" -ldbus_wire
 try_echo() {
 	sockets=$(mktemp -d)
 	bus=$(dbus-daemon --session --fork --print-pid --address="unix:path=$sockets/bus")
@@ -170,7 +177,7 @@ try_load() {
 	trap - EXIT
 	rm -rf "$sockets"
 }
-"$CC" $sanitized -D_GNU_SOURCE -o "$built/service" "$here/c/service.c" -L"$built" -ldbus_wire
+"$CC" $sanitized -o "$built/service" "$here/c/service.c" -L"$built" -ldbus_wire
 # A call that is longer than its room does not end it.
 call_long() {
 	if [ -n "$target" ]; then return; fi
@@ -187,7 +194,7 @@ for nth in 1 2; do
 	test $status = 3
 done
 # An end for which there is no memory is not made; one that has too little for a call goes on by the same call.
-"$CC" -std=c99 -O2 -D_GNU_SOURCE $flags -o "$built/handshake_plain" "$here/c/handshake.c" -L"$built" -l:libdbus_wire.a
+"$CC" -std=c99 -O2 $flags -o "$built/handshake_plain" "$here/c/handshake.c" -L"$built" -l:libdbus_wire.a
 for nth in $(seq 1 60); do
 	status=0
 	LD_PRELOAD=$built/refuse_nth.so REFUSE_NTH=$nth $run "$built/handshake_plain" pieces 7 > "$built/said" 2>&1 || status=$?

@@ -32,7 +32,8 @@ build() {
     for example in "$root"/usr/share/doc/libdbus-wire-dev/examples/*.c; do
         # The words of pkg-config are apart, here and below.
         # shellcheck disable=SC2046
-        "${CC:-cc}" -std=c99 -D_GNU_SOURCE -O2 -Wall -Werror -pthread $(pkg-config --cflags dbus-wire) -o "$to/$(basename "$example" .c)" "$example" "$@"
+        "${CC:-cc}" -std=c99 -O2 -Wall -Werror -pthread $(pkg-config --cflags dbus-wire) \
+            -o "$to/$(basename "$example" .c)" "$example" "$@"
     done
 }
 # shellcheck disable=SC2046

@@ -1,4 +1,5 @@
 /* A connection to a bus by its server addresses, as DBUS_SESSION_BUS_ADDRESS has them. */
+#define _GNU_SOURCE /* sockets, and whose process is at their other end */
 #include <dbus_wire.h>
 #include <stdio.h>
 #include <stdlib.h>

@@ -70,17 +70,14 @@ static const char *after_type(const char *types) {
     return types;
 }
 
-/* How many of the items after it are within this one. */
-static uint64_t within(const struct dbus_wire_flat_item *item) { return strchr("a({v", (int)item->code) ? item->number : 0; }
-
 static void print_value(const uint8_t *bytes, const struct dbus_wire_flat_item *item, const char *types);
 
 /* What is within a container: values of these types, or of the first of them each. */
 static void print_parts(const uint8_t *bytes, const struct dbus_wire_flat_item *item, const char *types, int are_elements) {
-    const struct dbus_wire_flat_item *part = item + 1, *end = part + within(item);
+    const struct dbus_wire_flat_item *part = item + 1, *end = item + dbus_wire_item_after(item, 0);
     while (part < end) {
         print_value(bytes, part, types);
-        part += 1 + within(part);
+        part += dbus_wire_item_after(part, 0);
         if (!are_elements) types = after_type(types);
         if (part < end) printf(", ");
     }
@@ -127,7 +124,7 @@ static struct dbus_wire_flat_item fields[ROOM], values[ROOM];
 static void print_body(const uint8_t *bytes, const struct dbus_wire_parts *parts, uint64_t all) {
     const char *types = (const char *)bytes + parts->signature.offset;
     uint64_t at;
-    for (at = 0; at < all; at += 1 + within(&values[at])) {
+    for (at = 0; at < all; at = dbus_wire_item_after(values, at)) {
         printf("  ");
         print_value(bytes, &values[at], types);
         printf("\n");

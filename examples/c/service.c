@@ -55,7 +55,7 @@ static void refuse(uint64_t length, uint32_t serial) {
     if (!is_asked) return;
     memset(in + 4, 0, 4);
     if (dbus_wire_flatten_whole(in, header, NULL, 0, fields, 256, &count, &told) > DBUS_WIRE_NO_ROOM) return;
-    for (uint64_t at = 0; at < count.fields && at + 3 < 256; at += fields[at].number + 1)
+    for (uint64_t at = 0; at < count.fields && at + 3 < 256; at = dbus_wire_item_after(fields, at))
         if (fields[at + 1].number == DBUS_WIRE_FIELD_SENDER)
             error.destination = (struct dbus_wire_draft_text){(const char *)in + fields[at + 3].offset, fields[at + 3].length, 1};
     must(dbus_wire_build(&error, NULL, out, sizeof out, &told) == DBUS_WIRE_OK), send_out(told.length);

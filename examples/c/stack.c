@@ -2,6 +2,7 @@
  * values as deep as the specification allows, whole, without its last byte, and with a bad one. Each
  * call is made on a thread that has a stack of its own. examples/stack.py says what a call needs at
  * most. */
+#define _GNU_SOURCE /* a stack of one's own */
 #include <dbus_wire.h>
 
 #include <pthread.h>
@@ -38,7 +39,7 @@ static void make_message(int has_arrays) {
     struct dbus_wire_array arrays[DEEPEST];
     int depth = 1, opened = 0;
     for (; depth + has_arrays < DEEPEST; depth += 1 + has_arrays) {
-        must(dbus_wire_put_signature(body, sizeof body, &writer, has_arrays ? "av" : "v", 1 + has_arrays));
+        must(dbus_wire_put_signature(body, sizeof body, &writer, has_arrays ? "av" : "v", 1 + (size_t)has_arrays));
         if (has_arrays) must(dbus_wire_open_array(body, sizeof body, &writer, 1, &arrays[opened++]));
     }
     must(dbus_wire_put_signature(body, sizeof body, &writer, "y", 1));

@@ -62,7 +62,7 @@ fn declared(text: &str) -> (String, String) {
 // Of each declaration the same in Rust.
 fn in_rust(declaration: &str) -> Vec<String> {
     let declaration = declaration.trim();
-    if let Some((_, numbers)) = declaration.split_once("enum {") {
+    if let (true, Some((_, numbers))) = (declaration.starts_with("enum "), declaration.split_once('{')) {
         let numbers = numbers.split(',').filter(|number| !number.trim().is_empty());
         return numbers.map(|number| format!("pub const {};", number.replacen('=', ": u32 =", 1))).collect();
     }
