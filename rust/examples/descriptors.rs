@@ -67,7 +67,7 @@ fn send(mut bus: &UnixStream, message: &[u8], fds: &[OwnedFd]) -> io::Result<()>
     let mut span = Span { bytes: message.as_ptr().cast_mut().cast(), length: message.len() };
     let header = header_of(&mut span, &mut beside, if fds.is_empty() { 0 } else { length.next_multiple_of(8) });
     // SAFETY: the header points to a message, which is not written, and to the descriptors.
-    let sent = unsafe { sendmsg(bus.as_raw_fd(), &header, 0) };
+    let sent = unsafe { sendmsg(bus.as_raw_fd(), &raw const header, 0) };
     let sent = usize::try_from(sent).map_err(|_| io::Error::last_os_error())?;
     bus.write_all(&message[sent..])
 }
@@ -79,7 +79,7 @@ fn receive(bus: &UnixStream, bytes: &mut Vec<u8>, fds: &mut Vec<OwnedFd>) -> io:
     let mut span = Span { bytes: piece.as_mut_ptr().cast(), length: piece.len() };
     let mut header = header_of(&mut span, &mut beside, size_of::<Beside>());
     // SAFETY: the header points to room for bytes and for descriptors.
-    let count = unsafe { recvmsg(bus.as_raw_fd(), &mut header, MSG_CMSG_CLOEXEC) };
+    let count = unsafe { recvmsg(bus.as_raw_fd(), &raw mut header, MSG_CMSG_CLOEXEC) };
     match usize::try_from(count) {
         Ok(0) => return Err(io::ErrorKind::UnexpectedEof.into()),
         Ok(count) => bytes.extend(&piece[..count]),
@@ -112,7 +112,7 @@ fn shake_hands(mut bus: &UnixStream) -> Result<(), Box<dyn Error>> {
 }
 
 // A call of the bus itself.
-fn call<'a>(serial: u32, member: &'a str) -> Parts<'a> {
+fn call(serial: u32, member: &str) -> Parts<'_> {
     let name = Some("org.freedesktop.DBus");
     let path = Some("/org/freedesktop/DBus");
     Parts { path, interface: name, member: Some(member), destination: name, ..Parts::new(Kind::MethodCall, serial) }

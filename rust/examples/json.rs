@@ -9,9 +9,9 @@ fn main() -> Result<(), ReadError> {
     let mut place = LinePlace::default();
     for message in messages(io::stdin().lock()) {
         let message = message?;
-        writeln!(out, "{}", message.message().to_json(place))?;
+        writeln!(out, "{}", message.to_json(place))?;
         place.number += 1;
-        place.offset += message.message().bytes().len() as u64;
+        place.offset += message.bytes().len() as u64;
     }
     Ok(out.flush()?)
 }

@@ -43,17 +43,26 @@ const ROOM: usize = 4096;
 
 impl Address<'_> {
     /// The transport, such as `unix`.
+    #[must_use]
     pub fn transport(&self) -> String {
         let (mut out, mut count) = ([0; ROOM], 0);
         // SAFETY: slices and a reference, as `sys` says.
         let answer = unsafe {
-            sys::dbus_wire_address_transport(self.text.as_ptr(), self.text.len(), self.number, out.as_mut_ptr(), ROOM, &mut count)
+            sys::dbus_wire_address_transport(
+                self.text.as_ptr(),
+                self.text.len(),
+                self.number,
+                out.as_mut_ptr(),
+                ROOM,
+                &raw mut count,
+            )
         };
         assert_eq!(answer, sys::DBUS_WIRE_OK, "the text has the address");
         String::from_utf8(out[..count as usize].to_vec()).expect("a transport is ASCII")
     }
 
     /// The value of a key, unescaped, if the address has it: any bytes.
+    #[must_use]
     pub fn value(&self, key: &str) -> Option<Vec<u8>> {
         let (mut out, mut count) = ([0; ROOM], 0);
         // SAFETY: slices and a reference, as `sys` says.
@@ -66,7 +75,7 @@ impl Address<'_> {
                 key.len(),
                 out.as_mut_ptr(),
                 ROOM,
-                &mut count,
+                &raw mut count,
             )
         };
         (answer == sys::DBUS_WIRE_OK).then(|| out[..count as usize].to_vec())
@@ -106,10 +115,14 @@ impl Address<'_> {
 /// assert_eq!(parse_addresses("unix:path=/a;").unwrap_err().at, 13);
 /// # Ok::<(), dbus_wire::AddressFault>(())
 /// ```
+///
+/// # Errors
+///
+/// If the text spells none: where it breaks, and why.
 pub fn parse_addresses(text: &str) -> Result<Vec<Address<'_>>, AddressFault> {
     let mut told = sys::dbus_wire_addresses::default();
     // SAFETY: a slice and a reference, as `sys` says.
-    match unsafe { sys::dbus_wire_address_check(text.as_ptr(), text.len(), &mut told) } {
+    match unsafe { sys::dbus_wire_address_check(text.as_ptr(), text.len(), &raw mut told) } {
         sys::DBUS_WIRE_OK => Ok((0..told.count).map(|number| Address { text, number }).collect()),
         _ => Err(AddressFault { at: told.offset as usize, reason: AddressReason::new(told.reason, 0) }),
     }
@@ -119,6 +132,10 @@ pub fn parse_addresses(text: &str) -> Result<Vec<Address<'_>>, AddressFault> {
 /// Unix sockets are supported, by one of `path`, `abstract` and `runtime=yes`, which is the socket
 /// `bus` in the folder `XDG_RUNTIME_DIR`. The error is that of the last address, or that of the
 /// text: an [`AddressFault`] of the kind [`InvalidInput`](io::ErrorKind::InvalidInput).
+///
+/// # Errors
+///
+/// If no address takes a connection, or if the text spells none.
 pub fn connect(text: &str) -> io::Result<UnixStream> {
     let mut last = None;
     for address in parse_addresses(text).map_err(|fault| io::Error::new(io::ErrorKind::InvalidInput, fault))? {

@@ -43,11 +43,12 @@ impl BadValue {
     }
 
     /// Of a value that is of another type.
-    pub(crate) fn of_type(wanted: String, value: &Value<'_>) -> Self {
+    pub(crate) fn of_type(wanted: &str, value: &Value<'_>) -> Self {
         Self::new(wanted, value.signature())
     }
 
     /// The same, with a step of a container before its path.
+    #[must_use]
     pub fn within(mut self, step: impl fmt::Display) -> Self {
         self.path.insert_str(0, &step.to_string());
         self

@@ -58,12 +58,14 @@ pub struct Body {
 
 impl Body {
     /// An empty body of this byte order.
+    #[must_use]
     pub fn new(order: Order) -> Self {
         let writer = sys::dbus_wire_writer { length: 0, order: order.code().into(), reserved: 0 };
         Self { room: Vec::new(), writer }
     }
 
     /// The bytes that are spelled.
+    #[must_use]
     pub fn bytes(&self) -> &[u8] {
         &self.room[..self.writer.length as usize]
     }
@@ -114,12 +116,20 @@ impl Body {
     }
 
     /// Puts a STRING or an OBJECT_PATH.
+    ///
+    /// # Errors
+    ///
+    /// If the text has more than 4,294,967,295 bytes. Then nothing is put.
     pub fn text(&mut self, text: &str) -> Result<(), TooLong> {
         // SAFETY: two slices, of which `out` is mutable, and a reference, as `sys` says.
         self.put(|out, writer| unsafe { sys::dbus_wire_put_text(out.as_mut_ptr(), out.len(), writer, text.as_ptr(), text.len()) })
     }
 
     /// Puts a SIGNATURE, or the type of the value in a variant, which has to come next.
+    ///
+    /// # Errors
+    ///
+    /// If the text has more than 255 bytes. Then nothing is put.
     pub fn signature(&mut self, text: &str) -> Result<(), TooLong> {
         // SAFETY: two slices, of which `out` is mutable, and a reference, as `sys` says.
         self.put(|out, writer| unsafe {
@@ -140,6 +150,10 @@ impl Body {
     /// # Panics
     ///
     /// If no type has the alignment.
+    ///
+    /// # Errors
+    ///
+    /// What the function returns, or if the elements have more than 4,294,967,295 bytes.
     pub fn array(&mut self, alignment: u32, elements: impl FnOnce(&mut Self) -> Result<(), TooLong>) -> Result<(), TooLong> {
         assert!(matches!(alignment, 1 | 2 | 4 | 8), "no type has the alignment {alignment}");
         let array = self.open_array(alignment)?;
@@ -152,7 +166,9 @@ impl Body {
     pub(crate) fn open_array(&mut self, alignment: u32) -> Result<sys::dbus_wire_array, TooLong> {
         let mut array = sys::dbus_wire_array::default();
         // SAFETY: a mutable slice and two references, as `sys` says.
-        self.put(|out, writer| unsafe { sys::dbus_wire_open_array(out.as_mut_ptr(), out.len(), writer, alignment, &mut array) })?;
+        self.put(|out, writer| unsafe {
+            sys::dbus_wire_open_array(out.as_mut_ptr(), out.len(), writer, alignment, &raw mut array)
+        })?;
         Ok(array)
     }
 
@@ -162,12 +178,29 @@ impl Body {
         self.put(|out, writer| unsafe { sys::dbus_wire_close_array(out.as_mut_ptr(), out.len(), writer, array) })
     }
 
-    /// Puts the elements of an array of BYTE.
+    /// Its byte order.
+    pub(crate) fn order(&self) -> Order {
+        Order::of(self.writer.order)
+    }
+
+    /// Puts the bytes of the elements of an array, which are numbers.
     pub(crate) fn bytes_of_array(&mut self, bytes: &[u8]) {
+        self.room_after(bytes.len()).copy_from_slice(bytes);
+    }
+
+    /// Puts the elements of an array, which are numbers of N bytes, of which these are the bytes.
+    pub(crate) fn numbers_of_array<T: Copy, const N: usize>(&mut self, numbers: &[T], bytes_of: impl Fn(T) -> [u8; N]) {
+        for (room, number) in self.room_after(numbers.len() * N).chunks_exact_mut(N).zip(numbers) {
+            room.copy_from_slice(&bytes_of(*number));
+        }
+    }
+
+    // Room for so many bytes, which are spelled from here on.
+    fn room_after(&mut self, count: usize) -> &mut [u8] {
         let length = self.bytes().len();
-        self.room.truncate(length);
-        self.room.extend(bytes);
-        self.writer.length = self.room.len() as u64;
+        self.room.resize(self.room.len().max(length + count), 0);
+        self.writer.length += count as u64;
+        &mut self.room[length..length + count]
     }
 
     fn number(&mut self, width: u32, bits: u64) {

@@ -40,9 +40,10 @@ pub struct Parts<'a> {
     pub body: &'a [u8],
 }
 
-impl<'a> Parts<'a> {
+impl Parts<'_> {
     /// The parts of a little-endian message of this type and serial, with no flags, no fields and
     /// no body.
+    #[must_use]
     pub fn new(kind: Kind, serial: u32) -> Self {
         Self {
             order: Order::Little,
@@ -65,6 +66,7 @@ impl<'a> Parts<'a> {
 
 /// Why [`build`], [`rebuild`] or [`Message::from_json`] built nothing.
 #[derive(Clone, Copy, Debug, PartialEq, Eq)]
+#[non_exhaustive]
 pub enum BuildError {
     /// No message within the limits has these parts, or a line of JSON spells none. The fault is at
     /// an offset from the first byte that the parts spell, or of the line; or at 0.
@@ -89,6 +91,10 @@ impl Error for BuildError {}
 ///
 /// So of the parts of a message at hand it makes that message only if its fields are in this order,
 /// and none is of another code; [`rebuild`] changes a message and keeps its fields.
+///
+/// # Errors
+///
+/// If no message within the limits has these parts, or if memory runs out in the library.
 pub fn build(parts: &Parts<'_>, limits: &Limits) -> Result<Vec<u8>, BuildError> {
     built(parts, 0, |draft, out, room, told| {
         // SAFETY: as `built` says.
@@ -112,6 +118,10 @@ pub fn build(parts: &Parts<'_>, limits: &Limits) -> Result<Vec<u8>, BuildError> 
 /// assert_eq!(rebuild(&message, &message.parts(), &Limits::default())?, message.bytes());
 /// # Ok::<(), BuildError>(())
 /// ```
+///
+/// # Errors
+///
+/// As of [`build`], and if the parts have the other byte order.
 pub fn rebuild(message: &Message<'_>, parts: &Parts<'_>, limits: &Limits) -> Result<Vec<u8>, BuildError> {
     let bytes = message.bytes();
     built(parts, bytes.len(), |draft, out, room, told| {
@@ -144,6 +154,10 @@ pub fn rebuild(message: &Message<'_>, parts: &Parts<'_>, limits: &Limits) -> Res
 /// assert_eq!(Message::parse(&bytes)?.destination(), call.sender());
 /// # Ok::<(), Box<dyn std::error::Error>>(())
 /// ```
+///
+/// # Errors
+///
+/// As of [`build`], and if the message is no call.
 pub fn reply_to(call: &Message<'_>, parts: &Parts<'_>, limits: &Limits) -> Result<Vec<u8>, BuildError> {
     let bytes = call.bytes();
     built(parts, bytes.len(), |draft, out, room, told| {
@@ -166,7 +180,7 @@ fn built(
     // header and the body.
     let mut out = vec![0; others + texts.map(|text| text.length).iter().sum::<usize>() + parts.body.len() + 11 * 16];
     let mut told = sys::dbus_wire_checked::default();
-    match call(&draft, out.as_mut_ptr(), out.len(), &mut told) {
+    match call(&raw const draft, out.as_mut_ptr(), out.len(), &raw mut told) {
         sys::DBUS_WIRE_OK => {
             out.truncate(told.length as usize);
             Ok(out)

@@ -21,6 +21,7 @@ impl Order {
     }
 
     /// The first byte of a message of this order, `l` or `B`.
+    #[must_use]
     pub fn code(self) -> u8 {
         match self {
             Order::Little => b'l',
@@ -65,10 +66,11 @@ impl Answer {
 /// let fault = Fault { at: 3, reason: Reason::Version };
 /// assert_eq!(check(b"l\x01\0\x02", &Limits::default()), Answer::Refused(fault));
 /// ```
+#[must_use]
 pub fn check(bytes: &[u8], limits: &Limits) -> Answer {
     let mut told = sys::dbus_wire_checked::default();
     // SAFETY: a slice and references, as `sys` says.
-    Answer::new(unsafe { sys::dbus_wire_check(bytes.as_ptr(), bytes.len(), &limits.raw(), &mut told) }, &told)
+    Answer::new(unsafe { sys::dbus_wire_check(bytes.as_ptr(), bytes.len(), &limits.raw(), &raw mut told) }, &told)
 }
 
 /// The number of bytes of the message that the bytes begin with, as soon as 16 of them are there
@@ -82,6 +84,7 @@ pub fn check(bytes: &[u8], limits: &Limits) -> Answer {
 /// assert_eq!(wanted(start, &Limits::default()), Some(79));
 /// assert_eq!(wanted(&start[..15], &Limits::default()), None);
 /// ```
+#[must_use]
 pub fn wanted(bytes: &[u8], limits: &Limits) -> Option<usize> {
     // SAFETY: a slice and a reference, as `sys` says.
     match unsafe { sys::dbus_wire_wanted(bytes.as_ptr(), bytes.len(), &limits.raw()) } {

@@ -59,10 +59,14 @@ unsafe impl Send for Checker {}
 
 impl Checker {
     /// A checker that has taken no bytes, of messages within the limits.
+    ///
+    /// # Errors
+    ///
+    /// If there is no memory for it.
     pub fn new(limits: &Limits) -> Result<Self, OutOfMemory> {
         let mut raw = sys::dbus_wire_checker { inner: ptr::null_mut() };
         // SAFETY: references, as `sys` says, to limits and to what is no checker yet.
-        match unsafe { sys::dbus_wire_checker_new(&limits.raw(), &mut raw) } {
+        match unsafe { sys::dbus_wire_checker_new(&limits.raw(), &raw mut raw) } {
             sys::DBUS_WIRE_OK => Ok(Self { raw }),
             _ => Err(OutOfMemory),
         }
@@ -74,7 +78,7 @@ impl Checker {
     pub fn take(&mut self, piece: &[u8]) -> Taken {
         let mut told = sys::dbus_wire_taken::default();
         // SAFETY: a slice and references, as `sys` says; only calls write `raw` from `new` on.
-        match unsafe { sys::dbus_wire_checker_take(&mut self.raw, piece.as_ptr(), piece.len(), &mut told) } {
+        match unsafe { sys::dbus_wire_checker_take(&raw mut self.raw, piece.as_ptr(), piece.len(), &raw mut told) } {
             sys::DBUS_WIRE_WHOLE => Taken::Whole { count: told.count as usize },
             sys::DBUS_WIRE_PARTIAL => Taken::Partial,
             sys::DBUS_WIRE_REFUSED => Taken::Refused(Fault::new(told.offset, told.reason, told.field)),
@@ -85,7 +89,7 @@ impl Checker {
     /// Begins again, for the next message: it has taken no bytes. Its limits stay.
     pub fn restart(&mut self) {
         // SAFETY: a reference, as `sys` says; only calls write `raw` from `new` on.
-        let answer = unsafe { sys::dbus_wire_checker_restart(&mut self.raw) };
+        let answer = unsafe { sys::dbus_wire_checker_restart(&raw mut self.raw) };
         debug_assert_eq!(answer, sys::DBUS_WIRE_OK);
     }
 }
@@ -94,6 +98,6 @@ impl Drop for Checker {
     fn drop(&mut self) {
         // SAFETY: a reference, as `sys` says; only calls write `raw` from `new` on, and nothing
         // uses it after its drop.
-        unsafe { sys::dbus_wire_checker_free(&mut self.raw) };
+        unsafe { sys::dbus_wire_checker_free(&raw mut self.raw) };
     }
 }

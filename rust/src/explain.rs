@@ -63,22 +63,26 @@ impl Explanation {
     }
 
     /// All lines, each ended by a line feed.
+    #[must_use]
     pub fn lines(&self) -> &str {
         &self.lines
     }
 
     /// The name of the place of the fault: a part of the header, or the path to a value, such as
     /// `body[1]["Title"].value`.
+    #[must_use]
     pub fn name(&self) -> &str {
         &self.lines[self.name.clone()]
     }
 
     /// The head of the message as far as it is whole before the fault, if its type is.
+    #[must_use]
     pub fn head(&self) -> Option<&str> {
         self.head.clone().map(|part| &self.lines[part])
     }
 
     /// What has to be at the place, with its section of the D-Bus Specification.
+    #[must_use]
     pub fn rule(&self) -> &str {
         &self.lines[self.rule.clone()]
     }
@@ -102,6 +106,7 @@ impl fmt::Display for Explanation {
 /// assert_eq!(explanation.rule(), "the protocol version is 1 (D-Bus Specification, \"Message Format\")");
 /// print!("{explanation}");
 /// ```
+#[must_use]
 pub fn explain(bytes: &[u8], limits: &Limits, place: InputPlace) -> Option<Explanation> {
     let (mut explained, mut told, limits) = (Default::default(), Default::default(), limits.raw());
     let place = sys::dbus_wire_input_place { number: place.number, offset: place.offset };
@@ -110,7 +115,16 @@ pub fn explain(bytes: &[u8], limits: &Limits, place: InputPlace) -> Option<Expla
         let (out, room) = (lines.as_mut_ptr(), lines.len());
         // SAFETY: slices and references, as `sys` says.
         match unsafe {
-            sys::dbus_wire_explain(bytes.as_ptr(), bytes.len(), &limits, &place, out, room, &mut explained, &mut told)
+            sys::dbus_wire_explain(
+                bytes.as_ptr(),
+                bytes.len(),
+                &raw const limits,
+                &raw const place,
+                out,
+                room,
+                &raw mut explained,
+                &raw mut told,
+            )
         } {
             sys::DBUS_WIRE_OK => break,
             sys::DBUS_WIRE_NO_ROOM => lines.resize(explained.length as usize + 1, 0),
@@ -138,6 +152,7 @@ pub fn explain(bytes: &[u8], limits: &Limits, place: InputPlace) -> Option<Expla
 /// assert_eq!(whole.body.types(), "u");
 /// assert!(whole.body.eq([Value::Uint32(7)]));
 /// ```
+#[must_use]
 pub fn whole_parts<'a>(bytes: &'a [u8], limits: &Limits) -> Option<WholeParts<'a>> {
     WholeParts::before_fault(bytes, limits)
 }

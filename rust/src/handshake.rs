@@ -46,6 +46,7 @@ pub struct Bounds {
 
 /// Why an end is not made.
 #[derive(Clone, Copy, Debug, PartialEq, Eq, Hash)]
+#[non_exhaustive]
 pub enum HandshakeError {
     /// The GUID of a server is not 32 hexadecimal digits.
     BadGuid,
@@ -87,8 +88,9 @@ impl Handshake {
         let mut told = sys::dbus_wire_handshake_step::default();
         let (raw, room) = (&mut self.raw, &mut self.room);
         // SAFETY: slices and references, as `sys` says; only calls write `raw`.
-        let answer =
-            unsafe { sys::dbus_wire_handshake_take(raw, piece.as_ptr(), piece.len(), room.as_mut_ptr(), room.len(), &mut told) };
+        let answer = unsafe {
+            sys::dbus_wire_handshake_take(raw, piece.as_ptr(), piece.len(), room.as_mut_ptr(), room.len(), &raw mut told)
+        };
         let status = match answer {
             sys::DBUS_WIRE_PARTIAL => Status::Talking,
             sys::DBUS_WIRE_OK => Status::Begun,
@@ -120,12 +122,12 @@ impl Handshake {
 
     fn set_bounds(&mut self, Bounds { rejections, errors }: Bounds) {
         // SAFETY: a reference, as `sys` says; only calls write `raw`.
-        unsafe { sys::dbus_wire_handshake_bound(&mut self.raw, rejections, errors) };
+        unsafe { sys::dbus_wire_handshake_bound(&raw mut self.raw, rejections, errors) };
     }
 
     fn agreed(&mut self) -> bool {
         // SAFETY: a reference, as `sys` says; only calls write `raw`.
-        unsafe { sys::dbus_wire_handshake_agreed(&mut self.raw) == sys::DBUS_WIRE_OK }
+        unsafe { sys::dbus_wire_handshake_agreed(&raw mut self.raw) == sys::DBUS_WIRE_OK }
     }
 }
 
@@ -133,7 +135,7 @@ impl Drop for Handshake {
     fn drop(&mut self) {
         // SAFETY: a reference, as `sys` says; only calls write `raw`, and nothing uses it after its
         // drop.
-        unsafe { sys::dbus_wire_handshake_free(&mut self.raw) };
+        unsafe { sys::dbus_wire_handshake_free(&raw mut self.raw) };
     }
 }
 
@@ -165,6 +167,10 @@ impl Server {
     ///
     /// **The user has to be the one that the transport reports**, as `SO_PEERCRED` of a Unix socket
     /// does, and not the one that is expected: a client that names no user is let in as that one.
+    ///
+    /// # Errors
+    ///
+    /// If the GUID is none, or if there is no memory.
     pub fn new(guid: &str, user: Option<u32>, anonymous: bool) -> Result<Self, HandshakeError> {
         Self::made(guid, user, anonymous, false)
     }
@@ -180,6 +186,10 @@ impl Server {
     /// assert!(server.agreed());
     /// # Ok::<(), Box<dyn std::error::Error>>(())
     /// ```
+    ///
+    /// # Errors
+    ///
+    /// As of [`Server::new`].
     pub fn with_descriptors(guid: &str, user: Option<u32>, anonymous: bool) -> Result<Self, HandshakeError> {
         Self::made(guid, user, anonymous, true)
     }
@@ -189,7 +199,7 @@ impl Server {
         let mechanisms = mechanisms(external, user.unwrap_or(0), anonymous, descriptors);
         let mut made = Handshake::none();
         // SAFETY: a slice and references, as `sys` says, to what is no end yet.
-        match unsafe { sys::dbus_wire_server_new(guid.as_ptr(), guid.len(), &mechanisms, &mut made.raw) } {
+        match unsafe { sys::dbus_wire_server_new(guid.as_ptr(), guid.len(), &raw const mechanisms, &raw mut made.raw) } {
             sys::DBUS_WIRE_OK => Ok(Self(made)),
             sys::DBUS_WIRE_REFUSED => Err(HandshakeError::BadGuid),
             _ => Err(HandshakeError::OutOfMemory),
@@ -214,6 +224,10 @@ impl Server {
     /// Takes at most one line of the piece, with the byte 0 before the first, and answers it. Once
     /// the handshake succeeded or failed it takes nothing. Out of memory changes nothing: pass the
     /// same piece again.
+    ///
+    /// # Errors
+    ///
+    /// If there is no memory: then nothing is changed, so that the same piece may be passed again.
     pub fn take(&mut self, piece: &[u8]) -> Result<Step<'_>, OutOfMemory> {
         self.0.take(piece)
     }
@@ -223,6 +237,11 @@ impl Server {
     ///
     /// If the handshake fails, the error is `ConnectionRefused`, and if memory runs out
     /// `OutOfMemory`. Others are those of the connection.
+    ///
+    /// # Errors
+    ///
+    /// With `ConnectionRefused` if the handshake fails, with `OutOfMemory` if memory runs out, and else
+    /// what the connection returned.
     pub fn shake_hands(&mut self, connection: impl Read + Write) -> io::Result<()> {
         self.0.shake_hands(connection)
     }
@@ -235,6 +254,7 @@ impl Server {
 
 /// As whom a client asks to be let in by EXTERNAL.
 #[derive(Clone, Copy, Debug, PartialEq, Eq, Hash)]
+#[non_exhaustive]
 pub enum External {
     /// As the user of this number.
     AsUser(u32),
@@ -260,6 +280,10 @@ pub struct Client(Handshake);
 impl Client {
     /// The end of a client that asks for EXTERNAL, if that is given, and then for ANONYMOUS, if its
     /// trace is given, which may be empty and has at most 255 bytes.
+    ///
+    /// # Errors
+    ///
+    /// If the trace is too long, or if there is no memory.
     pub fn new(external: Option<External>, trace: Option<&[u8]>) -> Result<Self, HandshakeError> {
         Self::made(external, trace, false)
     }
@@ -278,6 +302,10 @@ impl Client {
     /// assert!(!client.agreed());
     /// # Ok::<(), Box<dyn std::error::Error>>(())
     /// ```
+    ///
+    /// # Errors
+    ///
+    /// As of [`Client::new`].
     pub fn with_descriptors(external: Option<External>, trace: Option<&[u8]>) -> Result<Self, HandshakeError> {
         Self::made(external, trace, true)
     }
@@ -292,7 +320,7 @@ impl Client {
         let trace = trace.unwrap_or(&[]);
         let mut made = Handshake::none();
         // SAFETY: a slice and references, as `sys` says, to what is no end yet.
-        match unsafe { sys::dbus_wire_client_new(&mechanisms, trace.as_ptr(), trace.len(), &mut made.raw) } {
+        match unsafe { sys::dbus_wire_client_new(&raw const mechanisms, trace.as_ptr(), trace.len(), &raw mut made.raw) } {
             sys::DBUS_WIRE_OK => Ok(Self(made)),
             sys::DBUS_WIRE_REFUSED => Err(HandshakeError::LongTrace),
             _ => Err(HandshakeError::OutOfMemory),
@@ -308,6 +336,10 @@ impl Client {
     /// first line. Each further one takes at most one line of the piece, and answers it. Once the
     /// handshake succeeded or failed it takes nothing. Out of memory changes nothing: pass the same
     /// piece again.
+    ///
+    /// # Errors
+    ///
+    /// If there is no memory: then nothing is changed, so that the same piece may be passed again.
     pub fn take(&mut self, piece: &[u8]) -> Result<Step<'_>, OutOfMemory> {
         self.0.take(piece)
     }
@@ -317,6 +349,11 @@ impl Client {
     ///
     /// If the handshake fails, the error is `ConnectionRefused`, and if memory runs out
     /// `OutOfMemory`. Others are those of the connection.
+    ///
+    /// # Errors
+    ///
+    /// With `ConnectionRefused` if the handshake fails, with `OutOfMemory` if memory runs out, and else
+    /// what the connection returned.
     pub fn shake_hands(&mut self, connection: impl Read + Write) -> io::Result<()> {
         self.0.shake_hands(connection)
     }
@@ -330,7 +367,7 @@ impl Client {
     pub fn guid(&mut self) -> Option<String> {
         let mut text = [0; GUID_LENGTH];
         // SAFETY: a slice and a reference, as `sys` says; only calls write `raw`.
-        let answer = unsafe { sys::dbus_wire_handshake_guid(&mut self.0.raw, text.as_mut_ptr(), text.len()) };
+        let answer = unsafe { sys::dbus_wire_handshake_guid(&raw mut self.0.raw, text.as_mut_ptr(), text.len()) };
         (answer == sys::DBUS_WIRE_OK).then(|| text.iter().copied().map(char::from).collect())
     }
 }

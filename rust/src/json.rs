@@ -34,6 +34,7 @@ impl Message<'_> {
     /// assert!(line.ends_with(r#""member":"C","signature":"su","fields":[],"body":["x",1]}"#));
     /// # Ok::<(), Box<dyn std::error::Error>>(())
     /// ```
+    #[must_use]
     pub fn to_json(&self, place: LinePlace) -> String {
         let bytes = self.bytes();
         let raw = sys::dbus_wire_line_place {
@@ -48,8 +49,18 @@ impl Message<'_> {
         loop {
             let (out, room) = (line.as_mut_ptr(), line.len());
             // SAFETY: slices and references, as `sys` says.
-            let answer =
-                unsafe { sys::dbus_wire_json(bytes.as_ptr(), bytes.len(), &limits, &raw, out, room, &mut count, &mut told) };
+            let answer = unsafe {
+                sys::dbus_wire_json(
+                    bytes.as_ptr(),
+                    bytes.len(),
+                    &raw const limits,
+                    &raw const raw,
+                    out,
+                    room,
+                    &raw mut count,
+                    &raw mut told,
+                )
+            };
             // The line, without its line feed; or room for both and for the 0 behind them.
             let is_whole = answer != sys::DBUS_WIRE_NO_ROOM;
             line.resize(if is_whole { count as usize - 1 } else { count as usize + 1 }, 0);
@@ -74,13 +85,18 @@ impl Message<'_> {
     ///
     /// let line = r#"{"type":"signal","path":"/","interface":"a.b","member":"C","signature":"u","body":[7]}"#;
     /// let signal = Message::from_json(line, 1, &Limits::default())?;
-    /// assert_eq!(signal.message().body_as::<u32>().unwrap(), 7);
+    /// assert_eq!(signal.body_as::<u32>().unwrap(), 7);
     /// let Err(BuildError::Refused(fault)) = Message::from_json(line.replace('7', "-7"), 1, &Limits::default()) else {
     ///     unreachable!()
     /// };
     /// assert_eq!((fault.at, fault.reason), (line.len() - 3, Reason::Range));
     /// # Ok::<(), BuildError>(())
     /// ```
+    ///
+    /// # Errors
+    ///
+    /// If the line spells no message within the limits, at a place in it, or if memory runs out in the
+    /// library.
     pub fn from_json(line: impl AsRef<[u8]>, serial: u32, limits: &Limits) -> Result<OwnedMessage, BuildError> {
         let (line, limits) = (line.as_ref(), limits.raw());
         // Room for most messages.
@@ -88,7 +104,15 @@ impl Message<'_> {
         loop {
             // SAFETY: slices and references, as `sys` says.
             let answer = unsafe {
-                sys::dbus_wire_from_json(line.as_ptr(), line.len(), &limits, serial, out.as_mut_ptr(), out.len(), &mut told)
+                sys::dbus_wire_from_json(
+                    line.as_ptr(),
+                    line.len(),
+                    &raw const limits,
+                    serial,
+                    out.as_mut_ptr(),
+                    out.len(),
+                    &raw mut told,
+                )
             };
             match answer {
                 sys::DBUS_WIRE_OK => break,
@@ -97,6 +121,6 @@ impl Message<'_> {
                 _ => return Err(BuildError::Refused(Fault::new(told.offset, told.reason, told.field))),
             }
         }
-        Ok(OwnedMessage::parse_within(out, &Limits::default()).expect("a message is written"))
+        Ok(OwnedMessage::known(out))
     }
 }

@@ -70,6 +70,7 @@ mod limits;
 mod line;
 mod message;
 mod messages;
+mod owned_value;
 mod rule;
 mod swap;
 pub mod sys;
@@ -92,11 +93,16 @@ pub use limits::{Descriptors, Limits};
 pub use line::{client_line, server_line, Command, Line, LineFault};
 pub use message::{Flags, Kind, Message, OwnedMessage};
 pub use messages::{messages, Messages, ReadError};
+pub use owned_value::OwnedValue;
 pub use rule::{OwnerError, Rule, RuleError, RuleFault, RuleId, RuleSet, SharedRules};
 pub use swap::{byteswap, SwapError};
 pub use sys::dbus_wire_flat_item as FlatItem;
 pub use text::{check_text, TextFault, TextKind};
-pub use typed::{spell, AnyVariant, FromValue, MakeError, ObjectPath, Signature, Spelled, ToValue, Typed, UnixFd, VariantOf};
+#[doc(hidden)]
+pub use typed::typed_structs;
+pub use typed::{
+    spell, AnyVariant, FromValue, MakeError, ObjectPath, Signature, Spelled, ToValue, TypeText, Typed, UnixFd, VariantOf,
+};
 pub use value::{Array, Entry, Fields, Value, Values, Variant, WholeParts};
 pub use watch::{NotPassed, Passage, Watch};
 
@@ -105,6 +111,7 @@ pub use watch::{NotPassed, Passage, Watch};
 /// ```
 /// assert_eq!(dbus_wire::version().0, 0);
 /// ```
+#[must_use]
 pub fn version() -> (u32, u32, u32) {
     // SAFETY: the call takes nothing.
     let version = unsafe { sys::dbus_wire_version() };

@@ -4,6 +4,7 @@ use crate::sys;
 
 /// Which indexes of file descriptors a message's body may have.
 #[derive(Clone, Copy, Debug, Default, PartialEq, Eq)]
+#[non_exhaustive]
 pub enum Descriptors {
     /// Any.
     #[default]
@@ -50,7 +51,7 @@ impl Default for Limits {
     fn default() -> Self {
         let mut raw = sys::dbus_wire_limits::default();
         // SAFETY: a reference, as `sys` says.
-        unsafe { sys::dbus_wire_specification_limits(&mut raw) };
+        unsafe { sys::dbus_wire_specification_limits(&raw mut raw) };
         Self { message: raw.message, array: raw.array, depth: raw.depth, descriptors: Descriptors::Any }
     }
 }

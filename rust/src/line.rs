@@ -68,6 +68,7 @@ pub struct Line<'a> {
 
 /// Why no line begins so.
 #[derive(Clone, Copy, Debug, PartialEq, Eq, Hash)]
+#[non_exhaustive]
 pub enum LineFault {
     /// The line has more than 16,384 bytes.
     TooLong,
@@ -94,11 +95,18 @@ type Call = unsafe extern "C" fn(*const u8, usize, *mut sys::dbus_wire_line) -> 
 fn line(call: Call, bytes: &[u8]) -> Result<Option<Line<'_>>, LineFault> {
     let mut told = sys::dbus_wire_line::default();
     // SAFETY: a slice and a reference, as `sys` says.
-    match unsafe { call(bytes.as_ptr(), bytes.len(), &mut told) } {
+    match unsafe { call(bytes.as_ptr(), bytes.len(), &raw mut told) } {
         sys::DBUS_WIRE_WHOLE => Ok(Some(told_line(bytes, &told))),
         sys::DBUS_WIRE_PARTIAL => Ok(None),
-        _ if told.is_too_long != 0 => Err(LineFault::TooLong),
-        _ => Err(LineFault::BadByte { at: told.offset as usize }),
+        _ => Err(told_fault(&told)),
+    }
+}
+
+// Why no line begins so, as the library told.
+pub(crate) fn told_fault(told: &sys::dbus_wire_line) -> LineFault {
+    match told.is_too_long {
+        0 => LineFault::BadByte { at: told.offset as usize },
+        _ => LineFault::TooLong,
     }
 }
 
@@ -130,12 +138,20 @@ pub(crate) fn told_line<'a>(bytes: &'a [u8], told: &sys::dbus_wire_line) -> Line
 /// assert_eq!((line.command, line.length), (Command::Begin, 7));
 /// # Ok::<(), dbus_wire::LineFault>(())
 /// ```
+///
+/// # Errors
+///
+/// If no line begins so, whatever follows.
 pub fn client_line(bytes: &[u8]) -> Result<Option<Line<'_>>, LineFault> {
     line(sys::dbus_wire_client_line, bytes)
 }
 
 /// The same of what a server sends. Messages follow its last line before the client's BEGIN: OK, or
 /// what answers NEGOTIATE_UNIX_FD.
+///
+/// # Errors
+///
+/// If no line begins so, whatever follows.
 pub fn server_line(bytes: &[u8]) -> Result<Option<Line<'_>>, LineFault> {
     line(sys::dbus_wire_server_line, bytes)
 }

@@ -53,21 +53,25 @@ pub struct Flags(u8);
 
 impl Flags {
     /// All bits; those that the specification gives no name have no meaning.
+    #[must_use]
     pub fn bits(self) -> u8 {
         self.0
     }
 
     /// NO_REPLY_EXPECTED: the sender of a call expects no reply.
+    #[must_use]
     pub fn no_reply_expected(self) -> bool {
         self.has(sys::DBUS_WIRE_FLAG_NO_REPLY_EXPECTED)
     }
 
     /// NO_AUTO_START: the bus is not to start an owner for the destination.
+    #[must_use]
     pub fn no_auto_start(self) -> bool {
         self.has(sys::DBUS_WIRE_FLAG_NO_AUTO_START)
     }
 
     /// ALLOW_INTERACTIVE_AUTHORIZATION: the caller can wait for a person to authorize.
+    #[must_use]
     pub fn allow_interactive_authorization(self) -> bool {
         self.has(sys::DBUS_WIRE_FLAG_ALLOW_INTERACTIVE_AUTHORIZATION)
     }
@@ -89,15 +93,25 @@ pub struct Message<'a> {
 impl<'a> Message<'a> {
     /// The message that the bytes begin with, within the specification's limits. Bytes after it are
     /// not looked at.
+    ///
+    /// # Errors
+    ///
+    /// [`ParseError::Partial`] if more bytes are needed, and [`ParseError::Refused`] if no message
+    /// begins so, whatever follows.
     pub fn parse(bytes: &'a [u8]) -> Result<Self, ParseError> {
         Self::parse_within(bytes, &Limits::default())
     }
 
     /// The message within the limits that the bytes begin with. Bytes after it are not looked at.
+    ///
+    /// # Errors
+    ///
+    /// As of [`Message::parse`].
     pub fn parse_within(bytes: &'a [u8], limits: &Limits) -> Result<Self, ParseError> {
         let (mut parts, mut told) = Default::default();
         // SAFETY: a slice and references, as `sys` says.
-        let answer = unsafe { sys::dbus_wire_parts_of(bytes.as_ptr(), bytes.len(), &limits.raw(), &mut parts, &mut told) };
+        let answer =
+            unsafe { sys::dbus_wire_parts_of(bytes.as_ptr(), bytes.len(), &limits.raw(), &raw mut parts, &raw mut told) };
         Self::of(bytes, parts, Answer::new(answer, &told))
     }
 
@@ -112,12 +126,26 @@ impl<'a> Message<'a> {
     /// println!("{:?}: {:?}", message.member(), body.collect::<Vec<_>>());
     /// # Ok::<(), dbus_wire::ParseError>(())
     /// ```
+    ///
+    /// # Errors
+    ///
+    /// As of [`Message::parse`].
     pub fn parse_with_body(bytes: &'a [u8], limits: &Limits) -> Result<(Self, Values<'a>), ParseError> {
         let (mut parts, mut told, limits) = (Default::default(), Default::default(), limits.raw());
-        let (answer, items) = items_written(|to, count| {
-            let (items, room) = (to.as_mut_ptr(), to.len());
-            // SAFETY: slices and references, as `sys` says.
-            unsafe { sys::dbus_wire_read(bytes.as_ptr(), bytes.len(), &limits, &mut parts, items, room, count, &mut told) }
+        let (answer, items) = items_written(bytes.len(), |items, room, count| {
+            // SAFETY: a slice, room and references, as `sys` says.
+            unsafe {
+                sys::dbus_wire_read(
+                    bytes.as_ptr(),
+                    bytes.len(),
+                    &raw const limits,
+                    &raw mut parts,
+                    items,
+                    room,
+                    count,
+                    &raw mut told,
+                )
+            }
         });
         let message = Self::of(bytes, parts, Answer::new(answer, &told))?;
         Ok((message, Values::of_items(message.bytes, items, message.signature().unwrap_or_default())))
@@ -133,82 +161,98 @@ impl<'a> Message<'a> {
     }
 
     /// The bytes of the message, without what follows it.
+    #[must_use]
     pub fn bytes(&self) -> &'a [u8] {
         self.bytes
     }
 
     /// Its byte order.
+    #[must_use]
     pub fn order(&self) -> Order {
         Order::of(self.parts.order)
     }
 
     /// Its type.
+    #[must_use]
     pub fn kind(&self) -> Kind {
         Kind::of(self.parts.kind)
     }
 
     /// Its flags.
+    #[must_use]
     pub fn flags(&self) -> Flags {
         Flags(self.parts.flags as u8)
     }
 
     /// Its serial, which is not 0.
+    #[must_use]
     pub fn serial(&self) -> u32 {
         self.parts.serial
     }
 
     /// The PATH field, an object path.
+    #[must_use]
     pub fn path(&self) -> Option<&'a str> {
         self.field(&self.parts.path)
     }
 
     /// The INTERFACE field, an interface name.
+    #[must_use]
     pub fn interface(&self) -> Option<&'a str> {
         self.field(&self.parts.interface)
     }
 
     /// The MEMBER field, a member name.
+    #[must_use]
     pub fn member(&self) -> Option<&'a str> {
         self.field(&self.parts.member)
     }
 
     /// The ERROR_NAME field, an error name.
+    #[must_use]
     pub fn error_name(&self) -> Option<&'a str> {
         self.field(&self.parts.error_name)
     }
 
     /// The REPLY_SERIAL field, the serial of the call that this replies to.
+    #[must_use]
     pub fn reply_serial(&self) -> Option<NonZeroU32> {
         NonZeroU32::new(self.parts.reply_serial)
     }
 
     /// The DESTINATION field, a bus name.
+    #[must_use]
     pub fn destination(&self) -> Option<&'a str> {
         self.field(&self.parts.destination)
     }
 
     /// The SENDER field, a bus name.
+    #[must_use]
     pub fn sender(&self) -> Option<&'a str> {
         self.field(&self.parts.sender)
     }
 
     /// The SIGNATURE field, the types of the body's values. Without it the body has none.
+    #[must_use]
     pub fn signature(&self) -> Option<&'a str> {
         self.field(&self.parts.signature)
     }
 
     /// The number in the UNIX_FDS field, or 0 if there is none.
+    #[must_use]
     pub fn unix_fds(&self) -> u32 {
         self.parts.unix_fds
     }
 
     /// The bytes of the body, which may be none.
+    #[must_use]
     pub fn body_bytes(&self) -> &'a [u8] {
         &self.bytes[self.parts.body as usize..]
     }
 
     /// The values of the body. The call looks over the message once more, and takes memory for what
     /// they hold.
+    #[must_use]
     pub fn body(&self) -> Values<'a> {
         Values::of_items(self.bytes, self.flatten(), self.signature().unwrap_or_default())
     }
@@ -216,6 +260,7 @@ impl<'a> Message<'a> {
     /// The header fields, each as its code and its value, in their order in the message: also those
     /// whose codes the specification does not name. The call looks over the message once more, and
     /// takes memory for what the fields hold.
+    #[must_use]
     pub fn fields(&self) -> Fields<'a> {
         Fields::of_message(self.bytes)
     }
@@ -223,6 +268,7 @@ impl<'a> Message<'a> {
     /// Its parts, of which [`build`](crate::build) makes a message, and by which
     /// [`rebuild`](crate::rebuild) changes this one. They hold all but header fields of unknown
     /// codes.
+    #[must_use]
     pub fn parts(&self) -> Parts<'a> {
         Parts {
             order: self.order(),
@@ -245,11 +291,13 @@ impl<'a> Message<'a> {
     /// All values of the body, and all that is within them, in one row: each container comes before
     /// its parts, and an array of numbers is one item. `include/dbus_wire.h` says what each member
     /// is.
+    #[must_use]
     pub fn flatten(&self) -> Vec<FlatItem> {
         body_items(self.bytes)
     }
 
     /// A copy of the message in the byte order.
+    #[must_use]
     pub fn in_order(&self, order: Order) -> Vec<u8> {
         let mut copy = vec![0; self.bytes.len()];
         byteswap(self.bytes, &Limits::default(), order, &mut copy)

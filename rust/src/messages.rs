@@ -12,6 +12,7 @@ const FIXED_HEADER_LENGTH: usize = 16;
 
 /// Why no further message is read.
 #[derive(Debug)]
+#[non_exhaustive]
 pub enum ReadError {
     /// What the source returned.
     Io(io::Error),
@@ -56,7 +57,7 @@ impl From<io::Error> for ReadError {
 /// # let file = include_bytes!("../tests/data/session.dbus").as_slice();
 /// for message in dbus_wire::messages(file) {
 ///     let message = message?;
-///     println!("{:?}", message.message().member());
+///     println!("{:?}", message.member());
 /// }
 /// # Ok(())
 /// # }
@@ -77,6 +78,7 @@ pub struct Messages<R> {
 
 impl<R: Read> Messages<R> {
     /// The same within other limits, which those that are still to come have to keep.
+    #[must_use]
     pub fn within(self, limits: Limits) -> Self {
         Self { limits, ..self }
     }
@@ -116,7 +118,7 @@ impl<R: Read> Iterator for Messages<R> {
         }
         let read = self.read();
         match &read {
-            Ok(Some(message)) => self.at += message.message().bytes().len(),
+            Ok(Some(message)) => self.at += message.bytes().len(),
             _ => self.is_done = true,
         }
         read.transpose()

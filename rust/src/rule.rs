@@ -26,6 +26,7 @@ impl Error for RuleFault {}
 
 /// Why a rule is not made.
 #[derive(Clone, Copy, Debug, PartialEq, Eq, Hash)]
+#[non_exhaustive]
 pub enum RuleError {
     /// The text spells none.
     Refused(RuleFault),
@@ -46,6 +47,7 @@ impl Error for RuleError {}
 
 /// Why the owner of a name is not noted.
 #[derive(Clone, Copy, Debug, PartialEq, Eq, Hash)]
+#[non_exhaustive]
 pub enum OwnerError {
     /// The name is no bus name, or the owner neither a bus name nor empty: the fault of the first
     /// of the two that has one.
@@ -105,11 +107,15 @@ impl Default for RuleSet {
 
 impl RuleSet {
     /// Adds the rule that the text spells. After an error the set has the rules that it had.
+    ///
+    /// # Errors
+    ///
+    /// If the text spells no rule, or if there is no memory.
     pub fn add(&mut self, text: &str) -> Result<RuleId, RuleError> {
         let mut id = sys::dbus_wire_rule_id::default();
         let mut told = sys::dbus_wire_rule_refused::default();
         // SAFETY: a slice and references, as `sys` says; only calls write `raw`.
-        match unsafe { sys::dbus_wire_rules_add(&mut self.raw, text.as_ptr(), text.len(), &mut id, &mut told) } {
+        match unsafe { sys::dbus_wire_rules_add(&raw mut self.raw, text.as_ptr(), text.len(), &raw mut id, &raw mut told) } {
             sys::DBUS_WIRE_OK => {
                 self.count += 1;
                 Ok(RuleId(id))
@@ -125,7 +131,7 @@ impl RuleSet {
     /// Removes the rule. Whether the set had it.
     pub fn remove(&mut self, id: RuleId) -> bool {
         // SAFETY: references, as `sys` says; only calls write `raw`.
-        let was = unsafe { sys::dbus_wire_rules_remove(&mut self.raw, &id.0) } == sys::DBUS_WIRE_OK;
+        let was = unsafe { sys::dbus_wire_rules_remove(&raw mut self.raw, &raw const id.0) } == sys::DBUS_WIRE_OK;
         self.count -= usize::from(was);
         was
     }
@@ -133,9 +139,14 @@ impl RuleSet {
     /// Notes the owner of a name, a unique name, in place of the one that was noted before; an
     /// empty text: the name has none from then on. After an error the set has the owners that it
     /// had.
+    ///
+    /// # Errors
+    ///
+    /// If one of the two is no name, or if there is no memory.
     pub fn set_owner(&mut self, name: &str, owner: &str) -> Result<(), OwnerError> {
         // SAFETY: slices and a reference, as `sys` says; only calls write `raw`.
-        let answer = unsafe { sys::dbus_wire_rules_owner(&mut self.raw, name.as_ptr(), name.len(), owner.as_ptr(), owner.len()) };
+        let answer =
+            unsafe { sys::dbus_wire_rules_owner(&raw mut self.raw, name.as_ptr(), name.len(), owner.as_ptr(), owner.len()) };
         match answer {
             sys::DBUS_WIRE_OK => Ok(()),
             sys::DBUS_WIRE_REFUSED => {
@@ -149,20 +160,24 @@ impl RuleSet {
     /// The rules each key of which holds of the message. A `sender` that is a well-known name
     /// matches a message whose SENDER is that name itself, or that of its owner, which
     /// [`RuleSet::set_owner`] noted.
+    ///
+    /// # Errors
+    ///
+    /// If memory runs out.
     pub fn matching(&mut self, message: &Message<'_>) -> Result<Vec<RuleId>, OutOfMemory> {
         let (bytes, mut count, mut told) = (message.bytes(), 0, Default::default());
         let mut ids = vec![sys::dbus_wire_rule_id::default(); self.count];
         // SAFETY: slices and references, as `sys` says; only calls write `raw`.
         let answer = unsafe {
             sys::dbus_wire_rules_matching(
-                &mut self.raw,
+                &raw mut self.raw,
                 bytes.as_ptr(),
                 bytes.len(),
                 &Limits::default().raw(),
                 ids.as_mut_ptr(),
                 ids.len(),
-                &mut count,
-                &mut told,
+                &raw mut count,
+                &raw mut told,
             )
         };
         match answer {
@@ -188,14 +203,14 @@ impl RuleSet {
         // SAFETY: slices and references, as `sys` says; only calls write `raw`.
         let answer = unsafe {
             sys::dbus_wire_rules_may_match(
-                &mut self.raw,
+                &raw mut self.raw,
                 bytes.as_ptr(),
                 bytes.len(),
                 &Limits::default().raw(),
                 sender.as_ptr(),
                 sender.len(),
-                &mut may,
-                &mut told,
+                &raw mut may,
+                &raw mut told,
             )
         };
         assert_eq!(answer, sys::DBUS_WIRE_WHOLE, "rules answer so of a message");
@@ -204,12 +219,18 @@ impl RuleSet {
 
     /// The canonical text of the rule, if the set has it: each key once in a fixed order, joined by
     /// commas without spaces, each value between apostrophes. It spells the same rule.
+    ///
+    /// # Errors
+    ///
+    /// If memory runs out.
     pub fn text(&mut self, id: RuleId) -> Result<Option<String>, OutOfMemory> {
         let mut text = vec![0; 256];
         loop {
             let mut length = 0;
             // SAFETY: a mutable slice and references, as `sys` says; only calls write `raw`.
-            match unsafe { sys::dbus_wire_rules_text(&mut self.raw, &id.0, text.as_mut_ptr(), text.len(), &mut length) } {
+            match unsafe {
+                sys::dbus_wire_rules_text(&raw mut self.raw, &raw const id.0, text.as_mut_ptr(), text.len(), &raw mut length)
+            } {
                 sys::DBUS_WIRE_OK => {
                     text.truncate(length as usize);
                     return Ok(Some(String::from_utf8(text).expect("a rule's text is UTF-8")));
@@ -226,7 +247,7 @@ impl Drop for RuleSet {
     fn drop(&mut self) {
         // SAFETY: a reference, as `sys` says; only calls write `raw`, and nothing uses it after its
         // drop.
-        unsafe { sys::dbus_wire_rules_free(&mut self.raw) };
+        unsafe { sys::dbus_wire_rules_free(&raw mut self.raw) };
     }
 }
 
@@ -264,10 +285,14 @@ impl From<RuleSet> for SharedRules {
 
 impl SharedRules {
     /// The same rules, by the same ids, for another thread.
+    ///
+    /// # Errors
+    ///
+    /// If memory runs out.
     pub fn share(&mut self) -> Result<Self, OutOfMemory> {
         let mut rules = RuleSet::default();
         // SAFETY: references to two structs, as `sys` says; only calls write what they are of.
-        match unsafe { sys::dbus_wire_rules_share(&mut self.rules.raw, &mut rules.raw) } {
+        match unsafe { sys::dbus_wire_rules_share(&raw mut self.rules.raw, &raw mut rules.raw) } {
             sys::DBUS_WIRE_OK => {
                 rules.count = self.rules.count;
                 Ok(Self { rules })
@@ -277,11 +302,19 @@ impl SharedRules {
     }
 
     /// The rules each key of which holds of the message, as [`RuleSet::matching`] says.
+    ///
+    /// # Errors
+    ///
+    /// If memory runs out.
     pub fn matching(&mut self, message: &Message<'_>) -> Result<Vec<RuleId>, OutOfMemory> {
         self.rules.matching(message)
     }
 
     /// The canonical text of the rule, as [`RuleSet::text`] gives it.
+    ///
+    /// # Errors
+    ///
+    /// If memory runs out.
     pub fn text(&mut self, id: RuleId) -> Result<Option<String>, OutOfMemory> {
         self.rules.text(id)
     }
@@ -306,6 +339,10 @@ pub struct Rule {
 
 impl Rule {
     /// The rule that the text spells.
+    ///
+    /// # Errors
+    ///
+    /// If the text spells no rule, or if there is no memory.
     pub fn parse(text: &str) -> Result<Self, RuleError> {
         let mut rules = RuleSet::default();
         let id = rules.add(text)?;
@@ -313,16 +350,28 @@ impl Rule {
     }
 
     /// Notes the owner of a name, as [`RuleSet::set_owner`] does.
+    ///
+    /// # Errors
+    ///
+    /// If one of the two is no name, or if there is no memory.
     pub fn set_owner(&mut self, name: &str, owner: &str) -> Result<(), OwnerError> {
         self.rules.set_owner(name, owner)
     }
 
     /// Whether each key of the rule holds of the message, as [`RuleSet::matching`] says.
+    ///
+    /// # Errors
+    ///
+    /// If memory runs out.
     pub fn matches(&mut self, message: &Message<'_>) -> Result<bool, OutOfMemory> {
         Ok(!self.rules.matching(message)?.is_empty())
     }
 
     /// Its canonical text, as [`RuleSet::text`] gives it.
+    ///
+    /// # Errors
+    ///
+    /// If memory runs out.
     pub fn to_text(&mut self) -> Result<String, OutOfMemory> {
         Ok(self.rules.text(self.id)?.expect("the set has the rule"))
     }

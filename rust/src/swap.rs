@@ -7,6 +7,7 @@ use crate::{sys, Fault, Limits, Order};
 
 /// Why [`byteswap`] wrote nothing.
 #[derive(Clone, Copy, Debug, PartialEq, Eq)]
+#[non_exhaustive]
 pub enum SwapError {
     /// No message yet, and no fault: more bytes are needed.
     Partial,
@@ -44,6 +45,10 @@ impl Error for SwapError {}
 /// assert_eq!(Message::parse(&out[..length]).unwrap().serial(), 1);
 /// # Ok::<(), SwapError>(())
 /// ```
+///
+/// # Errors
+///
+/// If the bytes begin with no message within the limits, or if it has more bytes than `out`.
 pub fn byteswap(bytes: &[u8], limits: &Limits, order: Order, out: &mut [u8]) -> Result<usize, SwapError> {
     let mut told = sys::dbus_wire_checked::default();
     // SAFETY: two slices, of which `out` is mutable, and references, as `sys` says.
@@ -55,7 +60,7 @@ pub fn byteswap(bytes: &[u8], limits: &Limits, order: Order, out: &mut [u8]) -> 
             order.code().into(),
             out.as_mut_ptr(),
             out.len(),
-            &mut told,
+            &raw mut told,
         )
     };
     match answer {

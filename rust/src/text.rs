@@ -7,6 +7,7 @@ use crate::sys;
 
 /// The kinds of text. A name or a signature has at most 255 bytes.
 #[derive(Clone, Copy, Debug, PartialEq, Eq, Hash)]
+#[non_exhaustive]
 pub enum TextKind {
     /// UTF-8 without U+0000.
     String,
@@ -72,10 +73,14 @@ impl Error for TextFault {}
 /// assert_eq!(check_text(TextKind::Member, b"Greet"), Ok("Greet"));
 /// assert_eq!(check_text(TextKind::ObjectPath, b"/a//b"), Err(TextFault::Bad { at: 3 }));
 /// ```
+///
+/// # Errors
+///
+/// If they are not: where they break.
 pub fn check_text(kind: TextKind, bytes: &[u8]) -> Result<&str, TextFault> {
     let mut told = sys::dbus_wire_text_checked::default();
     // SAFETY: a slice and a reference, as `sys` says.
-    let answer = unsafe { sys::dbus_wire_text_check(kind.number(), bytes.as_ptr(), bytes.len(), &mut told) };
+    let answer = unsafe { sys::dbus_wire_text_check(kind.number(), bytes.as_ptr(), bytes.len(), &raw mut told) };
     match answer {
         // SAFETY: the library says that the bytes are a text of the kind, and those of every kind
         // are UTF-8.

@@ -5,17 +5,22 @@ mod containers;
 mod from_value;
 mod making;
 mod spelling;
+mod structs;
 mod texts;
 mod to_value;
 mod try_from;
 mod tuples;
+mod type_text;
 mod variants;
 
 pub use from_value::FromValue;
 pub use making::MakeError;
 pub use spelling::{spell, Spelled};
+#[doc(hidden)]
+pub use structs::typed_structs;
 pub use texts::{ObjectPath, Signature};
 pub use to_value::ToValue;
+pub use type_text::TypeText;
 pub use variants::{AnyVariant, VariantOf};
 
 pub use basics::UnixFd;
@@ -32,6 +37,7 @@ pub use basics::UnixFd;
 /// | `HashMap<K, V>`, `BTreeMap<K, V>` | `a{..}` of K and V | |
 /// | a tuple | `(..)` of its types | of up to twelve |
 /// | [`Value`](crate::Value), [`Variant`](crate::Variant) | `v` | of a `Value`, the value in it |
+/// | [`OwnedValue`](crate::OwnedValue) | `v` | a copy of the value in it, which may be kept |
 /// | [`VariantOf<T>`] | `v` | that holds a T |
 /// | [`AnyVariant`] | `v` | only to put |
 /// | `Option<T>` | that of T | only to read, `None` of a body without values |
@@ -50,53 +56,46 @@ pub use basics::UnixFd;
 /// assert_eq!(<(String, Vec<(i32, &[u8])>)>::signature(), "(sa(iay))");
 /// ```
 ///
-/// A type of yours stands for a struct as its tuple does:
+/// A struct of yours stands for a STRUCT if [`structure!`](crate::structure) declares it, and for a
+/// dictionary if [`dictionary!`](crate::dictionary) does. Another type stands for what one of these
+/// does, if its impls say so:
 ///
 /// ```
-/// use dbus_wire::{BadValue, Body, FromValue, ToValue, Typed, Value};
+/// use dbus_wire::{BadValue, Body, FromValue, ToValue, TypeText, Typed, Value};
 ///
-/// struct Point {
-///     x: i32,
-///     y: i32,
+/// struct Celsius(f64);
+///
+/// impl Typed for Celsius {
+///     const TYPE: TypeText = f64::TYPE;
 /// }
 ///
-/// impl Typed for Point {
-///     fn push_type(signature: &mut String) {
-///         <(i32, i32)>::push_type(signature);
-///     }
-/// }
-///
-/// impl<'a> FromValue<'a> for Point {
+/// impl<'a> FromValue<'a> for Celsius {
 ///     fn from_value(value: Value<'a>) -> Result<Self, BadValue> {
-///         let (x, y) = FromValue::from_value(value)?;
-///         Ok(Self { x, y })
+///         FromValue::from_value(value).map(Self)
 ///     }
 /// }
 ///
-/// impl ToValue for Point {
+/// impl ToValue for Celsius {
 ///     fn put(&self, body: &mut Body) -> Result<(), BadValue> {
-///         (self.x, self.y).put(body)
+///         self.0.put(body)
 ///     }
 /// }
 ///
-/// assert_eq!(Vec::<Point>::signature(), "a(ii)");
+/// assert_eq!(Vec::<Celsius>::signature(), "ad");
 /// ```
 pub trait Typed {
-    /// Appends the one complete type to a signature.
-    fn push_type(signature: &mut String);
+    /// The one complete type.
+    const TYPE: TypeText;
 
     /// The type, as a signature of one complete type.
-    fn signature() -> String {
-        let mut signature = String::new();
-        Self::push_type(&mut signature);
-        signature
+    #[must_use]
+    fn signature() -> &'static str {
+        const { &Self::TYPE }.as_str()
     }
 }
 
 impl<T: Typed + ?Sized> Typed for &T {
-    fn push_type(signature: &mut String) {
-        T::push_type(signature);
-    }
+    const TYPE: TypeText = T::TYPE;
 }
 
 /// The types of the values of a body, by the type that stands for it: of a struct those of its

@@ -35,26 +35,33 @@ type Flatten = unsafe extern "C" fn(
     *mut sys::dbus_wire_checked,
 ) -> u32;
 
-/// What a call returns, and the items that it writes: it is handed room for most parts of a
-/// message, and once more with room for all items if these have too little.
-pub(crate) fn items_written(mut call: impl FnMut(&mut [FlatItem], &mut u64) -> u32) -> (u32, Vec<FlatItem>) {
-    let (mut items, mut count) = (vec![FlatItem::default(); 64], 0);
+// Of so many items the room is taken before any is written: some 120,000 bytes.
+const ROOM: usize = 3000;
+
+/// What a call returns of so many bytes, and the items that it writes: it is handed room for most
+/// parts of a message, and once more with room for all items if these have too little.
+///
+/// The call initializes as many items of the room as it counts, unless it answers
+/// [`sys::DBUS_WIRE_NO_ROOM`].
+pub(crate) fn items_written(length: usize, mut call: impl FnMut(*mut FlatItem, usize, &mut u64) -> u32) -> (u32, Vec<FlatItem>) {
+    let (mut items, mut count) = (Vec::with_capacity(ROOM.min(length / 4 + 16)), 0);
     loop {
-        let answer = call(&mut items, &mut count);
-        items.resize(count as usize, FlatItem::default());
+        let answer = call(items.as_mut_ptr(), items.capacity(), &mut count);
         if answer != sys::DBUS_WIRE_NO_ROOM {
+            // SAFETY: the call has written so many, within the room.
+            unsafe { items.set_len(count as usize) };
             return (answer, items);
         }
+        items.reserve_exact(count as usize);
     }
 }
 
 // The items that such a call writes for these bytes, which are a message.
 fn flat_items(flatten: Flatten, bytes: &[u8]) -> Vec<FlatItem> {
     let (limits, mut told) = (Limits::default().raw(), Default::default());
-    let (answer, items) = items_written(|to, count| {
-        let (items, room) = (to.as_mut_ptr(), to.len());
-        // SAFETY: slices and references, as `sys` says.
-        unsafe { flatten(bytes.as_ptr(), bytes.len(), &limits, 0, items, room, count, &mut told) }
+    let (answer, items) = items_written(bytes.len(), |items, room, count| {
+        // SAFETY: a slice, room and references, as `sys` says.
+        unsafe { flatten(bytes.as_ptr(), bytes.len(), &raw const limits, 0, items, room, count, &raw mut told) }
     });
     assert_eq!(answer, sys::DBUS_WIRE_WHOLE, "it is a message of the specification's too");
     items
@@ -144,6 +151,7 @@ pub enum Value<'a> {
 
 impl<'a> Value<'a> {
     /// The text of a STRING, an OBJECT_PATH or a SIGNATURE; of another value `None`.
+    #[must_use]
     pub fn as_str(&self) -> Option<&'a str> {
         match self {
             Value::String(text) | Value::ObjectPath(text) | Value::Signature(text) => Some(text),
@@ -153,11 +161,22 @@ impl<'a> Value<'a> {
 
     /// Its type, as a signature of one complete type. That of a dict entry is none: no signature has
     /// it alone.
+    #[must_use]
     pub fn signature(&self) -> String {
-        let code = match self {
-            Value::Array(array) => return format!("a{}", array.element_type()),
-            Value::Struct(fields) => return format!("({})", fields.types()),
-            Value::Entry(entry) => return format!("{{{}}}", entry.0.types()),
+        match self {
+            Value::Array(array) => format!("a{}", array.element_type()),
+            Value::Struct(fields) => format!("({})", fields.types()),
+            Value::Entry(entry) => format!("{{{}}}", entry.0.types()),
+            other => other.code().into(),
+        }
+    }
+
+    // The first code of its type.
+    fn code(&self) -> char {
+        match self {
+            Value::Array(_) => 'a',
+            Value::Struct(_) => '(',
+            Value::Entry(_) => '{',
             Value::Byte(_) => 'y',
             Value::Boolean(_) => 'b',
             Value::Int16(_) => 'n',
@@ -172,8 +191,18 @@ impl<'a> Value<'a> {
             Value::ObjectPath(_) => 'o',
             Value::Signature(_) => 'g',
             Value::Variant(_) => 'v',
-        };
-        code.into()
+        }
+    }
+
+    // Whether it is of this one complete type.
+    pub(crate) fn is_of(&self, one: &str) -> bool {
+        let parts = |open: char, close: char| one.strip_prefix(open).and_then(|types| types.strip_suffix(close));
+        match self {
+            Value::Array(array) => one.strip_prefix('a') == Some(array.element_type()),
+            Value::Struct(fields) => parts('(', ')') == Some(fields.types()),
+            Value::Entry(entry) => parts('{', '}') == Some(entry.0.types()),
+            other => one.chars().eq([other.code()]),
+        }
     }
 
     // The number of an item, or of so many bytes of an array.
@@ -296,7 +325,7 @@ pub struct Values<'a> {
 
 impl<'a> Values<'a> {
     /// The values of the body of these bytes, which are a message, by its items and its types.
-    pub(crate) fn of_items(bytes: &'a [u8], items: Vec<FlatItem>, types: &'a str) -> Self {
+    pub(crate) fn of_items(bytes: &'a [u8], items: impl Into<Arc<[FlatItem]>>, types: &'a str) -> Self {
         let row = Row { bytes, items: items.into() };
         let left = Left::Items(0..row.items.len());
         Self { row, left, types }
@@ -304,6 +333,7 @@ impl<'a> Values<'a> {
 
     /// The types of the values that are left, as a signature: `su` for a STRING and a UINT32. Of
     /// the elements of an array it is the type of each.
+    #[must_use]
     pub fn types(&self) -> &'a str {
         self.types
     }
@@ -387,11 +417,19 @@ impl<'a> WholeParts<'a> {
     /// Those of these bytes, if they have a fault.
     pub(crate) fn before_fault(bytes: &'a [u8], limits: &Limits) -> Option<Self> {
         let (limits, mut told, mut counted) = (limits.raw(), Default::default(), sys::dbus_wire_whole_count::default());
-        let (answer, items) = items_written(|to, count| {
-            let (items, room) = (to.as_mut_ptr(), to.len());
-            // SAFETY: slices and references, as `sys` says.
+        let (answer, items) = items_written(bytes.len(), |items, room, count| {
+            // SAFETY: a slice, room and references, as `sys` says.
             let answer = unsafe {
-                sys::dbus_wire_flatten_whole(bytes.as_ptr(), bytes.len(), &limits, 0, items, room, &mut counted, &mut told)
+                sys::dbus_wire_flatten_whole(
+                    bytes.as_ptr(),
+                    bytes.len(),
+                    &raw const limits,
+                    0,
+                    items,
+                    room,
+                    &raw mut counted,
+                    &raw mut told,
+                )
             };
             *count = counted.all;
             answer
@@ -448,23 +486,43 @@ pub struct Array<'a> {
 
 impl<'a> Array<'a> {
     /// The type of its elements, one complete type as a signature.
+    #[must_use]
     pub fn element_type(&self) -> &'a str {
         self.elements.types()
     }
 
     /// Its elements.
+    #[must_use]
     pub fn elements(&self) -> Values<'a> {
         self.elements.clone()
     }
 
     /// The elements of an array of BYTE; of another array `None`.
+    #[must_use]
     pub fn bytes(&self) -> Option<&'a [u8]> {
         (self.element_type() == "y").then_some(self.contents)
     }
 
     /// Whether it has no elements.
+    #[must_use]
     pub fn is_empty(&self) -> bool {
         self.contents.is_empty()
+    }
+
+    /// The bytes of its elements, of N bytes each, and their order, if they are numbers of this type.
+    pub(crate) fn numbers<const N: usize>(&self, of: &str) -> Option<(Order, impl Iterator<Item = [u8; N]> + use<'a, N>)> {
+        let chunks = self.contents.chunks_exact(N).map(|chunk| chunk.try_into().expect("they are so many"));
+        (self.element_type() == of).then_some((self.order(), chunks))
+    }
+
+    /// The bytes of its elements, if they are numbers of this order.
+    pub(crate) fn spelled(&self, order: Order) -> Option<&'a [u8]> {
+        let of_numbers = matches!(self.elements.left, Left::Numbers(_, width) if width == 1 || order == self.order());
+        of_numbers.then_some(self.contents)
+    }
+
+    fn order(&self) -> Order {
+        Order::of(self.elements.row.bytes[0].into())
     }
 }
 
@@ -491,7 +549,7 @@ impl fmt::Debug for Array<'_> {
 }
 
 // The value of an iterator that is known to have one.
-fn known<'a>(value: Option<Value<'a>>) -> Value<'a> {
+fn known(value: Option<Value<'_>>) -> Value<'_> {
     value.expect("a dict entry has two values, and a variant one")
 }
 
@@ -501,18 +559,26 @@ pub struct Entry<'a>(Values<'a>);
 
 impl<'a> Entry<'a> {
     /// Its key, a number or a text.
+    #[must_use]
     pub fn key(&self) -> Value<'a> {
         known(self.parts().next())
     }
 
     /// Its value.
+    #[must_use]
     pub fn value(&self) -> Value<'a> {
         known(self.parts().nth(1))
     }
 
     /// Both: the key, then the value.
+    #[must_use]
     pub fn parts(&self) -> Values<'a> {
         self.0.clone()
+    }
+
+    // Its key and its value.
+    pub(crate) fn into_parts(mut self) -> (Value<'a>, Value<'a>) {
+        (known(self.0.next()), known(self.0.next()))
     }
 }
 
@@ -528,18 +594,26 @@ pub struct Variant<'a>(Values<'a>);
 
 impl<'a> Variant<'a> {
     /// The type of its value, one complete type as a signature.
+    #[must_use]
     pub fn signature(&self) -> &'a str {
         self.0.types()
     }
 
     /// Its value.
+    #[must_use]
     pub fn value(&self) -> Value<'a> {
         known(self.parts().next())
     }
 
     /// The same, as an iterator over one value.
+    #[must_use]
     pub fn parts(&self) -> Values<'a> {
         self.0.clone()
+    }
+
+    // Its value.
+    pub(crate) fn into_value(mut self) -> Value<'a> {
+        known(self.0.next())
     }
 }
 

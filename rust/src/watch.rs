@@ -3,8 +3,8 @@
 use std::error::Error;
 use std::fmt;
 
-use crate::line::{told_line, Line};
-use crate::sys;
+use crate::line::{told_fault, told_line, Line};
+use crate::{sys, Command, LineFault};
 
 /// What becomes of what one side of a handshake sent.
 #[derive(Clone, Copy, Debug, PartialEq, Eq, Hash)]
@@ -21,15 +21,30 @@ pub enum Passage<'a> {
     Messages,
 }
 
-/// Nothing is to be passed on, now and from then on: the bytes begin with no line or with one that is
-/// not exact, the server did not accept the client before BEGIN, it answers no line, or it answers
-/// NEGOTIATE_UNIX_FD by neither AGREE_UNIX_FD nor ERROR.
+/// Why nothing is to be passed on, now and from then on.
 #[derive(Clone, Copy, Debug, PartialEq, Eq, Hash)]
-pub struct NotPassed;
+#[non_exhaustive]
+pub enum NotPassed {
+    /// The bytes begin with no line.
+    NoLine(LineFault),
+    /// The line is not exact.
+    NotExact(Command),
+    /// The line is exact, but its side may not send it now: BEGIN of a client that the server did
+    /// not accept, an answer of a server to no line, or one to NEGOTIATE_UNIX_FD that is neither
+    /// AGREE_UNIX_FD nor ERROR.
+    OutOfTurn(Command),
+    /// Something of either side was not to be passed on before.
+    Before,
+}
 
 impl fmt::Display for NotPassed {
     fn fmt(&self, f: &mut fmt::Formatter<'_>) -> fmt::Result {
-        f.write_str("a line of the handshake is not to be passed on")
+        match self {
+            NotPassed::NoLine(fault) => fault.fmt(f),
+            NotPassed::NotExact(command) => write!(f, "a line of the handshake is not exact: {command:?}"),
+            NotPassed::OutOfTurn(command) => write!(f, "a line of the handshake is out of turn: {command:?}"),
+            NotPassed::Before => f.write_str("the handshake was not passed on before"),
+        }
     }
 }
 
@@ -42,43 +57,58 @@ impl Error for NotPassed {}
 /// Each call gets the bytes of its side that were not passed on.
 ///
 /// ```
-/// use dbus_wire::{NotPassed, Passage, Watch};
+/// use dbus_wire::{Command, NotPassed, Passage, Watch};
 ///
 /// let mut watch = Watch::new();
 /// assert_eq!(watch.client(b"\0AUTH\r\n"), Ok(Passage::Nul));
-/// assert_eq!(watch.client(b"BEGIN \r\n"), Err(NotPassed));
+/// assert_eq!(watch.client(b"BEGIN \r\n"), Err(NotPassed::NotExact(Command::Begin)));
 /// ```
 #[derive(Clone, Debug, Default)]
 pub struct Watch(sys::dbus_wire_watch);
+
+// The state of a server once messages have begun. Those above it are of what was refused.
+const MESSAGES: u32 = 3;
 
 type Look = unsafe extern "C" fn(*mut sys::dbus_wire_watch, *const u8, usize, *mut sys::dbus_wire_line) -> u32;
 
 impl Watch {
     /// One that has seen nothing.
+    #[must_use]
     pub fn new() -> Self {
         Self::default()
     }
 
     /// Looks at what a client sent.
+    ///
+    /// # Errors
+    ///
+    /// If nothing is to be passed on, now and from then on.
     pub fn client<'a>(&mut self, bytes: &'a [u8]) -> Result<Passage<'a>, NotPassed> {
         self.look(sys::dbus_wire_watch_client, bytes)
     }
 
     /// Looks at what a server sent.
+    ///
+    /// # Errors
+    ///
+    /// If nothing is to be passed on, now and from then on.
     pub fn server<'a>(&mut self, bytes: &'a [u8]) -> Result<Passage<'a>, NotPassed> {
         self.look(sys::dbus_wire_watch_server, bytes)
     }
 
     fn look<'a>(&mut self, look: Look, bytes: &'a [u8]) -> Result<Passage<'a>, NotPassed> {
-        let mut told = sys::dbus_wire_line::default();
+        let (mut told, was_refused) = (sys::dbus_wire_line::default(), self.0.server > MESSAGES);
         // SAFETY: a slice and references, as `sys` says.
-        match unsafe { look(&mut self.0, bytes.as_ptr(), bytes.len(), &mut told) } {
+        match unsafe { look(&raw mut self.0, bytes.as_ptr(), bytes.len(), &raw mut told) } {
             sys::DBUS_WIRE_WHOLE if told.command == sys::DBUS_WIRE_LINE_NUL => Ok(Passage::Nul),
             sys::DBUS_WIRE_WHOLE => Ok(Passage::Line(told_line(bytes, &told))),
             sys::DBUS_WIRE_PARTIAL => Ok(Passage::More),
             sys::DBUS_WIRE_WAITS => Ok(Passage::Waits),
             sys::DBUS_WIRE_NO_VALUE => Ok(Passage::Messages),
-            _ => Err(NotPassed),
+            _ if was_refused => Err(NotPassed::Before),
+            _ if told.length == 0 => Err(NotPassed::NoLine(told_fault(&told))),
+            _ if told.is_exact == 0 => Err(NotPassed::NotExact(told_line(bytes, &told).command)),
+            _ => Err(NotPassed::OutOfTurn(told_line(bytes, &told).command)),
         }
     }
 }

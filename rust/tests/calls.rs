@@ -347,7 +347,7 @@ fn a_line_of_json_is_read_back() {
     let limits = Limits::default();
     for message in CAPTURES.into_iter().flat_map(messages) {
         let read = Message::from_json(message.to_json(LinePlace::default()) + "\n", 0, &limits).unwrap();
-        assert_eq!(read.message().bytes(), message.bytes());
+        assert_eq!(read.bytes(), message.bytes());
     }
     // Each number takes two bytes of the line and eight of the message, which is more room than there
     // is at first.
@@ -363,7 +363,7 @@ fn a_line_of_json_is_read_back() {
     assert_eq!(refused(b"\"\xFF", &limits), (1, Reason::NotUtf8));
     assert_eq!(refused(b"", &limits), (0, Reason::NotJson));
     let reply = br#"{"type":"method_return","reply_serial":1}"#;
-    assert_eq!(Message::from_json(reply, 7, &limits).unwrap().message().serial(), 7);
+    assert_eq!(Message::from_json(reply, 7, &limits).unwrap().serial(), 7);
     assert_eq!(refused(reply, &Limits { message: 23, ..limits }), (0, Reason::MessageTooLong));
 }
 
@@ -589,7 +589,7 @@ fn a_watch_passes_lines_on() {
     assert_eq!(command(watch.client(b"BEGIN\r\nl")), Some(Command::Begin));
     assert_eq!((watch.client(b"l"), watch.server(b"l")), (Ok(Passage::Messages), Ok(Passage::Messages)));
     let mut watch = Watch::new();
-    assert_eq!((watch.server(ok), watch.client(b"\0")), (Err(NotPassed), Err(NotPassed)));
+    assert_eq!((watch.server(ok), watch.client(b"\0")), (Err(NotPassed::Before), Err(NotPassed::Before)));
     // NEGOTIATE_UNIX_FD is answered by AGREE_UNIX_FD or ERROR.
     for (answer, passes) in [
         (b"AGREE_UNIX_FD\r\n".as_slice(), true),

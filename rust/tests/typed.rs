@@ -7,9 +7,9 @@ use std::os::unix::net::UnixStream;
 use std::thread;
 
 use dbus_wire::{
-    messages, reply_to, spell, AnyVariant, BuildError, Client, External, Fault, FromValue, Kind, Limits, MakeError, Message,
-    ObjectPath, Order, OwnedMessage, Parts, ReadError, Reason, Server, Signature, ToValue, Typed, UnixFd, Value, Variant,
-    VariantOf,
+    dictionary, messages, reply_to, spell, structure, AnyVariant, BuildError, Client, External, Fault, FromValue, Kind, Limits,
+    MakeError, Message, ObjectPath, Order, OwnedMessage, OwnedValue, Parts, ReadError, Reason, Server, Signature, ToValue, Typed,
+    UnixFd, Value, Variant, VariantOf,
 };
 
 const CAPTURES: [&[u8]; 2] = [include_bytes!("data/session.dbus"), include_bytes!("data/big-endian.dbus")];
@@ -293,7 +293,7 @@ fn values_of_no_type_are_refused() {
 fn a_value_of_a_message_is_put_as_it_is() {
     for order in [Order::Little, Order::Big] {
         for message in CAPTURES.into_iter().flat_map(messages).map(Result::unwrap) {
-            for value in message.message().body() {
+            for value in message.body() {
                 let bytes = signal(order).build(&value).unwrap();
                 assert_eq!(Message::parse(&bytes).unwrap().body_as::<Value>(), Ok(value));
             }
@@ -336,19 +336,16 @@ fn the_messages_of_a_source_are_read_one_by_one() {
         let (mut given, mut length) = (0, 0);
         let mut source = messages(ByBytes(capture, &mut given));
         while let Some(message) = source.next().transpose().unwrap() {
-            length += message.message().bytes().len();
-            assert_eq!(
-                message.message().bytes(),
-                Message::parse(&capture[length - message.message().bytes().len()..]).unwrap().bytes()
-            );
-            assert_eq!(OwnedMessage::from(message.message()).into_bytes(), message.message().bytes());
+            length += message.bytes().len();
+            assert_eq!(message.bytes(), Message::parse(&capture[length - message.bytes().len()..]).unwrap().bytes());
+            assert_eq!(OwnedMessage::from(message.message()).into_bytes(), message.bytes());
         }
         assert!(source.next().is_none());
         assert_eq!((given, length), (capture.len(), capture.len()));
     }
     let mut given = 0;
     let first = messages(ByBytes(CAPTURES[0], &mut given)).next().unwrap().unwrap();
-    assert_eq!(first.message().bytes().len(), given);
+    assert_eq!(first.bytes().len(), given);
 }
 
 #[test]
@@ -357,7 +354,7 @@ fn what_is_no_message_ends_them() {
     let first = Message::parse(capture).unwrap().bytes().len();
     let with = |at: usize, byte: u8| [&capture[..at], &[byte], &capture[at + 1..]].concat();
     for (bytes, limits, count, fault) in [
-        (capture[..first + 1].to_vec(), Limits::default(), 1, (first + 1, Reason::Truncated)),
+        (capture[..=first].to_vec(), Limits::default(), 1, (first + 1, Reason::Truncated)),
         (capture[..first + 99].to_vec(), Limits::default(), 1, (first + 99, Reason::Truncated)),
         (with(first, b'x'), Limits::default(), 1, (first, Reason::ByteOrder)),
         (with(first + 3, 2), Limits::default(), 1, (first + 3, Reason::Version)),
@@ -365,7 +362,7 @@ fn what_is_no_message_ends_them() {
         (capture.to_vec(), Limits { message: 16, ..Limits::default() }, 0, (12, Reason::MessageTooLong)),
     ] {
         let mut source = messages(&bytes[..]).within(limits);
-        assert_eq!(source.by_ref().take(count).filter(Result::is_ok).count(), count);
+        assert_eq!(source.by_ref().take(count).flatten().count(), count);
         let Some(Err(ReadError::Refused(Fault { at, reason }))) = source.next() else { panic!("{fault:?}") };
         assert_eq!(((at, reason), source.next().is_none()), (fault, true));
     }
@@ -407,4 +404,76 @@ fn both_ends_shake_hands_over_a_connection() {
 fn types_have_signatures() {
     assert_eq!(<(&[&str], [bool; 3], HashMap<UnixFd, AnyVariant>, Variant, Value)>::signature(), "(asaba{hv}vv)");
     assert_eq!(Option::<Vec<()>>::signature(), "a()");
+}
+
+structure! {
+    #[derive(Clone, Debug, PartialEq)]
+    struct Five<'a> {
+        byte: u8,
+        text: &'a str,
+        numbers: Vec<i64>,
+        pair: (bool, f64),
+        path: ObjectPath<String>,
+    }
+}
+
+dictionary! {
+    #[derive(Clone, Debug, PartialEq)]
+    struct Properties<'a> {
+        byte: u8 = "Byte",
+        text: &'a str = "Text",
+        numbers: Option<Vec<u16>> = "Numbers",
+        five: Option<Five<'a>> = "Five",
+        held: Option<Vec<OwnedValue>> = "Held",
+    }
+}
+
+#[test]
+fn structs_go_there_and_back() {
+    let five = Five { byte: 1, text: "a", numbers: vec![i64::MIN, -1], pair: (true, 0.5), path: ObjectPath("/a".into()) };
+    let held = vec![OwnedValue::new(&five).unwrap(), OwnedValue::new([7u32]).unwrap()];
+    for order in [Order::Little, Order::Big] {
+        assert_eq!(Five::signature(), "(ysax(bd)o)");
+        let bytes = signal(order).build((&five, 7u32)).unwrap();
+        assert_eq!(Message::parse(&bytes).unwrap().body_as::<(Five, u32)>(), Ok((five.clone(), 7)));
+        for all in [true, false] {
+            let some = |is| if is { Some(()) } else { None };
+            let properties = Properties {
+                byte: 2,
+                text: "b",
+                numbers: some(all).map(|()| vec![0x1234, 5]),
+                five: some(!all).map(|()| five.clone()),
+                held: some(all).map(|()| held.clone()),
+            };
+            let bytes = signal(order).build(&properties).unwrap();
+            let message = Message::parse(&bytes).unwrap();
+            assert_eq!(message.signature(), Some("a{sv}"));
+            assert_eq!(message.body_as::<HashMap<&str, Value>>().unwrap().len(), if all { 4 } else { 3 });
+            assert_eq!(message.body_as(), Ok(properties));
+        }
+        let bytes = signal(order).build(BTreeMap::from([("Byte", VariantOf(7u8)), ("Other", VariantOf(0))])).unwrap();
+        let bad = Message::parse(&bytes).unwrap().body_as::<Properties>().unwrap_err();
+        assert_eq!(bad.to_string(), r#"body[0]["Text"]: wanted s, given no value"#);
+        let bytes = signal(order).build(BTreeMap::from([("Byte", VariantOf("7"))])).unwrap();
+        let bad = Message::parse(&bytes).unwrap().body_as::<Properties>().unwrap_err();
+        assert_eq!(bad.to_string(), r#"body[0]["Byte"].value: wanted y, given s"#);
+    }
+}
+
+#[test]
+fn a_value_is_kept_after_its_message() {
+    for order in [Order::Little, Order::Big] {
+        let bytes = signal(order).build((VariantOf((vec![1.5, -0.0], "x", VariantOf([1i16, -2]))), VariantOf(7u32))).unwrap();
+        let message = OwnedMessage::parse_within(bytes, &Limits::default()).unwrap();
+        let (one, other) = message.body_as::<(OwnedValue, OwnedValue)>().unwrap();
+        let equal = message.body_as::<(Value, Value)>().unwrap() == (one.value(), other.value());
+        assert!(equal && one == one.clone() && one != other);
+        let again = signal(order).build((&one, &other)).unwrap();
+        assert_eq!(again, message.bytes());
+        drop(message);
+        let (numbers, text, held) = one.value().read::<(Vec<f64>, &str, VariantOf<Vec<i16>>)>().unwrap();
+        assert_eq!((numbers, text, held), (vec![1.5, -0.0], "x", VariantOf(vec![1, -2])));
+        assert_eq!((format!("{other:?}"), other.value()), ("Uint32(7)".into(), Value::Uint32(7)));
+    }
+    assert!(matches!(OwnedValue::try_from(Value::String("a\0")), Err(MakeError::BadValue(_))));
 }

@@ -1,20 +1,18 @@
 //! Numbers and BOOLEANs.
 
-use super::{FromValue, ToValue, Typed};
-use crate::{Array, BadValue, Body, Value};
+use super::{FromValue, ToValue, TypeText, Typed};
+use crate::{Array, BadValue, Body, Order, Value};
 
 /// A UNIX_FD: an index of a file descriptor of the message.
 #[derive(Clone, Copy, Debug, Default, PartialEq, Eq, Hash, PartialOrd, Ord)]
 pub struct UnixFd(pub u32);
 
-// Of each type its code, its variant of `Value`, as which number that has it, how the type is made
-// of that, and the call of `Body` that puts it. `$own` are further methods of the two traits.
+// Of each type its code, its variant of `Value`, how the type is made of that number and that of the
+// type, and the call of `Body` that puts it. `$own` are further methods of the two traits.
 macro_rules! basics {
     ($($name:ident $code:literal $variant:ident $made:expr, $number:expr, $put:ident [$($read:item)?] [$($own:item)?];)*) => {$(
         impl Typed for $name {
-            fn push_type(signature: &mut String) {
-                signature.push($code);
-            }
+            const TYPE: TypeText = TypeText::basic($code);
         }
 
         impl<'a> FromValue<'a> for $name {
@@ -53,30 +51,49 @@ macro_rules! basics {
     )*};
 }
 
+// Numbers of which any bytes are one: those of an array are copied at once.
+macro_rules! numbers {
+    ($($name:ident $code:literal $variant:ident $put:ident;)*) => {$(
+        basics! {
+            $name $code $variant same, same, $put [
+                fn from_array(array: Array<'a>) -> Result<Vec<Self>, BadValue> {
+                    match array.numbers(Self::signature()) {
+                        Some((Order::Little, numbers)) => Ok(numbers.map(Self::from_le_bytes).collect()),
+                        Some((Order::Big, numbers)) => Ok(numbers.map(Self::from_be_bytes).collect()),
+                        None => Err(BadValue::of_type(Vec::<Self>::signature(), &Value::Array(array))),
+                    }
+                }
+            ] [
+                fn put_elements(elements: &[Self], body: &mut Body) -> Result<(), BadValue> {
+                    match body.order() {
+                        Order::Little => body.numbers_of_array(elements, Self::to_le_bytes),
+                        Order::Big => body.numbers_of_array(elements, Self::to_be_bytes),
+                    }
+                    Ok(())
+                }
+            ];
+        }
+    )*};
+}
+
 fn same<T>(number: T) -> T {
     number
 }
 
+numbers! {
+    u8 b'y' Byte byte;
+    i16 b'n' Int16 int16;
+    u16 b'q' Uint16 uint16;
+    i32 b'i' Int32 int32;
+    u32 b'u' Uint32 uint32;
+    i64 b'x' Int64 int64;
+    u64 b't' Uint64 uint64;
+    f64 b'd' Double double;
+}
+
 basics! {
-    u8 'y' Byte same, same, byte [
-        fn from_array(array: Array<'a>) -> Result<Vec<Self>, BadValue> {
-            Ok(array.bytes().unwrap_or_default().to_vec())
-        }
-    ] [
-        fn put_elements(elements: &[Self], body: &mut Body) -> Result<(), BadValue> {
-            body.bytes_of_array(elements);
-            Ok(())
-        }
-    ];
-    bool 'b' Boolean same, same, boolean [] [];
-    i16 'n' Int16 same, same, int16 [] [];
-    u16 'q' Uint16 same, same, uint16 [] [];
-    i32 'i' Int32 same, same, int32 [] [];
-    u32 'u' Uint32 same, same, uint32 [] [];
-    i64 'x' Int64 same, same, int64 [] [];
-    u64 't' Uint64 same, same, uint64 [] [];
-    f64 'd' Double same, same, double [] [];
-    UnixFd 'h' UnixFd UnixFd, index_of, uint32 [] [];
+    bool b'b' Boolean same, same, boolean [] [];
+    UnixFd b'h' UnixFd UnixFd, index_of, uint32 [] [];
 }
 
 fn index_of(fd: UnixFd) -> u32 {

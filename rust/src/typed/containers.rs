@@ -4,7 +4,7 @@ use std::collections::{BTreeMap, HashMap};
 use std::fmt::Debug;
 use std::hash::{BuildHasher, Hash};
 
-use super::{FromValue, ToValue, Typed};
+use super::{FromValue, ToValue, TypeText, Typed};
 use crate::value::width;
 use crate::{Array, BadValue, Body, Value};
 
@@ -17,7 +17,7 @@ pub(super) fn alignment(code: u8) -> u32 {
     }
 }
 
-// Puts an array of this type, whose elements the function puts.
+// Puts an array whose elements have a type that begins so, and are put by the function.
 pub(super) fn put_array(
     element: &str,
     body: &mut Body,
@@ -29,7 +29,7 @@ pub(super) fn put_array(
 }
 
 // The array that a value is.
-fn array_of<'a, T: Typed>(value: Value<'a>) -> Result<Array<'a>, BadValue> {
+fn array_of<T: Typed>(value: Value<'_>) -> Result<Array<'_>, BadValue> {
     match value {
         Value::Array(array) => Ok(array),
         other => Err(BadValue::of_type(T::signature(), &other)),
@@ -37,15 +37,12 @@ fn array_of<'a, T: Typed>(value: Value<'a>) -> Result<Array<'a>, BadValue> {
 }
 
 impl<T: Typed> Typed for [T] {
-    fn push_type(signature: &mut String) {
-        signature.push('a');
-        T::push_type(signature);
-    }
+    const TYPE: TypeText = TypeText::array(T::TYPE);
 }
 
 impl<T: ToValue> ToValue for [T] {
     fn put(&self, body: &mut Body) -> Result<(), BadValue> {
-        put_array(&T::signature(), body, |body| T::put_elements(self, body))
+        put_array(T::signature(), body, |body| T::put_elements(self, body))
     }
 }
 
@@ -57,9 +54,7 @@ impl<'a> FromValue<'a> for &'a [u8] {
 }
 
 impl<T: Typed, const N: usize> Typed for [T; N] {
-    fn push_type(signature: &mut String) {
-        <[T]>::push_type(signature);
-    }
+    const TYPE: TypeText = <[T]>::TYPE;
 }
 
 impl<T: ToValue, const N: usize> ToValue for [T; N] {
@@ -69,9 +64,7 @@ impl<T: ToValue, const N: usize> ToValue for [T; N] {
 }
 
 impl<T: Typed> Typed for Vec<T> {
-    fn push_type(signature: &mut String) {
-        <[T]>::push_type(signature);
-    }
+    const TYPE: TypeText = <[T]>::TYPE;
 }
 
 impl<T: ToValue> ToValue for Vec<T> {
@@ -86,21 +79,13 @@ impl<'a, T: FromValue<'a>> FromValue<'a> for Vec<T> {
     }
 }
 
-// The type of dict entries.
-fn entry_type<K: Typed, V: Typed>() -> String {
-    let mut signature = String::from("{");
-    K::push_type(&mut signature);
-    V::push_type(&mut signature);
-    signature + "}"
-}
-
 // Puts the entries of a map.
 fn put_entries<'m, K, V>(entries: impl Iterator<Item = (&'m K, &'m V)>, body: &mut Body) -> Result<(), BadValue>
 where
     K: ToValue + Debug + 'm,
     V: ToValue + 'm,
 {
-    put_array(&entry_type::<K, V>(), body, |body| {
+    put_array("{", body, |body| {
         entries.enumerate().try_for_each(|(place, (key, value))| {
             body.begin_struct();
             key.put(body).map_err(|bad| bad.within(format_args!(".keys[{place}]")))?;
@@ -118,11 +103,12 @@ where
 {
     let read = |(place, value)| match value {
         Value::Entry(entry) => {
-            let key = K::from_value(entry.key()).map_err(|bad| bad.within(format_args!(".keys[{place}]")))?;
-            let value = V::from_value(entry.value()).map_err(|bad| bad.within(format_args!("[{key:?}]")))?;
+            let (key, value) = entry.into_parts();
+            let key = K::from_value(key).map_err(|bad| bad.within(format_args!(".keys[{place}]")))?;
+            let value = V::from_value(value).map_err(|bad| bad.within(format_args!("[{key:?}]")))?;
             Ok((key, value))
         }
-        other => Err(BadValue::of_type(entry_type::<K, V>(), &other).at(place)),
+        other => Err(BadValue::of_type(TypeText::entry(K::TYPE, V::TYPE).as_str(), &other).at(place)),
     };
     array_of::<M>(value)?.into_iter().enumerate().map(read).collect()
 }
@@ -131,10 +117,7 @@ where
 macro_rules! maps {
     ($($map:ident [$($keys:ident),+] [$($hasher:ident)?] [$($made:ident)?];)*) => {$(
         impl<K: Typed, V: Typed $(, $hasher)?> Typed for $map<K, V $(, $hasher)?> {
-            fn push_type(signature: &mut String) {
-                signature.push('a');
-                signature.push_str(&entry_type::<K, V>());
-            }
+            const TYPE: TypeText = TypeText::array(TypeText::entry(K::TYPE, V::TYPE));
         }
 
         impl<K: ToValue + Debug, V: ToValue $(, $hasher)?> ToValue for $map<K, V $(, $hasher)?> {

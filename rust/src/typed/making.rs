@@ -8,6 +8,7 @@ use crate::{build, reply_to, BadValue, BuildError, Kind, Limits, Message, Parts}
 
 /// Why no message is made of values.
 #[derive(Clone, Debug, PartialEq, Eq)]
+#[non_exhaustive]
 pub enum MakeError {
     /// A value is none of its type.
     BadValue(BadValue),
@@ -51,6 +52,10 @@ impl Parts<'_> {
     /// assert_eq!(Message::parse(&bytes)?.signature(), Some("su"));
     /// # Ok::<(), Box<dyn std::error::Error>>(())
     /// ```
+    ///
+    /// # Errors
+    ///
+    /// If a value is none of its type, if no message has these parts, or if memory runs out.
     pub fn build(&self, values: impl ToValue) -> Result<Vec<u8>, MakeError> {
         let body = spell(self.order, values)?;
         Ok(build(&Parts { signature: body.signature(), body: body.bytes(), ..*self }, &Limits::default())?)
@@ -59,6 +64,7 @@ impl Parts<'_> {
 
 impl Message<'_> {
     /// Whether it is a call that does not say that it expects no reply.
+    #[must_use]
     pub fn wants_reply(&self) -> bool {
         self.kind() == Kind::MethodCall && !self.flags().no_reply_expected()
     }
@@ -79,6 +85,10 @@ impl Message<'_> {
     /// assert_eq!((reply.signature(), reply.destination()), (Some("a{sv}"), call.sender()));
     /// # Ok::<(), Box<dyn std::error::Error>>(())
     /// ```
+    ///
+    /// # Errors
+    ///
+    /// As of [`Parts::build`], and if this is no call.
     pub fn reply(&self, serial: u32, values: impl ToValue) -> Result<Vec<u8>, MakeError> {
         self.answer(Parts::new(Kind::MethodReturn, serial), values)
     }
@@ -95,6 +105,10 @@ impl Message<'_> {
     /// assert_eq!(Message::parse(&bytes)?.kind(), Kind::Error);
     /// # Ok::<(), Box<dyn std::error::Error>>(())
     /// ```
+    ///
+    /// # Errors
+    ///
+    /// As of [`Message::reply`], and if the name is no error name.
     pub fn reply_error(&self, serial: u32, name: &str, values: impl ToValue) -> Result<Vec<u8>, MakeError> {
         self.answer(Parts { error_name: Some(name), ..Parts::new(Kind::Error, serial) }, values)
     }

@@ -1,6 +1,6 @@
 //! STRINGs, OBJECT_PATHs and SIGNATUREs.
 
-use super::{FromValue, ToValue, Typed};
+use super::{FromValue, ToValue, TypeText, Typed};
 use crate::{check_text, BadValue, Body, TextKind, Value};
 
 /// An OBJECT_PATH, as `ObjectPath("/a/b")`. It is read as such a text; one to be put is checked
@@ -29,9 +29,7 @@ pub(super) fn put_text(kind: TextKind, text: &str, body: &mut Body) -> Result<()
 }
 
 impl Typed for str {
-    fn push_type(signature: &mut String) {
-        signature.push('s');
-    }
+    const TYPE: TypeText = TypeText::basic(b's');
 }
 
 impl ToValue for str {
@@ -41,9 +39,7 @@ impl ToValue for str {
 }
 
 impl Typed for String {
-    fn push_type(signature: &mut String) {
-        str::push_type(signature);
-    }
+    const TYPE: TypeText = str::TYPE;
 }
 
 impl ToValue for String {
@@ -77,9 +73,7 @@ impl<'a> From<&'a str> for Value<'a> {
 macro_rules! texts {
     ($($name:ident $code:literal;)*) => {$(
         impl<T> Typed for $name<T> {
-            fn push_type(signature: &mut String) {
-                signature.push($code);
-            }
+            const TYPE: TypeText = TypeText::basic($code);
         }
 
         impl<'a, T: From<&'a str>> FromValue<'a> for $name<T> {
@@ -106,6 +100,6 @@ macro_rules! texts {
 }
 
 texts! {
-    ObjectPath 'o';
-    Signature 'g';
+    ObjectPath b'o';
+    Signature b'g';
 }

@@ -7,6 +7,10 @@ use crate::{BadValue, Body};
 pub trait ToValue: Typed {
     /// Puts the value to a body. A text that is none of its type is refused; then what is put so
     /// far stays in the body.
+    ///
+    /// # Errors
+    ///
+    /// If a text is none of its type, or if something is too long.
     fn put(&self, body: &mut Body) -> Result<(), BadValue>;
 
     /// Puts the elements of an array of this type.

@@ -1,10 +1,10 @@
 //! Tuples, each as a struct, or as all values of a body.
 
-use super::{FromValue, ToValue, Typed};
+use super::{FromValue, ToValue, TypeText, Typed};
 use crate::{BadValue, Body, Value, Values};
 
 // The fields of the struct that a value is.
-fn fields_of<'a, T: Typed>(value: Value<'a>) -> Result<Values<'a>, BadValue> {
+fn fields_of<T: Typed>(value: Value<'_>) -> Result<Values<'_>, BadValue> {
     match value {
         Value::Struct(fields) => Ok(fields),
         other => Err(BadValue::of_type(T::signature(), &other)),
@@ -19,9 +19,7 @@ fn field<'a, T: FromValue<'a>>(fields: &mut Values<'a>, place: usize) -> Result<
 
 /// No values, as a body. No struct has none, so no value is of this type.
 impl Typed for () {
-    fn push_type(signature: &mut String) {
-        signature.push_str("()");
-    }
+    const TYPE: TypeText = TypeText::structure(&[]);
 }
 
 impl<'a> FromValue<'a> for () {
@@ -39,11 +37,7 @@ impl ToValue for () {
 macro_rules! tuples {
     ($(($($name:ident $at:tt),+))*) => {$(
         impl<$($name: Typed),+> Typed for ($($name,)+) {
-            fn push_type(signature: &mut String) {
-                signature.push('(');
-                $($name::push_type(signature);)+
-                signature.push(')');
-            }
+            const TYPE: TypeText = TypeText::structure(&[$($name::TYPE),+]);
         }
 
         impl<'a, $($name: FromValue<'a>),+> FromValue<'a> for ($($name,)+) {

@@ -5,7 +5,7 @@ use std::fmt;
 use super::containers::put_array;
 use super::from_value::read_value;
 use super::texts::put_text;
-use super::{FromValue, ToValue, Typed};
+use super::{FromValue, ToValue, TypeText, Typed};
 use crate::{BadValue, Body, TextKind, Value, Values, Variant};
 
 // Puts a variant of this type, whose value the function puts.
@@ -29,10 +29,13 @@ fn put_value(value: Value<'_>, body: &mut Body) -> Result<(), BadValue> {
         Value::String(text) => put_text(TextKind::String, text, body),
         Value::ObjectPath(text) => put_text(TextKind::ObjectPath, text, body),
         Value::Signature(text) => put_text(TextKind::Signature, text, body),
-        Value::Array(array) => match array.bytes() {
-            Some(bytes) => bytes.put(body),
-            None => put_array(array.element_type(), body, |body| put_values(array.elements(), body)),
-        },
+        Value::Array(array) => put_array(array.element_type(), body, |body| match array.spelled(body.order()) {
+            Some(numbers) => {
+                body.bytes_of_array(numbers);
+                Ok(())
+            }
+            None => put_values(array.elements(), body),
+        }),
         Value::Struct(fields) => {
             body.begin_struct();
             put_values(fields, body)
@@ -76,7 +79,7 @@ impl<'a, T: FromValue<'a>> FromValue<'a> for VariantOf<T> {
 
 impl<T: ToValue> ToValue for VariantOf<T> {
     fn put(&self, body: &mut Body) -> Result<(), BadValue> {
-        put_variant(&T::signature(), body, |body| self.0.put(body))
+        put_variant(T::signature(), body, |body| self.0.put(body))
     }
 }
 
@@ -105,7 +108,7 @@ impl<'a> AnyVariant<'a> {
 trait Held {
     fn put_held(&self, body: &mut Body) -> Result<(), BadValue>;
 
-    fn held_type(&self) -> String;
+    fn held_type(&self) -> &'static str;
 }
 
 impl<T: ToValue> Held for VariantOf<T> {
@@ -113,7 +116,7 @@ impl<T: ToValue> Held for VariantOf<T> {
         self.put(body)
     }
 
-    fn held_type(&self) -> String {
+    fn held_type(&self) -> &'static str {
         T::signature()
     }
 }
@@ -133,7 +136,7 @@ impl fmt::Debug for AnyVariant<'_> {
 /// The value in a variant.
 impl<'a> FromValue<'a> for Value<'a> {
     fn from_value(value: Value<'a>) -> Result<Self, BadValue> {
-        Variant::from_value(value).map(|held| held.value())
+        Variant::from_value(value).map(Variant::into_value)
     }
 }
 
@@ -161,9 +164,7 @@ impl ToValue for Variant<'_> {
 macro_rules! variants {
     ($(($($parameter:tt)*) $name:ty;)*) => {$(
         impl<$($parameter)*> Typed for $name {
-            fn push_type(signature: &mut String) {
-                signature.push('v');
-            }
+            const TYPE: TypeText = TypeText::basic(b'v');
         }
     )*};
 }
