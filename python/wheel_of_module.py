@@ -1,10 +1,12 @@
 """The build backend of pyproject.toml (PEP 517), which needs nothing but Python: `pip install ./python` makes a wheel without a network.
 
 The wheel has the shared library in it that DBUS_WIRE_LIBRARY names, or that `make library` made. If there is neither, the wheel is for any
-machine, and the module loads the library that is installed there. The same files give the same bytes.
+machine, and the module loads the library that is installed there. If none is installed here, there is no wheel, unless
+DBUS_WIRE_LIBRARY is empty. The same files give the same bytes.
 """
 
 import base64
+import ctypes
 import hashlib
 import io
 import os
@@ -18,8 +20,8 @@ HERE = pathlib.Path(__file__).resolve().parent
 MODULE = "dbus_wire"
 SONAME = "libdbus_wire.so.0"
 MADE = HERE.parent / "out"
-# As in the library's package for Debian: manylinux has no tag for x86-64-v2.
-PLATFORM = "linux_x86_64"
+# The library needs a C library of 2.14. No tag says that it is for x86-64-v2: the module looks when it is loaded.
+PLATFORM = "manylinux_2_14_x86_64"
 # The first date that a zip file can have.
 EARLIEST = 315532800
 
@@ -46,10 +48,17 @@ def metadata():
 
 
 def library():
-    """The shared library for the wheel, if there is one."""
-    if named := os.environ.get("DBUS_WIRE_LIBRARY"):
-        return pathlib.Path(named)
-    return MADE / SONAME if (MADE / SONAME).exists() else None
+    """The shared library for the wheel; None if it is to have none. It ends if the module would find none here."""
+    if (named := os.environ.get("DBUS_WIRE_LIBRARY")) is not None:
+        return pathlib.Path(named) if named else None
+    if (MADE / SONAME).exists():
+        return MADE / SONAME
+    try:
+        ctypes.CDLL(SONAME)
+    except OSError as error:
+        wanted = f"install libdbus_wire, or let DBUS_WIRE_LIBRARY name {SONAME}"
+        raise SystemExit(f"dbus-wire: no library for the module: {wanted} ({error})") from error
+    return None
 
 
 def licences():

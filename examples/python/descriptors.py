@@ -8,19 +8,18 @@ import os
 import socket
 import sys
 
-from dbus_wire import Bounds, Client, MessageType, build, messages, reply_to
+from dbus_wire import Bounds, Client, call, messages, reply_to
 
-BUS = "org.freedesktop.DBus"
-TO_BUS = {"destination": BUS, "path": "/org/freedesktop/DBus", "interface": BUS}
+BUS, PATH = "org.freedesktop.DBus", "/org/freedesktop/DBus"
 
 
 class Incoming:
     """What comes from a socket, as a file: `fds` are the descriptors that came with it."""
 
-    def __init__(self, connection):
-        self.connection, self.fds = connection, []
+    def __init__(self, connection: socket.socket) -> None:
+        self.connection, self.fds = connection, list[int]()
 
-    def read(self, count):
+    def read(self, count: int) -> bytes:
         data, fds, _, _ = socket.recv_fds(self.connection, count, 16)
         self.fds += fds
         return data
@@ -30,13 +29,14 @@ client, serial = Client(user=os.getuid(), descriptors=True, bounds=Bounds(6, 6))
 bus = client.connect(sys.argv[1])
 if not client.agreed:
     sys.exit("the bus passes no descriptors")
-for member, *body in ("Hello",), ("RequestName", "su", "org.example.Echo", 0):
-    bus.sendall(bytes(build(MessageType.METHOD_CALL, next(serial), *body, member=member, **TO_BUS)))
+bus.sendall(bytes(call(next(serial), "Hello", path=PATH, interface=BUS, destination=BUS)))
+name = "su", "org.example.Echo", 0
+bus.sendall(bytes(call(next(serial), "RequestName", *name, path=PATH, interface=BUS, destination=BUS)))
 incoming = Incoming(bus)
-for call in messages(incoming):
-    fds, incoming.fds = incoming.fds[: call.unix_fds], incoming.fds[call.unix_fds :]
-    if call.wants_reply:
-        reply = bytes(reply_to(call, next(serial), call.signature, *call.body, unix_fds=call.unix_fds))
+for asked in messages(incoming):
+    fds, incoming.fds = incoming.fds[: asked.unix_fds], incoming.fds[asked.unix_fds :]
+    if asked.wants_reply:
+        reply = bytes(reply_to(asked, next(serial), asked.signature, *asked.body, unix_fds=asked.unix_fds))
         sent = socket.send_fds(bus, [reply], fds)
         bus.sendall(reply[sent:])
     for fd in fds:

@@ -8,17 +8,19 @@ message end the connection, and so does a message of over 1 MiB. If a name chang
 rules are asked, and before the bus routes the message, this reaches the new owner: no proxy beside
 the bus can prevent it."""
 
+from __future__ import annotations
+
 import os
 import select
 import socket
 import socketserver
 import struct
 import sys
+from typing import Any
 
-from dbus_wire import Bounds, Client, Limits, MessageType, RuleSet, Server, build, connect, error_to, messages, rebuild
+from dbus_wire import Bounds, Client, Limits, Message, RuleSet, Server, call, connect, error_to, messages, rebuild
 
 DBUS = "org.freedesktop.DBus"
-TO_BUS = {"path": "/", "interface": DBUS, "destination": DBUS}
 DENIED = f"{DBUS}.Error.AccessDenied"
 LIMITS = Limits(message=1 << 20)
 POLICY, DOOR, BUS, *TEXTS = sys.argv[1:]
@@ -28,7 +30,7 @@ class Rules(RuleSet):
     """The rules, with the owners of all names, which the bus tells a connection of its own. They are
     known before a client's first message is looked at."""
 
-    def __init__(self, bus):
+    def __init__(self, bus: socket.socket) -> None:
         super().__init__()
         for text in TEXTS:
             self.add(text)
@@ -41,15 +43,14 @@ class Rules(RuleSet):
             owner = self.ask("GetNameOwner", "s", name)
             self.set_owner(name, None if owner.error_name else owner.body[0])
 
-    def ask(self, member, *body):
+    def ask(self, member: str, *body: Any) -> Message:
         self.serial += 1
-        call = build(MessageType.METHOD_CALL, self.serial, *body, member=member, **TO_BUS)
-        self.bus.sendall(bytes(call))
+        self.bus.sendall(bytes(call(self.serial, member, *body, path="/", interface=DBUS, destination=DBUS)))
         while (message := self.heard()).reply_serial != self.serial:
             pass
         return message
 
-    def heard(self):
+    def heard(self) -> Message:
         """The next message from the bus, which may tell a name's owner."""
         message = next(self.incoming)
         if message.member == "NameOwnerChanged" and message.sender == DBUS:
@@ -57,7 +58,7 @@ class Rules(RuleSet):
             self.set_owner(name, owner)
         return message
 
-    def let_through(self, message, sender):
+    def let_through(self, message: Message, sender: str | None) -> bool:
         """Whether the policy lets the message through, of the client of this name."""
         while select.select([self.bus], [], [], 0)[0]:
             self.heard()
@@ -66,7 +67,7 @@ class Rules(RuleSet):
         return not self.may_match(message, sender)
 
 
-def shake_hands(client, bus):
+def shake_hands(client: socket.socket, bus: socket.socket) -> None:
     peer = client.getsockopt(socket.SOL_SOCKET, socket.SO_PEERCRED, 12)
     if (user := struct.unpack("3i", peer)[1]) != os.getuid():
         raise PermissionError(f"a client of the user {user}")
@@ -74,7 +75,7 @@ def shake_hands(client, bus):
     Server(os.urandom(16).hex(), user, bounds=Bounds(6, 6)).shake_hands(client)
 
 
-def pass_messages(client, bus, rules):
+def pass_messages(client: socket.socket, bus: socket.socket, rules: Rules) -> None:
     files = {side: side.makefile("rb", buffering=0) for side in (client, bus)}
     incoming = {side: messages(file, LIMITS) for side, file in files.items()}
     # The client's name, which the bus's first message has.
@@ -93,7 +94,7 @@ def pass_messages(client, bus, rules):
 
 
 class Connection(socketserver.BaseRequestHandler):
-    def handle(self):
+    def handle(self) -> None:
         with connect(BUS) as asked, connect(BUS) as bus, Rules(asked) as rules:
             shake_hands(self.request, bus)
             pass_messages(self.request, bus, rules)

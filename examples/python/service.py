@@ -4,15 +4,14 @@
 import os
 import sys
 
-from dbus_wire import Bounds, Client, MessageType, Variant, build, error_to, messages, reply_to
+from dbus_wire import Bounds, Client, Variant, call, error_to, messages, reply_to
 
-BUS = "org.freedesktop.DBus"
-TO_BUS = {"destination": BUS, "path": "/org/freedesktop/DBus", "interface": BUS}
+BUS, PATH = "org.freedesktop.DBus", "/org/freedesktop/DBus"
 bus = Client(user=os.getuid(), bounds=Bounds(6, 6)).connect(sys.argv[1])
-bus.sendall(bytes(build(MessageType.METHOD_CALL, 1, member="Hello", **TO_BUS)))
-bus.sendall(bytes(build(MessageType.METHOD_CALL, 2, "su", "org.example.Load", 0, member="RequestName", **TO_BUS)))
-for serial, call in enumerate(messages(bus.makefile("rb")), 3):
-    if call.wants_reply and call.member == "Get":
-        bus.sendall(bytes(reply_to(call, serial, "a{sv}", {"Load": Variant("d", os.getloadavg()[0])})))
-    elif call.wants_reply:
-        bus.sendall(bytes(error_to(call, serial, f"{BUS}.Error.UnknownMethod", "s", "try Get")))
+bus.sendall(bytes(call(1, "Hello", path=PATH, interface=BUS, destination=BUS)))
+bus.sendall(bytes(call(2, "RequestName", "su", "org.example.Load", 0, path=PATH, interface=BUS, destination=BUS)))
+for serial, asked in enumerate(messages(bus.makefile("rb")), 3):
+    if asked.wants_reply and asked.member == "Get":
+        bus.sendall(bytes(reply_to(asked, serial, "a{sv}", {"Load": Variant("d", os.getloadavg()[0])})))
+    elif asked.wants_reply:
+        bus.sendall(bytes(error_to(asked, serial, f"{BUS}.Error.UnknownMethod", "s", "try Get")))

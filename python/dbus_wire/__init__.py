@@ -23,7 +23,7 @@ stack for a call. A message of any depth is read within Python's default limit o
 """
 
 from ._addresses import Address, BadAddress, connect, parse_addresses
-from ._building import build, error_to, rebuild, reply_to
+from ._building import build, call, error_to, rebuild, reply_to, signal
 from ._checker import Checker
 from ._errors import BadJson, BadValue, HeaderField, NotAMessage, Refused, Truncated
 from ._explaining import Explanation, StatedText, WholeParts, explain, whole_parts
@@ -77,6 +77,7 @@ __all__ = [
     "WholeParts",
     "build",
     "byteswap",
+    "call",
     "check_text",
     "client_line",
     "connect",
@@ -87,6 +88,7 @@ __all__ = [
     "rebuild",
     "reply_to",
     "server_line",
+    "signal",
     "spell_body",
     "stated_length",
     "whole_parts",

@@ -3,6 +3,7 @@
 from __future__ import annotations
 
 import ctypes
+import struct
 from ctypes import byref
 from typing import Any
 
@@ -12,18 +13,14 @@ from ._library import NO_MEMORY, OK, Bytes, as_bytes, library
 from ._limits import Limits, limits_struct
 from ._messages import Message, MessageFlag, MessageType
 from ._spelling import spell_body
-from ._values import Order, text_of, uint32_of
+from ._values import Order, order_of, text_of, uint32_of
 
-# The parts of a message that are numbers, each with its name in the library, and those that are
-# texts.
-_NUMBERS = {
-    "type": "kind",
-    "flags": "flags",
-    "serial": "serial",
-    "reply_serial": "reply_serial",
-    "unix_fds": "unix_fds",
-}
+# The parts of a message that are numbers, and those that are texts, as _library.Draft has them after
+# the byte order, each text by its place, its length and whether it is there.
+_NUMBERS = ("type", "flags", "serial", "reply_serial", "unix_fds")
 _TEXTS = ("path", "interface", "member", "error_name", "destination", "sender", "signature")
+_DRAFT = struct.Struct("=6I23Q")
+_ORDERS = {it: ord(it.value) for it in Order}
 
 
 def build(
@@ -67,35 +64,99 @@ def build(
     return _built(library.dbus_wire_build, (), parts, limits)
 
 
-def reply_to(
-    call: Message, serial: int, signature: str | None = None, *values: Any, **parts: Any
+def call(
+    serial: int,
+    member: str,
+    signature: str | None = None,
+    *values: Any,
+    path: str,
+    interface: str | None = None,
+    destination: str | None = None,
+    sender: str | None = None,
+    flags: int = 0,
+    order: Order | str = Order.LITTLE,
+    unix_fds: int = 0,
+    body: Bytes | None = None,
+    limits: Limits | None = None,
 ) -> Message:
-    """The reply to a call, with values as `build` takes them:
+    """A method call, with values as `build` takes them, whose errors it raises:
+
+    call(2, "RequestName", "su", "a.b", 0, path="/org/freedesktop/DBus", destination="org.freedesktop.DBus")
+    """
+    parts: dict[str, Any] = {"path": path, "interface": interface, "destination": destination, "sender": sender}
+    parts |= {"flags": flags, "order": order, "unix_fds": unix_fds, "body": body, "limits": limits}
+    return build(MessageType.METHOD_CALL, serial, signature, *values, member=member, **parts)
+
+
+def signal(
+    serial: int,
+    path: str,
+    interface: str,
+    member: str,
+    signature: str | None = None,
+    *values: Any,
+    destination: str | None = None,
+    sender: str | None = None,
+    flags: int = 0,
+    order: Order | str = Order.LITTLE,
+    unix_fds: int = 0,
+    body: Bytes | None = None,
+    limits: Limits | None = None,
+) -> Message:
+    """A signal, with values as `build` takes them, whose errors it raises:
+
+    signal(7, "/a", "a.b", "Changed", "su", "x", 1)
+    """
+    parts: dict[str, Any] = {"path": path, "interface": interface, "destination": destination, "sender": sender}
+    parts |= {"flags": flags, "order": order, "unix_fds": unix_fds, "body": body, "limits": limits}
+    return build(MessageType.SIGNAL, serial, signature, *values, member=member, **parts)
+
+
+def reply_to(
+    call: Message,
+    serial: int,
+    signature: str | None = None,
+    *values: Any,
+    sender: str | None = None,
+    flags: int = MessageFlag.NO_REPLY_EXPECTED,
+    unix_fds: int = 0,
+    body: Bytes | None = None,
+    limits: Limits | None = None,
+) -> Message:
+    """The reply to a call, with values as `build` takes them, whose errors it raises:
 
         reply_to(call, 7, "a{sv}", {"Load": Variant("d", 0.5)})
 
     Its reply serial is the call's serial, its destination the call's sender, if it has one, and its
-    byte order the call's; and it expects no reply itself. Other parts, as `sender`, are those of
-    `build`, by their names. Raises what `build` raises.
+    byte order the call's; and it expects no reply itself.
     """
-    return build(MessageType.METHOD_RETURN, serial, signature, *values, **_of_reply(call) | parts)
+    parts: dict[str, Any] = {"sender": sender, "flags": flags, "unix_fds": unix_fds, "body": body, "limits": limits}
+    return build(MessageType.METHOD_RETURN, serial, signature, *values, **_of_reply(call), **parts)
 
 
 def error_to(
-    call: Message, serial: int, name: str, signature: str | None = None, *values: Any, **parts: Any
+    call: Message,
+    serial: int,
+    name: str,
+    signature: str | None = None,
+    *values: Any,
+    sender: str | None = None,
+    flags: int = MessageFlag.NO_REPLY_EXPECTED,
+    unix_fds: int = 0,
+    body: Bytes | None = None,
+    limits: Limits | None = None,
 ) -> Message:
     """The reply to a call that failed, with the error of this name; otherwise as `reply_to` says:
 
     error_to(call, 7, "org.freedesktop.DBus.Error.UnknownMethod", "s", "there is no Greet")
     """
-    parts = _of_reply(call) | {"error_name": name} | parts
-    return build(MessageType.ERROR, serial, signature, *values, **parts)
+    parts: dict[str, Any] = {"sender": sender, "flags": flags, "unix_fds": unix_fds, "body": body, "limits": limits}
+    return build(MessageType.ERROR, serial, signature, *values, error_name=name, **_of_reply(call), **parts)
 
 
 def _of_reply(call: Message) -> dict[str, Any]:
     """The parts of a reply that the call says."""
-    parts = {"order": call.order, "flags": MessageFlag.NO_REPLY_EXPECTED}
-    return {**parts, "reply_serial": call.serial, "destination": call.sender}
+    return {"order": call.order, "reply_serial": call.serial, "destination": call.sender}
 
 
 def rebuild(message: Message, *, limits: Limits | None = None, **changes: Any) -> Message:
@@ -114,31 +175,33 @@ def rebuild(message: Message, *, limits: Limits | None = None, **changes: Any) -
     return _built(library.dbus_wire_rebuild, (message.data, len(message.data)), changed, limits)
 
 
-def _built(call: Any, of: tuple[Any, ...], parts: dict[str, Any], limits: Limits | None) -> Message:
-    """The message that the call makes of the parts, and of a message and its length, if it changes
-    one."""
-    draft = _library.Draft(order=ord(Order(parts["order"]).value))
-    for name, name_there in _NUMBERS.items():
-        setattr(draft, name_there, 0 if parts[name] is None else uint32_of(name, parts[name]))
-    for name in _TEXTS:
-        text = b"" if parts[name] is None else text_of(name, parts[name])
-        setattr(draft, name, _library.DraftText(text, len(text), parts[name] is not None))
+def _built(function: Any, of: tuple[Any, ...], parts: dict[str, Any], limits: Limits | None) -> Message:
+    """The message that the library's call makes of the parts, and of a message and its length, if it
+    changes one."""
+    order = _ORDERS[order_of(parts["order"])]
+    numbers = [0 if parts[name] is None else uint32_of(name, parts[name]) for name in _NUMBERS]
+    texts = [None if parts[name] is None else text_of(name, parts[name]) for name in _TEXTS]
     if not isinstance(parts["body"], (bytes, bytearray, memoryview)):
         raise bad_value("body", "bytes, a bytearray or a memoryview", parts["body"])
     body = as_bytes(parts["body"])
-    draft.body, draft.body_length = body, len(body)
+    # The draft's texts and its body, in one row.
+    row = b"".join((*filter(None, texts), body))
+    at = ctypes.c_void_p.from_buffer(ctypes.c_char_p(row)).value or 0
+    places: list[int] = []
+    for text in texts:
+        length = 0 if text is None else len(text)
+        places += at, length, text is not None
+        at += length
+    draft = byref(_library.Draft.from_buffer_copy(_DRAFT.pack(order, *numbers, *places, at, len(body))))
     # Each of seven texts has 16 bytes beside its own at most, and so has each number, the fixed
     # header and the body.
-    texts = sum(getattr(draft, name).length for name in _TEXTS)
-    room = sum(of[1:]) + texts + len(body) + 11 * 16
-    out, told = ctypes.create_string_buffer(room), _library.Checked()
-    limit, given = byref(limits_struct(limits)), byref(draft)
-    if of:
-        answer = call(*of, limit, given, out, room, byref(told))
-    else:
-        answer = call(given, limit, out, room, byref(told))
+    room = sum(of[1:]) + len(row) + 11 * 16
+    out, told, limit = ctypes.create_string_buffer(room), _library.Checked(), byref(limits_struct(limits))
+    given = (*of, limit, draft) if of else (draft, limit)
+    answer = function(*given, out, room, byref(told))
     if answer == NO_MEMORY:
         raise MemoryError
     if answer != OK:
         raise refused(told.offset, told.reason, told.field)
-    return Message.parse(out.raw[: told.length])
+    decoded = tuple(text if text is None else text.decode() for text in texts)
+    return Message._made(out.raw[: told.length], (order, *numbers), decoded)

@@ -3,6 +3,7 @@ which says what each means."""
 
 from __future__ import annotations
 
+import contextlib
 import ctypes
 import os
 from ctypes import POINTER, c_char_p, c_size_t, c_uint8, c_uint16, c_uint32, c_uint64, c_void_p
@@ -90,14 +91,6 @@ class LinePlace(ctypes.Structure):
     _fields_ = [(name, c_uint64) for name in ("number", "offset", "time", "has_time")]
 
 
-class Writer(ctypes.Structure):
-    _fields_ = [("length", c_uint64), ("order", c_uint32), ("reserved", c_uint32)]
-
-
-class Array(ctypes.Structure):
-    _fields_ = [("length_at", c_uint64), ("start", c_uint64)]
-
-
 class TextChecked(ctypes.Structure):
     _fields_ = [("offset", c_uint64), ("is_too_long", c_uint32), ("reserved", c_uint32)]
 
@@ -155,7 +148,6 @@ class Addresses(ctypes.Structure):
 # so they are passed as they are.
 _MESSAGE = (c_char_p, c_size_t, POINTER(Limits))
 _ITEMS = (POINTER(FlatItem), c_size_t, POINTER(c_uint64), POINTER(Checked))
-_BODY = (c_char_p, c_size_t, POINTER(Writer))
 _ADDRESS = (c_char_p, c_size_t, c_uint64)
 _CALLS = {
     "version": (c_uint32,),
@@ -172,12 +164,6 @@ _CALLS = {
     "swap": (c_uint32, *_MESSAGE, c_uint32, c_char_p, c_size_t, POINTER(Checked)),
     "build": (c_uint32, POINTER(Draft), POINTER(Limits), c_char_p, c_size_t, POINTER(Checked)),
     "rebuild": (c_uint32, *_MESSAGE, POINTER(Draft), c_char_p, c_size_t, POINTER(Checked)),
-    "put_number": (c_uint32, *_BODY, c_uint32, c_uint64),
-    "put_text": (c_uint32, *_BODY, c_char_p, c_size_t),
-    "put_signature": (c_uint32, *_BODY, c_char_p, c_size_t),
-    "begin_struct": (c_uint32, *_BODY),
-    "open_array": (c_uint32, *_BODY, c_uint32, POINTER(Array)),
-    "close_array": (c_uint32, *_BODY, POINTER(Array)),
     "text_check": (c_uint32, c_uint32, c_char_p, c_size_t, POINTER(TextChecked)),
     "checker_new": (c_uint32, POINTER(Limits), POINTER(Checker)),
     "checker_take": (c_uint32, POINTER(Checker), c_char_p, c_size_t, POINTER(Taken)),
@@ -239,6 +225,14 @@ def _load(path: str) -> ctypes.CDLL:
     return library
 
 
+def _check_processor() -> None:
+    """Raises ImportError on an x86-64 processor on which the library of a wheel would not run."""
+    with contextlib.suppress(OSError), open("/proc/cpuinfo") as lines:
+        flags = next((line.split() for line in lines if line.startswith("flags")), list[str]())
+        if flags and not {"sse4_2", "popcnt"} <= {*flags}:
+            raise ImportError("libdbus_wire is for x86-64-v2 processors, and this one has no SSE4.2 and POPCNT")
+
+
 def _path() -> str:
     """The library that DBUS_WIRE_LIBRARY names, or that is beside the module, as in a wheel, or
     that the dynamic linker finds."""
@@ -246,5 +240,6 @@ def _path() -> str:
     return os.environ.get("DBUS_WIRE_LIBRARY") or (beside if os.path.exists(beside) else SONAME)
 
 
+_check_processor()
 library = _load(_path())
 LIBRARY_VERSION = _version_of(library.dbus_wire_version())

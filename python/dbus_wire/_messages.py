@@ -5,10 +5,11 @@ from __future__ import annotations
 import ctypes
 import enum
 import io
+import struct
 from ctypes import byref
 from dataclasses import dataclass, field
-from functools import cached_property
-from typing import Any, BinaryIO, Iterator
+from functools import cached_property, lru_cache
+from typing import Any, Iterator, Protocol
 
 from . import _library
 from ._errors import bad_json, refused, truncated
@@ -29,11 +30,10 @@ class MessageType(enum.IntEnum):
     SIGNAL = 4
 
 
-def _type_of(number: int) -> MessageType | int:
-    try:
-        return MessageType(number)
-    except ValueError:
-        return number
+_TYPES = {int(it): it for it in MessageType}
+# The members of _library.Parts and of the texts in it, one after another.
+_PARTS = struct.Struct("=2Q6I21Q")
+_ORDERS = {ord(it.value): it for it in Order}
 
 
 class MessageFlag(enum.IntFlag):
@@ -43,6 +43,8 @@ class MessageFlag(enum.IntFlag):
     NO_AUTO_START = 2
     ALLOW_INTERACTIVE_AUTHORIZATION = 4
 
+
+_flags_of = lru_cache(256)(MessageFlag)
 
 @dataclass(frozen=True)
 class Message:
@@ -81,27 +83,34 @@ class Message:
         """The one message that the bytes are, which are at this place of the input."""
         parts, told = _library.Parts(), _library.Checked()
         _check_all(library.dbus_wire_parts_of(data, len(data), byref(limits), byref(parts), byref(told)), told, data, at)
+        found = _PARTS.unpack(parts)
+        places = zip(found[8::3], found[9::3], found[10::3])
+        texts = tuple(text_at(data, offset, length) if is_there else None for offset, length, is_there in places)
+        return cls._made(data, found[2:8], texts)
 
-        def text(place: _library.Text) -> str | None:
-            return text_at(data, place.offset, place.length) if place.is_there else None
-
-        path, signature = text(parts.path), text(parts.signature)
-        return cls(
+    @classmethod
+    def _made(cls, data: bytes, numbers: tuple[int, ...], texts: tuple[str | None, ...]) -> Message:
+        """The message of these bytes, which are one, by its parts in the library's order."""
+        order, kind, flags, serial, reply_serial, unix_fds = numbers
+        path, interface, member, error_name, destination, sender, signature = texts
+        message = object.__new__(cls)
+        message.__dict__.update(
             data=data,
-            order=Order(chr(parts.order)),
-            type=_type_of(parts.kind),
-            flags=MessageFlag(parts.flags),
-            serial=parts.serial,
+            order=_ORDERS[order],
+            type=_TYPES.get(kind, kind),
+            flags=_flags_of(flags),
+            serial=serial,
             path=None if path is None else ObjectPath(path),
-            interface=text(parts.interface),
-            member=text(parts.member),
-            error_name=text(parts.error_name),
-            reply_serial=parts.reply_serial or None,
-            destination=text(parts.destination),
-            sender=text(parts.sender),
+            interface=interface,
+            member=member,
+            error_name=error_name,
+            reply_serial=reply_serial or None,
+            destination=destination,
+            sender=sender,
             signature=None if signature is None else Signature(signature),
-            unix_fds=parts.unix_fds,
+            unix_fds=unix_fds,
         )
+        return message
 
     @cached_property
     def body(self) -> list[Any]:
@@ -197,7 +206,13 @@ class Message:
         return self.data
 
 
-def messages(source: Bytes | BinaryIO, limits: Limits | None = None) -> Iterator[Message]:
+class Readable(Protocol):
+    """What reads at most so many bytes, and none at its end, as a binary file does."""
+
+    def read(self, count: int, /) -> bytes | None: ...
+
+
+def messages(source: Bytes | Readable, limits: Limits | None = None) -> Iterator[Message]:
     """The messages of a capture: of bytes, or of a binary file that blocks, such as a pipe, from
     which it reads no byte past each.
 
@@ -238,7 +253,7 @@ def byteswap(data: Bytes, order: Order | str, limits: Limits | None = None) -> b
     return out.raw
 
 
-def _read(stream: BinaryIO, count: int) -> bytes:
+def _read(stream: Readable, count: int) -> bytes:
     """So many bytes, or none if the number is negative; fewer only if the input ends."""
     pieces = []
     while count > 0 and (piece := stream.read(min(count, _PIECE))) != b"":

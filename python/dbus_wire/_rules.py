@@ -9,11 +9,14 @@ from collections.abc import Iterator
 from contextlib import contextmanager
 from ctypes import byref
 from types import TracebackType
+from typing import TypeVar
 
 from . import _library
 from ._library import NO_MEMORY, NO_ROOM, REFUSED, SHARED, Bytes, as_bytes, library
 from ._limits import limits_struct
 from ._messages import Message
+
+_Set = TypeVar("_Set", bound="RuleSet")
 
 
 class BadRule(ValueError):
@@ -145,7 +148,7 @@ class RuleSet:
         with self._lock:
             self._free()
 
-    def __enter__(self) -> RuleSet:
+    def __enter__(self: _Set) -> _Set:
         return self
 
     def __exit__(self, kind: type[BaseException] | None, error: BaseException | None, traceback: TracebackType | None) -> None:

@@ -2,30 +2,29 @@
 
 from __future__ import annotations
 
-import ctypes
 import struct
 from collections.abc import Iterable, Mapping
 from ctypes import byref
 from functools import lru_cache
 from itertools import repeat
-from typing import Any, Callable
+from typing import Any
 
 from ._errors import BadValue, bad_value
-from ._library import NO_ROOM, OK, Array, TextChecked, Writer, as_bytes, library
+from ._library import OK, TextChecked, as_bytes, library
 from ._limits import SPECIFICATION
 from ._texts import TextKind, check_text
-from ._values import Order, Variant, float_of, int_of, text_of
+from ._values import Order, Variant, float_of, int_of, order_of, text_of
 
-# Of each type of integers what errors call it, its width in bytes, and the least and the greatest.
+# Of each type of integers what errors call it, the least and the greatest.
 _INTEGERS = {
-    "y": ("a BYTE", 1, 0, (1 << 8) - 1),
-    "n": ("an INT16", 2, -1 << 15, (1 << 15) - 1),
-    "q": ("a UINT16", 2, 0, (1 << 16) - 1),
-    "i": ("an INT32", 4, -1 << 31, (1 << 31) - 1),
-    "u": ("a UINT32", 4, 0, (1 << 32) - 1),
-    "x": ("an INT64", 8, -1 << 63, (1 << 63) - 1),
-    "t": ("a UINT64", 8, 0, (1 << 64) - 1),
-    "h": ("a UNIX_FD", 4, 0, (1 << 32) - 1),
+    "y": ("a BYTE", 0, (1 << 8) - 1),
+    "n": ("an INT16", -1 << 15, (1 << 15) - 1),
+    "q": ("a UINT16", 0, (1 << 16) - 1),
+    "i": ("an INT32", -1 << 31, (1 << 31) - 1),
+    "u": ("a UINT32", 0, (1 << 32) - 1),
+    "x": ("an INT64", -1 << 63, (1 << 63) - 1),
+    "t": ("a UINT64", 0, (1 << 64) - 1),
+    "h": ("a UNIX_FD", 0, (1 << 32) - 1),
 }
 # Of each type of texts its kind, and what is wanted.
 _TEXTS = {
@@ -33,7 +32,21 @@ _TEXTS = {
     "o": (TextKind.OBJECT_PATH, "an OBJECT_PATH (a str as '/a/b')"),
     "g": (TextKind.SIGNATURE, "a SIGNATURE (a str of complete types)"),
 }
+# What a type is aligned to, by its first code, if not to 4.
 _ALIGNMENTS = {**dict.fromkeys("ygv", 1), **dict.fromkeys("nq", 2), **dict.fromkeys("xtd({", 8)}
+# What `struct` calls a number of a type, and its order of bytes; and of both what the number is
+# aligned to, and what packs it.
+_FORMS = dict(zip("ynqiuxthbd", "BhHiIqQIId"))
+_ORDERS = {Order.LITTLE: "<", Order.BIG: ">"}
+_PACKS = {
+    order: {code: (_ALIGNMENTS.get(code, 4), struct.Struct(form + _FORMS[code]).pack) for code in _FORMS}
+    for order, form in _ORDERS.items()
+}
+# What comes after a text in a row of them, by the last two bits of its length: a 0, and the padding
+# before the next one.
+_ENDS = tuple(bytes(1 + (-length - 5) % 4) for length in range(4))
+_BASIC = frozenset((*_FORMS, *_TEXTS, "v"))
+_LONGEST = 0xFFFF_FFFF
 
 
 def _first_type(types: str) -> str:
@@ -47,7 +60,13 @@ def _first_type(types: str) -> str:
     raise ValueError(f"{types!r} is no signature")
 
 
-@lru_cache
+@lru_cache(1024)
+def _types_if_valid(text: bytes) -> tuple[str, ...] | None:
+    """The complete types of a text, if it is a signature."""
+    return None if check_text(TextKind.SIGNATURE, text) else _types_of(text.decode("ascii"))
+
+
+@lru_cache(1024)
 def _types_of(signature: str) -> tuple[str, ...]:
     """The complete types of a signature."""
     found = []
@@ -66,12 +85,12 @@ def _subscript(key: str | int) -> str:
 
 
 class _Body:
-    """What is spelled, in room that grows."""
+    """What is spelled. `build` holds it against its signature."""
 
     def __init__(self, order: Order) -> None:
-        self.room = ctypes.create_string_buffer(512)
-        self.writer = Writer(order=ord(order.value))
-        self.told = TextChecked()
+        self.data = bytearray()
+        self.order = _ORDERS[order]
+        self.packs = _PACKS[order]
         # The way to the value that is put: each step is a form of the way up to it and a detail.
         self.steps: list[tuple[str, str | int]] = []
         self.open = 0
@@ -83,18 +102,16 @@ class _Body:
             path = form.format(path, _subscript(detail))
         return bad_value(path, wanted, given, why)
 
-    def put(self, call: Callable[..., int], *arguments: Any) -> bool:
-        """Whether the library put it, which it does not if a text is too long for any message."""
-        while True:
-            answer = call(self.room, len(self.room), byref(self.writer), *arguments)
-            if answer != NO_ROOM:
-                return bool(answer == OK)
-            self.grow(len(self.room))
+    def align(self, code: str) -> None:
+        """Pads what is spelled to where a type that begins with the code may be."""
+        self.data += bytes(-len(self.data) % _ALIGNMENTS.get(code, 4))
 
-    def grow(self, count: int) -> None:
-        grown = ctypes.create_string_buffer(len(self.room) + count)
-        ctypes.memmove(grown, self.room, self.writer.length)
-        self.room = grown
+    def put(self, code: str, number: float) -> None:
+        """A number in the range of its type."""
+        alignment, pack = self.packs[code]
+        if padding := -len(self.data) % alignment:
+            self.data += bytes(padding)
+        self.data += pack(number)
 
     def enter(self, given: object) -> None:
         """Enters a container."""
@@ -111,12 +128,11 @@ class _Body:
         elif code == "b":
             if not isinstance(value, bool):
                 raise self.bad("a BOOLEAN (True or False)", value)
-            self.put(library.dbus_wire_put_number, 4, int(value))
+            self.put(code, value)
         elif code == "d":
             if (number := float_of(value)) is None:
                 raise self.bad("a DOUBLE (a float, or an int that a float equals)", value)
-            bits = int.from_bytes(struct.pack("<d", number), "little")
-            self.put(library.dbus_wire_put_number, 8, bits)
+            self.put(code, number)
         elif code == "v":
             self.put_variant(value)
         elif code == "a":
@@ -129,24 +145,29 @@ class _Body:
             self.open -= 1
 
     def put_integer(self, code: str, value: object) -> None:
-        name, width, least, greatest = _INTEGERS[code]
-        number = int_of(value)
+        name, least, greatest = _INTEGERS[code]
+        number = value if type(value) is int else int_of(value)
         if number is None or not least <= number <= greatest:
             raise self.bad(f"{name} (an int from {least} to {greatest})", value)
-        self.put(library.dbus_wire_put_number, width, number & (1 << 64) - 1)
+        self.put(code, number)
 
     def put_text(self, code: str, value: object) -> None:
         kind, wanted = _TEXTS[code]
         data = self.checked(kind, wanted, value)
-        put = library.dbus_wire_put_signature if code == "g" else library.dbus_wire_put_text
-        if not self.put(put, data, len(data)):
+        if len(data) > _LONGEST:
             raise self.bad(wanted, value, ", which is too long")
+        self.put("y" if code == "g" else "u", len(data))
+        self.data += data + b"\0"
 
     def checked(self, kind: TextKind, wanted: str, value: object) -> bytes:
         """The bytes of a text of the kind."""
         if not isinstance(value, str):
             raise self.bad(wanted, value)
-        data, told = str.encode(value, "utf-8", "surrogatepass"), self.told
+        data = str.encode(value, "utf-8", "surrogatepass")
+        # This needs no call.
+        if kind is TextKind.STRING and str.isascii(value) and b"\0" not in data:
+            return data
+        told = TextChecked()
         if library.dbus_wire_text_check(kind, data, len(data), byref(told)) != OK:
             why = "is too long" if told.is_too_long else f"breaks at its byte {told.offset}"
             raise self.bad(wanted, value, f", which {why}")
@@ -157,11 +178,12 @@ class _Body:
             raise self.bad("a VARIANT (a Variant)", value)
         self.enter(value)
         self.steps.append(("{}.signature", 0))
-        wanted = "a str of one complete type"
-        signature = self.checked(TextKind.SINGLE_TYPE, wanted, value.signature)
-        self.put(library.dbus_wire_put_signature, signature, len(signature))
+        signature = value.signature
+        if type(signature) is not str or signature not in _BASIC:
+            signature = self.checked(TextKind.SINGLE_TYPE, "a str of one complete type", signature).decode("ascii")
+        self.data += b"%c%b\0" % (len(signature), signature.encode("ascii"))
         self.steps[-1] = ("{}.value", 0)
-        self.put_value(signature.decode("ascii"), value.value)
+        self.put_value(signature, value.value)
         self.steps.pop()
         self.open -= 1
 
@@ -170,7 +192,7 @@ class _Body:
         fields = tuple(values) if isinstance(values, (tuple, list)) else ()
         if len(fields) != len(types):
             raise self.bad(_values_of(types), values)
-        self.put(library.dbus_wire_begin_struct)
+        self.align("(")
         self.put_all(types, fields)
 
     def put_all(self, types: Iterable[str], values: Iterable[Any]) -> None:
@@ -183,39 +205,58 @@ class _Body:
 
     def put_array(self, element: str, values: Any) -> None:
         self.enter(values)
-        place = Array()
-        self.put(library.dbus_wire_open_array, _ALIGNMENTS.get(element[0], 4), byref(place))
+        self.put("u", 0)
+        length_at = len(self.data) - 4
+        self.align(element[0])
+        start = len(self.data)
         if element[0] == "{" and isinstance(values, Mapping):
             of_key, of_value = _types_of(element[1:-1])
             self.put_entries(of_key, of_value, values)
         elif isinstance(values, (list, tuple)):
-            self.put_all(repeat(element), values)
+            if not (self.put_texts(values) if element == "s" else self.put_numbers(element, values)):
+                self.put_all(repeat(element), values)
         elif element == "y" and _are_bytes(values):
-            self.put_bytes(as_bytes(values))
+            self.data += as_bytes(values)
         else:
             also = {"y": ", or bytes-like", "{": ", or a mapping"}.get(element[0], "")
             raise self.bad(f"an array of {element!r} (a list or tuple{also})", values)
-        if self.writer.length - place.start > SPECIFICATION.array:
+        if (length := len(self.data) - start) > SPECIFICATION.array:
             raise self.bad(f"an array of at most {SPECIFICATION.array} bytes", values)
-        self.put(library.dbus_wire_close_array, byref(place))
+        self.data[length_at : length_at + 4] = self.packs["u"][1](length)
         self.open -= 1
+
+    def put_texts(self, values: Any) -> bool:
+        """Whether all elements are put at once, as ASCII without a 0, which needs no call."""
+        if set(map(type, values)) != {str} or not (text := "".join(values)).isascii() or "\0" in text:
+            return False
+        pack = self.packs["u"][1]
+        self.data += b"".join([pack(len(it)) + it.encode("ascii") + _ENDS[len(it) & 3] for it in values])
+        # No padding comes after the last one.
+        del self.data[len(self.data) - len(_ENDS[len(values[-1]) & 3]) + 1 :]
+        return True
+
+    def put_numbers(self, element: str, values: Any) -> bool:
+        """Whether all elements are put at once, as numbers that are in range."""
+        wanted = float if element == "d" else int if element in _INTEGERS else None
+        if set(map(type, values)) != {wanted}:
+            return False
+        try:
+            self.data += struct.pack(f"{self.order}{len(values)}{_FORMS[element]}", *values)
+        except struct.error:
+            return False
+        return True
 
     def put_entries(self, of_key: str, of_value: str, entries: Mapping[Any, Any]) -> None:
         """The entries of a dict."""
         self.steps.append(("", 0))
         for at, (key, value) in enumerate(entries.items()):
-            self.put(library.dbus_wire_begin_struct)
+            self.align("{")
             self.steps[-1] = ("list({})[{}]", at)
             self.put_value(of_key, key)
             is_written = isinstance(key, (str, int))
             self.steps[-1] = ("{}[{}]", key) if is_written else ("list({}.values())[{}]", at)
             self.put_value(of_value, value)
         self.steps.pop()
-
-    def put_bytes(self, data: bytes) -> None:
-        self.grow(len(data))
-        ctypes.memmove(byref(self.room, self.writer.length), data, len(data))
-        self.writer.length += len(data)
 
 
 def _are_bytes(values: object) -> bool:
@@ -252,11 +293,10 @@ def spell_body(
     of over 64 containers (arrays, structs, variants) in one another; and of a signature and an
     order that are none.
     """
-    text = text_of("signature", signature)
-    if check_text(TextKind.SIGNATURE, text) is not None:
+    if (types := _types_if_valid(text_of("signature", signature))) is None:
         raise bad_value("signature", _TEXTS["g"][1], signature)
-    body, types = _Body(Order(order)), _types_of(text.decode("ascii"))
+    body = _Body(order_of(order))
     if not isinstance(values, (tuple, list)) or len(values) != len(types):
         raise body.bad(_values_of(types), values)
     body.put_all(types, values)
-    return body.room.raw[: body.writer.length]
+    return bytes(body.data)

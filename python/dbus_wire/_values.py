@@ -23,6 +23,11 @@ class Order(str, enum.Enum):
         raise bad_value("order", "'l' or 'B'", value)
 
 
+def order_of(order: Order | str) -> Order:
+    """The byte order that is given. Raises BadValue."""
+    return order if type(order) is Order else Order(order)
+
+
 class ObjectPath(str):
     """An OBJECT_PATH."""
 
@@ -80,7 +85,7 @@ def float_of(value: object) -> float | None:
 
 
 def _uint_of(name: str, value: object, bits: int) -> int:
-    number = int_of(value)
+    number = value if type(value) is int else int_of(value)
     if number is None or not 0 <= number < 1 << bits:
         raise bad_value(name, f"an int from 0 to {(1 << bits) - 1}", value)
     return number

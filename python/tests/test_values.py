@@ -9,7 +9,7 @@ from inputs import SAMPLES
 from random_values import BASIC, Values, as_read, wrong_values
 
 from dbus_wire import BadValue, Client, Limits, Message, MessageFlag, MessageType, ObjectPath, Server, Variant
-from dbus_wire import build, byteswap, error_to, messages, rebuild, reply_to, spell_body
+from dbus_wire import build, byteswap, call, error_to, messages, rebuild, reply_to, signal, spell_body
 
 SIGNAL = {"type": MessageType.SIGNAL, "serial": 1, "path": "/", "interface": "a.b", "member": "C"}
 GUID = "0" * 32
@@ -158,6 +158,35 @@ class RightValues(unittest.TestCase):
 
         self.assertEqual(spell_body("ay", [Short(b"ab")]), b"\2\0\0\0ab")
         self.assertEqual(spell_body("s", [type("Text", (str,), {"encode": lambda self, *words: b"b"})("a")]), b"\1\0\0\0a\0")
+
+
+class Calls(unittest.TestCase):
+    def test_calls_and_signals(self):
+        of_both = {"interface": "a.b", "destination": "c.d", "sender": ":1.7", "flags": 2}
+        of_both |= {"order": "B", "unix_fds": 1, "limits": Limits()}
+        right = build(MessageType.METHOD_CALL, 5, "su", "x", 1, path="/a", member="C", **of_both)
+        self.assertEqual(call(5, "C", "su", "x", 1, path="/a", **of_both), right)
+        self.assertEqual(call(5, "C", "su", body=right.body_bytes, path="/a", **of_both), right)
+        interface = of_both.pop("interface")
+        right = build(MessageType.SIGNAL, 5, "su", "x", 1, path="/a", interface=interface, member="C", **of_both)
+        self.assertEqual(signal(5, "/a", "a.b", "C", "su", "x", 1, **of_both), right)
+        self.assertEqual(Message.parse(right.data), right)
+        self.assertRaises(TypeError, call, 5, "C")
+
+    def test_a_message_that_is_made_is_the_one_that_is_read(self):
+        class Text(str):
+            pass
+
+        made = call(5, Text("C"), Text("s"), Text("x"), path=Text("/a"), sender=Text(":1.7"), flags=129)
+        read = Message.parse(made.data)
+        self.assertEqual((repr(made), made), (repr(read), read))
+        for name in ("path", "member", "sender", "signature", "type", "flags", "order"):
+            self.assertIs(type(getattr(made, name)), type(getattr(read, name)), name)
+        texts = ["", "a", "ab", "abc", "abcd", "\xe4", "\U0001f600", *map(str, range(90, 110))]
+        for count in range(len(texts)):
+            for order in "lB":
+                values = [texts[count:], texts[:count], list(range(count)), [it / 3 for it in range(count)], count]
+                self.assertEqual(signal(5, "/a", "a.b", "C", "asasaxadt", *values, order=order).body, values)
 
 
 class Replies(unittest.TestCase):
