@@ -49,6 +49,7 @@
 # make promises-diff prints which of them differ from those of a commit, REV=HEAD, and the definitions by which they do
 # make instructions prints the instructions per byte of each command, by valgrind, of libdbus if its headers are there, and of calls of the library for C
 # make bench       MB/s of each command on several streams, by user and system time, and of decoding and encoding
+# make bench-languages  microseconds of messages that the crate for Rust and the module for Python read and build, beside the library for C and peers
 # make bench-c     nanoseconds of calls of the library for C, and of a set of 100,000 match rules; MB/s of a checker of pieces
 
 PREFIX ?= /usr/local
@@ -110,7 +111,7 @@ ARGS = check
 FILE = samples/session.dbus
 
 .PHONY: kit run quick-test build library test weight lint test-c test-python page test-page test-memory gate-times wrong-bodies promises promises-diff api graph definitions definitions-check \
-	doc-examples readme-test peers export-cases instructions bench bench-c install install-program install-c install-shared install-dev install-python install-notices uninstall deb tarball wheel test-wheel crate test-crate test-completions release test-release test-packages test-root
+	doc-examples readme-test peers export-cases instructions bench bench-c bench-languages install install-program install-c install-shared install-dev install-python install-notices uninstall deb tarball wheel test-wheel crate test-crate test-completions release test-release test-packages test-root
 
 # What rt try builds is gone when it ends. What make build made runs at once, and needs no kit.
 IS_BUILT = [ -x $(PROGRAM) ] && [ -z "$$(find crates.txt crates/*/src -newer $(PROGRAM))" ]
@@ -262,6 +263,9 @@ bench-c: library
 	$(CC) -std=c99 -O2 -Iinclude -o out/pieces bench/pieces.c $(ARCHIVE)
 	bench/pieces.sh out/pieces
 	$(CC) -std=c99 -O2 -Iinclude -o out/rules bench/rules.c $(ARCHIVE)
+
+bench-languages: library
+	bench/languages.sh out
 
 install: install-program install-c
 
