@@ -48,7 +48,8 @@ pub(crate) fn items_written(length: usize, mut call: impl FnMut(*mut FlatItem, u
     loop {
         let answer = call(items.as_mut_ptr(), items.capacity(), &mut count);
         if answer != sys::DBUS_WIRE_NO_ROOM {
-            // SAFETY: the call has written so many, within the room.
+            assert!(count as usize <= items.capacity(), "the call writes within its room");
+            // SAFETY: the call has written so many.
             unsafe { items.set_len(count as usize) };
             return (answer, items);
         }
