@@ -589,7 +589,7 @@ fn a_watch_passes_lines_on() {
     assert_eq!(command(watch.client(b"BEGIN\r\nl")), Some(Command::Begin));
     assert_eq!((watch.client(b"l"), watch.server(b"l")), (Ok(Passage::Messages), Ok(Passage::Messages)));
     let mut watch = Watch::new();
-    assert_eq!((watch.server(ok), watch.client(b"\0")), (Err(NotPassed::Before), Err(NotPassed::Before)));
+    assert_eq!((watch.server(ok), watch.client(b"\0")), (Err(NotPassed::OutOfTurn(Command::Ok)), Err(NotPassed::Before)));
     // NEGOTIATE_UNIX_FD is answered by AGREE_UNIX_FD or ERROR.
     for (answer, passes) in [
         (b"AGREE_UNIX_FD\r\n".as_slice(), true),
