@@ -1,0 +1,5 @@
+use Rattle.dbus_connection.proofs.Courses.{any_cut}
+use Rattle.dbus_connection.proofs.laws.any_cut.Goals as goal
+
+pub returns : goal.returns
+returns c = any_cut

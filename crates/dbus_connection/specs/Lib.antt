@@ -1,0 +1,5 @@
+pub mod Standing
+pub mod Reading
+pub mod Answers
+pub mod Shown
+pub mod Runs

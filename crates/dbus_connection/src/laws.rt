@@ -1,0 +1,18 @@
+//! What holds of the calls of a connection. None of these functions does anything: their contracts
+//! are the laws, over the definitions that the calls of the crate are specified by.
+#![tactic(auto)]
+
+ghost use Rattle.dbus_connection.specs.Runs.{AnyCut, TakesMessages};
+
+/// However the bytes of messages are cut, the same comes of them: of two ways to cut them, one
+/// tells what the other does, and maybe more, since a call looks at no message before all of it is
+/// at hand. D-Bus Specification, "Message Protocol".
+pub fn any_cut()
+    ensures { AnyCut }
+{}
+
+/// The bytes that were taken past the handshake are those of the messages that were given, one
+/// after another. D-Bus Specification, "Message Protocol".
+pub fn takes_messages()
+    ensures { TakesMessages }
+{}
