@@ -14,8 +14,8 @@ use Rattle.dbus_resync.specs.declared.found.Searched.{Searched}
 use Rattle.dbus_resync.proofs.OneFound.{one_found}
 use Rattle.dbus_resync.proofs.Steps.{looks_once}
 use Rattle.dbus_stream.specs.Gathering.{GathererState, gathering, fresh, under_way}
-use Rattle.dbus_stream.specs.GoingOn.{ahead_of, AsksForMemory, GoesBy, GoesTo, IsFoundIn, IsReadFar, Looks, LooksAhead, LooksBehind, OneResumed, ResumesBehind, Seeks, StaysThere}
-use Rattle.dbus_stream.specs.LookingAhead.{HasAhead, IsFar, ReadsTo, StandsBefore}
+use Rattle.dbus_stream.specs.GoingOn.{ahead_of, AsksForMemory, GoesBy, GoesTo, IsFoundIn, IsReadFar, Looks, LooksAhead, LooksBehind, OneResumed, ResumesBehind, Seeks, StaysThere, WantsRead}
+use Rattle.dbus_stream.specs.LookingAhead.{HasAhead, IsFar, IsNear, ReadsTo, StandsBefore}
 use Rattle.dbus_stream.specs.Next.{ReadsNothing, ReadsWhile}
 use Rattle.dbus_stream.specs.Packets.{KeepsPackets}
 use Rattle.dbus_stream.specs.RawReading as raw
@@ -278,13 +278,13 @@ module _ {R A : Type 0} where
       ]
 
       -- it was to be more
-      ahead_asks : length bytes < far → is_ended last ≡ false → AsksForMemory w old new window
-      ahead_asks short open_ =
+      ahead_wants : IsNear far bytes last → WantsRead w old new window
+      ahead_wants near =
           let size = ap length w_is in
           let front_size = ap length is in
           elim (cases_lt (length front) window) [
-            | inl less ↦ inr (omega (arith, less, front_size), (let wide = twice less in omega (arith, size, wide, short)), s.ended ∙ open_)
-            | inr there ↦ absurd (let zero = none there in omega (arith, zero, short))
+            | inl less ↦ (omega (arith, less, front_size), (let wide = twice less in omega (arith, size, wide, near.0)), s.ended ∙ near.1)
+            | inr there ↦ absurd (let zero = none there in omega (arith, zero, near.0))
           ]
 
       pub ahead_looks : (res : Result (Unit {0}) ReadFault) → IsFar far bytes last res → Looks w old new window res
@@ -297,10 +297,10 @@ module _ {R A : Type 0} where
         enough = elim far_enough [ inl there ↦ inl (ahead_wide there) | inr end ↦ inr (s.ended ∙ end) ];
         far = ahead_far far_enough;
       }
-      ahead_looks (Err Memory) short = (ahead_stays, ahead_asks short.0 short.1)
+      ahead_looks (Err Memory) near = (ahead_stays, inr (ahead_wants near))
       ahead_looks (Err (Format fault)) far_enough = absurd far_enough
-      ahead_looks (Err Device) far_enough = ahead_stays
-      ahead_looks (Err TooManyReads) far_enough = (ahead_stays, s.reads ∙ (far_enough.0 ∙ sym s.most_reads), s.ended ∙ far_enough.1)
+      ahead_looks (Err Device) near = (ahead_stays, ahead_wants near)
+      ahead_looks (Err TooManyReads) near = (ahead_stays, s.reads ∙ (near.0 ∙ sym s.most_reads), ahead_wants near.1)
 
   -- the reader goes to the next message
   pub goes_to : (window offset : ℕ) (w : List ℕ) (old mid new : RawReader R A) → LooksAhead w old mid window → offset ≤ length w → part_of new.reader ≡ drop offset (part_of mid.reader) → new.reader.taker ≡ mid.reader.taker

@@ -99,11 +99,15 @@ module _ {R A : Type 0} where
     abbrev pub IsReadFar : (many : ℕ) → Type 0
     IsReadFar many = (raw.reads_of new ≡ raw.reads_of old) ⊎ ((2 * many ≤ length w) ⊎ (raw.is_ended new ≡ true))
 
-    -- memory is asked for: to put what is kept into one place, before anything is read; or for more
-    -- bytes, of which fewer are there
+    -- one more read is wanted: fewer bytes were kept at first, and fewer than twice as many are there
+    -- now, and the input has not ended
+    abbrev pub WantsRead : (many : ℕ) → Type 0
+    WantsRead many = (length (raw.kept old) < many) × (length w < 2 * many) × (raw.is_ended new ≡ false)
+
+    -- memory is asked for: to put what is kept into one place, before anything is read; or for what
+    -- is read next
     abbrev pub AsksForMemory : (many : ℕ) → Type 0
-    AsksForMemory many = ((length (part_of old.reader) < length (raw.kept old)) × (w ≡ raw.kept old))
-        ⊎ ((length (raw.kept old) < many) × (length w < 2 * many) × (raw.is_ended new ≡ false))
+    AsksForMemory many = ((length (part_of old.reader) < length (raw.kept old)) × (w ≡ raw.kept old)) ⊎ WantsRead many
 
     -- so many bytes are dropped, and the fault is gone
     pub record GoesTo (offset : ℕ) : Type 0 where
@@ -130,11 +134,11 @@ module _ {R A : Type 0} where
     abbrev pub GoesBy : (by_size : Bool) → (window : ℕ) → Result Found ReadFault → Type 0
     GoesBy by_size window (Ok (At offset)) = FindsIn by_size window (At offset) × GoesTo offset
     GoesBy by_size window (Ok found) = FindsIn by_size window found × StaysThere
-    GoesBy by_size window (Err TooManyReads) = StaysThere × (raw.reads_of new ≡ raw.most_reads_of new) × (raw.is_ended new ≡ false)
+    GoesBy by_size window (Err TooManyReads) = StaysThere × (raw.reads_of new ≡ raw.most_reads_of new) × WantsRead (ahead_of window)
     GoesBy by_size window (Err Memory) = StaysThere × AsksForMemory (ahead_of window)
     -- a read gave bytes of a packet, and it does not note of which packets the bytes are that it holds
     GoesBy by_size window (Err (Format fault)) = StaysThere × (raw.stopped_of old ≡ Some (Format fault)) × (raw.packed_of new ≡ true)
-    GoesBy by_size window (Err Device) = StaysThere
+    GoesBy by_size window (Err Device) = StaysThere × WantsRead (ahead_of window)
 
     -- a call that goes on to the first message
     abbrev pub GoesOn : (window : ℕ) → Result Found ReadFault → Type 0
@@ -156,10 +160,10 @@ module _ {R A : Type 0} where
 
     abbrev pub Looks : (many : ℕ) → Result (Unit {0}) ReadFault → Type 0
     Looks many (Ok x) = LooksAhead many
-    Looks many (Err TooManyReads) = StaysThere × (raw.reads_of new ≡ raw.most_reads_of new) × (raw.is_ended new ≡ false)
+    Looks many (Err TooManyReads) = StaysThere × (raw.reads_of new ≡ raw.most_reads_of new) × WantsRead many
     Looks many (Err Memory) = StaysThere × AsksForMemory many
     Looks many (Err (Format fault)) = ⊥
-    Looks many (Err Device) = StaysThere
+    Looks many (Err Device) = StaysThere × WantsRead many
 
 -- ---- laws
 

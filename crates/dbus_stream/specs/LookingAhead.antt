@@ -47,11 +47,14 @@ module _ {R T B A G : Type 0} {b : Ghosts B} (k : Taking T G) (left : R → Opti
     pub done : done_of new ≡ done_of old + length reads.bytes
     pub stopped : stopped_of new ≡ stopped_of old
 
--- so many are there, or the input has ended; or why not
+-- so many are there, or the input has ended; or fewer, and why
 module _ {R T B A : Type 0} {b : Ghosts B} where
+  abbrev pub IsNear : (far : ℕ) → List ℕ → Reader R T B A b → Type 0
+  IsNear far bytes new = (length bytes < far) × (is_ended new ≡ false)
+
   abbrev pub IsFar : (far : ℕ) → List ℕ → Reader R T B A b → Result (Unit {0}) ReadFault → Type 0
   IsFar far bytes new (Ok x) = (far ≤ length bytes) ⊎ (is_ended new ≡ true)
-  IsFar far bytes new (Err TooManyReads) = (reads_of new ≡ most_reads_of new) × (is_ended new ≡ false)
-  IsFar far bytes new (Err Memory) = (length bytes < far) × (is_ended new ≡ false)
+  IsFar far bytes new (Err TooManyReads) = (reads_of new ≡ most_reads_of new) × IsNear far bytes new
+  IsFar far bytes new (Err Memory) = IsNear far bytes new
   IsFar far bytes new (Err (Format fault)) = ⊥
-  IsFar far bytes new (Err Device) = Unit {0}
+  IsFar far bytes new (Err Device) = IsNear far bytes new

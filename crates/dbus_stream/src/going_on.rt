@@ -102,10 +102,11 @@ impl<R: Source, A: Allocator + Copy> RawReader<R, A> {
     /// the effort is spent. Then all that was kept and read is kept, and the fault stays. So it is
     /// after an error.
     ///
-    /// `TooManyReads`: as many reads were made as it may make. `Device`: a read failed. `Memory`: an
-    /// allocation failed; none is made if all that is kept is in the buffer and nothing is read.
-    /// `Format`: the fault that it met, since a read gave bytes of a packet, and it does not note of
-    /// which packets the bytes are that it holds: [`RawReader::next_packet`] goes on there.
+    /// `TooManyReads`: more is wanted, and as many reads were made as it may make. `Device`: a read
+    /// failed. `Memory`: an allocation failed; none is made if all that is kept is in the buffer and
+    /// nothing is read. `Format`: the fault that it met, since a read gave bytes of a packet, and it
+    /// does not note of which packets the bytes are that it holds: [`RawReader::next_packet`] goes
+    /// on there.
     ///
     /// ```rust
     /// use dbus_stream::{Found, FromRead, RawReader, ReadFault};

@@ -101,7 +101,8 @@ impl<R: Source, A: Allocator + Copy> RawReader<R, A> {
     }
 
     /// The number of bytes of all the messages that it returned, and of all that
-    /// [`RawReader::pass_over`], [`RawReader::go_on`] and [`RawReader::resync`] dropped.
+    /// [`RawReader::pass_over`], [`RawReader::go_on`], [`RawReader::resync`] and
+    /// [`RawReader::next_packet`] dropped.
     pub fn done(&self) -> u64
         ensures { result ≡ done_of self.now }
     {
