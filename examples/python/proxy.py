@@ -34,7 +34,7 @@ class Rules(RuleSet):
         super().__init__()
         for text in TEXTS:
             self.add(text)
-        Client(user=os.getuid()).shake_hands(bus)
+        Client(user=os.getuid(), bounds=Bounds(6, 6)).shake_hands(bus)
         # The file keeps no bytes, which `select` would not see.
         self.bus, self.incoming, self.serial = bus, messages(bus.makefile("rb", buffering=0)), 0
         self.ask("Hello")

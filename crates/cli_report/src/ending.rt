@@ -33,7 +33,8 @@ impl ExitStatus {
 /// Why a run failed.
 #[derive(Clone, Copy, Debug, PartialEq, Eq)]
 pub enum Cause {
-    /// An allocation failed.
+    /// An allocation failed. Or, while it was looked for where messages begin again, the source gave
+    /// bytes of no packet and then of one, which are not held together; no capture does.
     Memory,
     /// The source failed.
     ReadFailed,

@@ -257,7 +257,8 @@ fn close<A: Allocator + Copy, V: MessageVisitor>(
     }
 }
 
-// Why the run is given up if a refused message was not passed over.
+// Why the run is given up if a refused message was not passed over. `Format` is answered if it was
+// looked for where messages begin again, and the source gave bytes of no packet and then of one.
 fn cause_of(fault: ReadFault) -> Cause
     ensures { result ≡ cause_of fault }
 {

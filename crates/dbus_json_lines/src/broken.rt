@@ -6,9 +6,9 @@ ghost use Rattle.std.specs.Prelude.{◌≤◌, IfOk, length};
 use json::{Reader, Scratch, Token};
 use std::alloc::{AllocError, Allocator};
 
-/// The offset of the first token that no JSON value has after those before it, or that opens an
-/// array or object too many; the end of the text if a token is missing. The text is known to be no
-/// value of this depth. RFC 8259, sections 2 to 5.
+/// The offset of the first token that no JSON value has after those before it, as a name that no
+/// colon follows, or that opens an array or object too many; the end of the text if no token is
+/// one. The text is known to be no value of this depth. RFC 8259, sections 2 to 5.
 pub(crate) fn broken_at<A: Allocator + Copy>(
     alloc: A,
     text: &str,
