@@ -9,7 +9,7 @@ use Rattle.cli_options.specs.declared.settings.Settings.{Settings}
 use Rattle.cli_options.specs.declared.window.Window.{Window}
 use Rattle.cli_run.specs.ByName.{Tallies}
 use Rattle.cli_run.specs.Told.{GotFirst, GotSecond, IsUnwritten, TellsStop, WritesLine}
-use Rattle.cli_run.specs.Going.{IsMore, IsStopOf, StopsWithin, closing_line}
+use Rattle.cli_run.specs.Going.{IsMore, IsStopOf, IsThrough, StopsWithin, closing_line}
 use Rattle.cli_run.specs.Inputs.{ArePlaced, Placed}
 use Rattle.cli_run.specs.Output.{IsOutputOfAll, after, check_line, fault_line, is_spent, status_of}
 use Rattle.cli_run.specs.Running.{RunsWith, Writes, WritesSome}
@@ -86,11 +86,17 @@ module _ {R W E : Type 0} (r : Reading R) (w : Writing W) (e : Writing E) (setti
     second = wrote_nothing e.held e.failures e.old;
   }
 
-  pub gave_up : (cause : Cause) (packet : Option ℕ) → w.new ≡ w.old → Tallies (taken r) settings most packet (Err cause) → (end : ExitStatus) → end ≡ status.Failed → Told e.held e.failures e.old e.new cause → Ends end
+  pub gave_up : (cause : Cause) (packet : Option ℕ) → w.new ≡ w.old → Tallies r settings most packet (Err cause) → (end : ExitStatus) → end ≡ status.Failed → Told e.held e.failures e.old e.new cause → Ends end
   gave_up cause packet same s end failed told = stops (ByCause cause) end failed told (stops_as (filled_as settings.window) (λ parts items told placed h. wrote_none cause same items told h) s)
 
+  abbrev Through : Counted → (packet : Option ℕ) → Type 0
+  Through counted packet = IsThrough (taken r) settings most true (tally_of counted) counted.fault [] (fault_line counted.size counted.fault packet)
+
   -- all messages were counted
-  module _ (counted : Counted) (packet : Option ℕ) (t : Tallies (taken r) settings most packet (Ok counted)) (in_words : settings.as_json ≡ false) (halts : settings.keeps_going ≡ false) where
+  module _ (counted : Counted) (packet : Option ℕ) (tallied : Tallies r settings most packet (Ok counted)) (in_words : settings.as_json ≡ false) (halts : settings.keeps_going ≡ false) where
+    abbrev t : Through counted packet
+    t = tallied.0
+
     abbrev text : List ℕ
     text = fault_line counted.size counted.fault packet
 
@@ -117,19 +123,22 @@ module _ {R W E : Type 0} (r : Reading R) (w : Writing W) (e : Writing E) (setti
     line_written end wrote same end_is =
         let first = subst (λ (l : List ℕ). Wrote w.held w.failures w.old l w.new) (sym all_is) wrote in
         let came : Writes w e settings Check some.0 all = record { then = state_after (start settings.window) some.0 0; text = []; made = makes_none settings.window some.0; first = first; still = λ none. absurd (is_some none); second = told_nothing e.held e.failures true e.old e.new same } in
-        inl (inl (record {
-          tally = tally_of counted;
-          fault = counted.fault;
-          told = [];
-          text = text;
-          through = t;
-          messages = some.0;
-          placed = some.1;
-          wanted = wanted_all (Filled settings.window) unfilled [] some.0;
-          unfilled = unfilled some.0;
-          came = came;
-          end_is = end_is;
-        }))
+        inl (inl (
+          record {
+            tally = tally_of counted;
+            fault = counted.fault;
+            told = [];
+            text = text;
+            through = t;
+            messages = some.0;
+            placed = some.1;
+            wanted = wanted_all (Filled settings.window) unfilled [] some.0;
+            unfilled = unfilled some.0;
+            came = came;
+            end_is = end_is;
+          },
+          tallied.1,
+        ))
 
     -- or not all of it
     within : (stop : RunStop) (more : List ℕ) → IsMore (taken r) settings most true (Filled settings.window) stop t.parts t.rest some.0 more → IsStopOf (taken r) most stop → GotFirst w.held w.failures true stop more w.old w.new → (more ≡ [] → IsUnwritten stop × (w.new ≡ w.old))

@@ -5,6 +5,7 @@ use Rattle.dbus_stream.specs.RawReading.{kept, most_reads_of}
 use Rattle.dbus_stream.specs.declared.raw_reader.RawReader.{RawReader}
 use Rattle.cli_run.specs.Going.{Closes, IsEnough, PassesAll, HasLastLine, closing_line, passed_count, status_at, tally_of}
 use Rattle.cli_run.specs.Inputs.{Placed}
+use Rattle.cli_run.specs.Needed.{WantMore, WantToSee}
 use Rattle.cli_run.specs.Visiting.{AddsUp}
 use Rattle.cli_report.specs.declared.ending.Cause.TheVariants.{Memory}
 use Rattle.cli_report.specs.declared.ending.ExitStatus.{ExitStatus}
@@ -12,6 +13,7 @@ use Rattle.cli_run.specs.declared.tally.Tally.{Tally}
 use Rattle.cli_run.specs.declared.visitor.RunStop.{RunStop}
 use Rattle.cli_run.specs.declared.visitor.RunStop.TheVariants.{Cause as ByCause, Untold}
 use Rattle.cli_run.proofs.GoSteps.{Begun, Fills, HasEnded, HasEnough, covers, Reads, Took, stops_plain}
+use Rattle.cli_run.proofs.NeededSteps.{reads_only}
 
 module _ {R A S : Type 0} {takes : S → S → List Placed → (told : List ℕ) → Type 0} {full : S → Bool} {run : Begun R A S} {new : RawReader R A} {tally : Tally} {fault : Option Fault} {s1 : S}
     (h : HasEnded run takes full new tally fault s1) where
@@ -26,19 +28,22 @@ module _ {R A S : Type 0} {takes : S → S → List Placed → (told : List ℕ)
         → PassesAll (Reads run new) run.settings (most_reads_of run.old) run.is_check takes leaves full run.s0 s2 res
     closes (Ok end) c =
         let came = subst (λ (l : List Placed). takes run.s0 s2 l ((h.told ++ h.text) ++ line)) (append-nil all) (laws.joins run.s0 s1 s2 all [] (h.told ++ h.text) line h.came c.0) in
-        inl (record {
-          tally = tally;
-          fault = fault;
-          told = h.told;
-          text = h.text;
-          through = h.through;
-          messages = all;
-          placed = h.placed;
-          wanted = h.wanted;
-          unfilled = (s2, (h.told ++ h.text) ++ line, came, laws.still s1 s2 line c.0 ∙ h.unfilled);
-          came = came;
-          end_is = c.1;
-        })
+        inl (
+          record {
+            tally = tally;
+            fault = fault;
+            told = h.told;
+            text = h.text;
+            through = h.through;
+            messages = all;
+            placed = h.placed;
+            wanted = h.wanted;
+            unfilled = (s2, (h.told ++ h.text) ++ line, came, laws.still s1 s2 line c.0 ∙ h.unfilled);
+            came = came;
+            end_is = c.1;
+          },
+          λ faultless. reads_only (Reads run new) (WantToSee run.settings.limits h.through.parts h.through.kept) (h.needed faultless),
+        )
     closes (Err (ByCause Memory)) c =
         let passed = ap (λ (x : Tally). x.passed) h.through.tally_is in
         record {
@@ -101,7 +106,7 @@ module _ {R A S : Type 0} {takes : S → S → List Placed → (told : List ℕ)
         placed = h.placed;
         wanted = h.wanted;
         enough = enough_after s2 (h.told ++ due) came (laws.still s1 s2 due c.0 ∙ h.enough);
-        reads = elim h.needed [ inl none ↦ inl (inl none) | inr (before, between, came, last, more) ↦ inr (length before, more, inr (before, between, came, last, omega arith)) ];
+        reads = reads_only (Reads run new) (WantMore run.settings.limits 0 h.parts) h.needed;
         read_failed = h.failed;
         came = came;
         end_is = c.1 ∙ ap (λ (x : Tally). status_at x.passed None) h.tally_is;

@@ -19,7 +19,7 @@ use Rattle.dbus_stream.proofs.FaultPackets.{partial_take, shows_last}
 use Rattle.dbus_stream.proofs.NextSteps.{both_ways}
 use Rattle.cli_options.specs.Limiting.{ask_more}
 use Rattle.cli_options.specs.declared.settings.Settings.{Settings}
-use Rattle.cli_report.specs.Devices.{Taken, reading, taken}
+use Rattle.cli_report.specs.Devices.{Reading, Taken, reading, taken}
 use Rattle.cli_report.specs.Telling.{line_of}
 use Rattle.cli_report.specs.declared.telling.RefusedMessage.{RefusedMessage}
 use Rattle.cli_report.specs.declared.ending.Cause.{Cause}
@@ -30,6 +30,7 @@ use Rattle.dbus_count.specs.declared.form.Form.{Form}
 use Rattle.cli_run.specs.ByName.{CountsState, EndsCounts, MakesCounts, Tallies, after_messages, counting, first_counts, span_of, times_of}
 use Rattle.cli_run.specs.Going.{Covers, IsMore, IsStopOf, IsToldIn, IsToldLast}
 use Rattle.cli_run.specs.Onward.{HasPacketsIf, HasRead, HandsAllOn, HandsOn, HandsSomeOn}
+use Rattle.cli_run.specs.Needed.{IsReadFor, IsUnshown, ReadsToSee}
 use Rattle.cli_run.specs.Refusals.{IsFaultIn, IsRefusedIn, number_of}
 use Rattle.cli_run.specs.Inputs.{Placed, looked_in, sizes_of, wholes}
 use Rattle.cli_run.specs.Output.{fault_line}
@@ -96,8 +97,11 @@ told_last packets settings n offset kept (Some fault) packet in_words explains h
 -- of a new reader, which keeps nothing
 module _ {R : Type 0} (left : R → Option (List ℕ)) (calls failures : R → ℕ) (packets : R → Option Packets) (packet : R → Option Packet) (old new : CheckReader R)
     (is : IsNewReader lengths (source_of old) (most_reads_of old) (limits_of old) old) (known : HasPacketsIf packets packet new (packets (source_of old))) (settings : Settings) (no_more : ask_more settings ≡ false) where
+  abbrev Own : Reading R
+  Own = reading left calls failures packets (source_of old) (source_of new)
+
   abbrev Took : Taken
-  Took = taken (reading left calls failures packets (source_of old) (source_of new))
+  Took = taken Own
 
   -- the packet of the bytes that were read last
   abbrev packet_last : Option ℕ
@@ -129,7 +133,7 @@ module _ {R : Type 0} (left : R → Option (List ℕ)) (calls failures : R → �
   HandsSome cause = HandsSomeOn lengths left calls settings.limits [] failures counts gives_up never_full 0 none_known cause old new tt tt
 
   some_tallied : (cause : Cause) (s : HandsSome cause) → ((messages : List Placed) → IsMore Took settings (most_reads_of old) true WantsAll (ByCause cause) (wholes s.items) s.rest messages []) → IsStopOf Took (most_reads_of old) (ByCause cause)
-      → Tallies Took settings (most_reads_of old) packet_last (Err cause)
+      → Tallies Own settings (most_reads_of old) packet_last (Err cause)
   some_tallied cause s all caused =
       let some = some_placed Took.packets 1 0 (wholes s.items) in
       record {
@@ -147,27 +151,40 @@ module _ {R : Type 0} (left : R → Option (List ℕ)) (calls failures : R → �
         came = (s.given_up, refl);
       }
 
-  tallies : (res : Result Counted Cause) → HandsOn lengths left calls settings.limits [] failures counts gives_up never_full 0 none_known old new tt tt res → Tallies Took settings (most_reads_of old) packet_last res
+  -- a read was made only if what had come of the rest shows no fault
+  seen : (counted : Counted) (a : HandsAllOn lengths left calls settings.limits [] failures counts gives_up never_full 0 none_known counted old new tt tt) → ReadsToSee settings counted.fault (wholes a.items) a.rest (IsReadFor Own)
+  seen counted a = λ _. elim a.needed [
+    | inl none ↦ inl (inl none)
+    | inr (before, between, came, last, unshown) ↦ (
+        let bare : 0 + length before ≡ length before = omega arith in
+        let there = transport (λ i. IsUnshown settings.limits (sym (sizes-wholes a.items) i) a.rest (bare i)) unshown in
+        inr (length before, inr there, inr (before, between, came, last, omega arith))
+        )
+  ]
+
+  tallies : (res : Result Counted Cause) → HandsOn lengths left calls settings.limits [] failures counts gives_up never_full 0 none_known old new tt tt res → Tallies Own settings (most_reads_of old) packet_last res
   tallies (Ok counted) a =
       let size : counted.size ≡ sizes a.items = omega (arith, a.size_is, is.done) in
-      let told = told_last (packets (source_of old)) settings (length (wholes a.items) + 1) counted.size a.rest counted.fault packet_last plain_told.0.0 plain_told.0.1 plain_told.1 (fault_there counted a) in
-      record {
-        parts = wholes a.items;
-        rest = a.rest;
-        covers = covers a.items a.rest a.read;
-        cut = None;
-        tally_is = wholes_tally [] a.items counted.count counted.size _ refl (omega (arith, a.count_is)) (omega (arith, size));
-        kept = a.rest;
-        tells = record {
-          outcome = a.outcome;
-          outcome_is = a.outcome_is;
-          fault_is = a.fault_is;
-          told = subst (λ n. IsToldLast (packets (source_of old)) settings (length (wholes a.items) + 1) n a.rest counted.fault (fault_line counted.size counted.fault packet_last)) (size ∙ sym (sizes-wholes a.items)) told;
-        };
-        last = is_last (packets (source_of old)) settings settings.limits (sizes_of (wholes a.items)) (looked_in (wholes a.items)) a.rest a.outcome (IsAtEnd (left (source_of new))) plain_told.1
-            (λ none. a.read.at_end (λ e. absurd (both_ways _ e is.ended)) (a.ended none));
-        read_failed = a.failed;
-      }
+      let told = told_last (packets (source_of old)) settings (length (wholes a.items) + 1) counted.size a.rest counted.fault packet_last plain_told.0.0 plain_told.0.1 plain_told.1 (fault_there counted a) in (
+        record {
+          parts = wholes a.items;
+          rest = a.rest;
+          covers = covers a.items a.rest a.read;
+          cut = None;
+          tally_is = wholes_tally [] a.items counted.count counted.size _ refl (omega (arith, a.count_is)) (omega (arith, size));
+          kept = a.rest;
+          tells = record {
+            outcome = a.outcome;
+            outcome_is = a.outcome_is;
+            fault_is = a.fault_is;
+            told = subst (λ n. IsToldLast (packets (source_of old)) settings (length (wholes a.items) + 1) n a.rest counted.fault (fault_line counted.size counted.fault packet_last)) (size ∙ sym (sizes-wholes a.items)) told;
+          };
+          last = is_last (packets (source_of old)) settings settings.limits (sizes_of (wholes a.items)) (looked_in (wholes a.items)) a.rest a.outcome (IsAtEnd (left (source_of new))) plain_told.1
+              (λ none. a.read.at_end (λ e. absurd (both_ways _ e is.ended)) (a.ended none));
+          read_failed = a.failed;
+        },
+        seen counted a,
+      )
   tallies (Err Memory) s = some_tallied Memory s (λ _. inl refl) s.caused
   tallies (Err ReadFailed) s = some_tallied ReadFailed s (λ _. inl (s.all, refl)) s.caused
   tallies (Err WriteFailed) s = absurd s.given_up
@@ -176,7 +193,7 @@ module _ {R : Type 0} (left : R → Option (List ℕ)) (calls failures : R → �
       some_tallied TooManyReads s (λ _. inl (s.all, refl)) (s.caused.0, subst (λ n. RisesBy n Took.calls0 Took.calls1) all s.read.called)
 
   pub tallied : settings.limits ≡ limits_of old → (res : Result Counted Cause) → HandsOn lengths left calls (limits_of old) [] failures counts gives_up never_full 0 none_known old new tt tt res
-      → Tallies Took settings (most_reads_of old) packet_last res
+      → Tallies Own settings (most_reads_of old) packet_last res
   tallied same res h = tallies res (subst (λ (l : Limits). HandsOn lengths left calls l [] failures counts gives_up never_full 0 none_known old new tt tt res) (sym same) h)
 
 -- What is made of a message, and how a run ends, if messages are counted by their names.

@@ -14,12 +14,14 @@ use Rattle.cli_report.specs.declared.ending.ExitStatus.TheVariants as status
 use Rattle.cli_run.specs.Going.{Goes, GoesFar, GoesThrough, IsMore, StopsWithin}
 use Rattle.cli_run.specs.Inputs.{ArePlaced, Part, Placed}
 use Rattle.cli_run.specs.Making.{RunsBy}
+use Rattle.cli_run.specs.Needed.{ReadsToSee, WantMore, WantToSee}
 use Rattle.cli_run.specs.OutputWriting.{LeavesFirst}
 use Rattle.cli_run.specs.Told.{GotFirst, IsUnwritten}
 use Rattle.cli_run.specs.Visiting.{WantsAll}
 use Rattle.cli_run.specs.VisitorLaws.{first_nothing, told_nothing, wrote_nothing}
 use Rattle.cli_run.specs.declared.visitor.RunStop.{RunStop}
 use Rattle.cli_run.specs.declared.visitor.RunStop.TheVariants.{Cause as ByCause, Untold}
+use Rattle.cli_run.proofs.NeededSteps.{reads_as}
 use Rattle.cli_run.proofs.Wanted.{wanted_as}
 
 -- what more follows a stop is said otherwise
@@ -32,7 +34,7 @@ more_as t settings most is_check to (ByCause TooManyReads) parts rest messages m
 more_as t settings most is_check to Untold parts rest messages more a = elim a [ inl due ↦ inl due | inr enough ↦ inr (enough.0, to messages true enough.1, enough.2) ]
 
 -- what became of it is said otherwise
-pub goes_as : {t : Taken} {settings : Settings} {most : ℕ} {is_check : Bool} {F G : List Placed → Bool → Type 0} {P Q : List Placed → (told : List ℕ) → Type 0} {end : ExitStatus} → ((l : List Placed) (b : Bool) → F l b → G l b)
+abbrev pub goes_as : {t : Taken} {settings : Settings} {most : ℕ} {is_check : Bool} {F G : List Placed → Bool → Type 0} {P Q : List Placed → (told : List ℕ) → Type 0} {end : ExitStatus} → ((l : List Placed) (b : Bool) → F l b → G l b)
     → ((parts : List Part) (items : List Placed) (told : List ℕ) → ArePlaced t.packets 1 0 parts items → P items told → Q items told) → GoesThrough t settings most is_check F P end → GoesThrough t settings most is_check G Q end
 goes_as to f g = record {
   tally = g.tally;
@@ -50,7 +52,7 @@ goes_as to f g = record {
 
 far_as : {t : Taken} {settings : Settings} {most : ℕ} {is_check : Bool} {F G : List Placed → Bool → Type 0} {N M : (size : ℕ) → Type 0} {P Q : List Placed → (told : List ℕ) → Type 0} {end : ExitStatus} → ((l : List Placed) (b : Bool) → F l b → G l b) → ((size : ℕ) → N size → M size)
     → ((parts : List Part) (items : List Placed) (told : List ℕ) → ArePlaced t.packets 1 0 parts items → P items told → Q items told) → GoesFar t settings most is_check F N P end → GoesFar t settings most is_check G M Q end
-far_as to reads f g = record {
+far_as {t} {settings} to reads f g = record {
   parts = g.parts;
   rest = g.rest;
   told = g.told;
@@ -60,7 +62,7 @@ far_as to reads f g = record {
   placed = g.placed;
   wanted = wanted_as to [] g.messages g.wanted;
   enough = (g.enough.0, to g.messages true g.enough.1, g.enough.2);
-  reads = elim g.reads [ inl none ↦ inl (reads 0 none) | inr (came, more, some) ↦ inr (came, more, reads (came + 1) some) ];
+  reads = reads_as (WantMore settings.limits 0 g.parts) reads g.reads;
   read_failed = g.read_failed;
   came = f g.parts g.messages _ g.placed g.came;
   end_is = g.end_is;
@@ -68,7 +70,10 @@ far_as to reads f g = record {
 
 pub ends_as : {t : Taken} {settings : Settings} {most : ℕ} {is_check : Bool} {F G : List Placed → Bool → Type 0} {N M : (size : ℕ) → Type 0} {P Q : List Placed → (told : List ℕ) → Type 0} {end : ExitStatus} → ((l : List Placed) (b : Bool) → F l b → G l b) → ((size : ℕ) → N size → M size)
     → ((parts : List Part) (items : List Placed) (told : List ℕ) → ArePlaced t.packets 1 0 parts items → P items told → Q items told) → Goes t settings most is_check F N P end → Goes t settings most is_check G M Q end
-ends_as to reads f g = elim g [ inl through ↦ inl (goes_as to f through) | inr far ↦ inr (far_as to reads f far) ]
+ends_as {t} {settings} to reads f g = elim g [
+  | inl (through, seen) ↦ inl (goes_as to f through, λ faultless. reads_as (WantToSee settings.limits through.through.parts through.through.kept) reads (seen faultless))
+  | inr far ↦ inr (far_as to reads f far)
+]
 
 pub stops_as : {t : Taken} {settings : Settings} {most : ℕ} {is_check : Bool} {F G : List Placed → Bool → Type 0} {P Q : List Placed → (told : List ℕ) → RunStop → Type 0} {stop : RunStop} → ((l : List Placed) (b : Bool) → F l b → G l b)
     → ((parts : List Part) (items : List Placed) (told : List ℕ) → ArePlaced t.packets 1 0 parts items → P items told stop → Q items told stop) → StopsWithin t settings most is_check F P stop → StopsWithin t settings most is_check G Q stop
@@ -90,11 +95,11 @@ stops_as {t} {settings} {most} {is_check} {F} {G} {P} {Q} {stop} to f s = record
 -- what became of it, however far it went
 pub taken_by : {t : Taken} {settings : Settings} {most : ℕ} {is_check : Bool} {F : List Placed → Bool → Type 0} {N : (size : ℕ) → Type 0} {P : List Placed → (told : List ℕ) → Type 0} {end : ExitStatus} → Goes t settings most is_check F N P end
     → (items : List Placed) × (told : List ℕ) × P items told
-taken_by g = elim g [ inl through ↦ (through.messages, _, through.came) | inr far ↦ (far.messages, _, far.came) ]
+taken_by g = elim g [ inl (through, seen) ↦ (through.messages, _, through.came) | inr far ↦ (far.messages, _, far.came) ]
 
 -- it went through, if it wants all messages
 pub through_by : {t : Taken} {settings : Settings} {most : ℕ} {is_check : Bool} {F : List Placed → Bool → Type 0} {N : (size : ℕ) → Type 0} {P : List Placed → (told : List ℕ) → Type 0} {end : ExitStatus} → ((l : List Placed) (b : Bool) → F l b → WantsAll l b)
-    → Goes t settings most is_check F N P end → GoesThrough t settings most is_check F P end
+    → Goes t settings most is_check F N P end → (g : GoesThrough t settings most is_check F P end) × ReadsToSee settings g.fault g.through.parts g.through.kept N
 through_by all g = elim g [ inl through ↦ through | inr far ↦ absurd (false≢true (sym (all far.messages true far.enough.1))) ]
 
 -- what the first writer got, if nothing was gathered before

@@ -100,6 +100,7 @@ module _ {R A S : Type 0} {takes : S → S → List Placed → (told : List ℕ)
         wanted = g.wanted;
         unfilled = h.unfilled;
         came = subst (λ (l : List ℕ). takes run.s0 s1 items l) (sym (append-nil g.told)) g.came;
+        needed = λ _. g.needed;
       }
 
   -- ---- the fault is told
@@ -713,6 +714,7 @@ module _ {R A S : Type 0} {takes : S → S → List Placed → (told : List ℕ)
         wanted = h.gone.wanted;
         unfilled = still_open;
         came = came_told;
+        needed = λ _. h.gone.needed;
       }
 
       module _ (new : RawReader R A) (known : HasKnownPackets run.packets run.packet mid (packets_of run)) where
@@ -755,6 +757,7 @@ module _ {R A S : Type 0} {takes : S → S → List Placed → (told : List ℕ)
               wanted = h.gone.wanted;
               unfilled = still_open;
               came = came_told;
+              needed = λ faultless. absurd (let none = faultless goes in cc);
             }
 
         -- it states no size
@@ -796,9 +799,9 @@ module _ {R A S : Type 0} {takes : S → S → List Placed → (told : List ℕ)
                   (refused_by None c.1, nowhere, c.4 (subst (λ (f : Fault). is_truncated f.reason ≡ false) (sym same) whole)),
             )
 
-        stays_by : (o : HasOnward new (Ok Not)) (outcome : CutOutcome) → IsOutcome run.settings.limits (kept mid) outcome → Some fault ≡ fault_at_end (kept mid) outcome
+        stays_by : (goes : run.settings.keeps_going ≡ true) (o : HasOnward new (Ok Not)) (outcome : CutOutcome) → IsOutcome run.settings.limits (kept mid) outcome → Some fault ≡ fault_at_end (kept mid) outcome
             → IsLast (packets_of run) None run.settings run.settings.limits (sizes_of h.gone.parts) (looked_in h.gone.parts) (kept mid) o.rest outcome (IsAtEnd (run.left (source_of new))) → run.failures (source_of new) ≡ run.failures (source_of mid) → HasEnded run takes full new tally (Some fault) s2
-        stays_by o outcome outcome_is fault_is last same = record {
+        stays_by goes o outcome outcome_is fault_is last same = record {
           told = h.gone.told;
           text = text;
           through = through new None tally text o.rest outcome h.gone.tally_is told outcome_is fault_is (short_covered (Ok Not) o) last same;
@@ -807,12 +810,13 @@ module _ {R A S : Type 0} {takes : S → S → List Placed → (told : List ℕ)
           wanted = h.gone.wanted;
           unfilled = still_open;
           came = came_told;
+          needed = λ faultless. absurd (let none = faultless goes in cc);
         }
 
         stays_after : (goes : run.settings.keeps_going ≡ true) → HasOnward new (Ok Not) → run.failures (source_of new) ≡ run.failures (source_of mid) → HasEnded run takes full new tally (Some fault) s2
         stays_after goes o same = elim o.came_to [
-          | inl unsized ↦ stays_by o (Refused fault) unsized.0 refl (last_unsized goes o unsized) same
-          | inr lost ↦ stays_by o h.outcome h.outcome_is fault_last (last_lost o lost h.outcome fault_last h.ended goes) same
+          | inl unsized ↦ stays_by goes o (Refused fault) unsized.0 refl (last_unsized goes o unsized) same
+          | inr lost ↦ stays_by goes o h.outcome h.outcome_is fault_last (last_lost o lost h.outcome fault_last h.ended goes) same
         ]
 
         pub stays : run.settings.keeps_going ≡ true → PassedBy new (Ok Not) → IsInput new (Ok Not) → run.failures (source_of new) ≡ run.failures (source_of mid) → HasEnded run takes full new tally (Some fault) s2
@@ -827,6 +831,7 @@ module _ {R A S : Type 0} {takes : S → S → List Placed → (told : List ℕ)
             wanted = h.gone.wanted;
             unfilled = still_open;
             came = came_told;
+            needed = λ _. h.gone.needed;
           })
         ]
 

@@ -24,7 +24,7 @@ use Rattle.cli_options.specs.declared.settings.Settings.{Settings}
 use Rattle.cli_report.specs.Devices.{Reading, reading, taken, Taken}
 use Rattle.cli_run.specs.Going.{Covers, EndsWhole, IsMore, IsStopOf, IsThrough, StopsWithin, AreTold, passed_count, passed_sizes, tally_of}
 use Rattle.cli_run.specs.Inputs.{ArePlaced, BeginWithParts, Part, Placed, Whole, looked_in, reach_end, sizes_of, wholes}
-use Rattle.cli_run.specs.Needed.{IsUnshown, ReadsIf, WantMore}
+use Rattle.cli_run.specs.Needed.{IsUnshown, ReadsIf, WantMore, WantToSee}
 use Rattle.cli_run.specs.Onward.{HasKnownPackets, HasRead, HandsEnough, HandsRawOn, HandsSomeOn, IsTrueEnd, RawHandsOn, stop_of}
 use Rattle.cli_run.specs.Refusals.{IsRefusedIn, number_of}
 use Rattle.cli_run.specs.Visiting.{AddsUp, AreWanted, FillsBy, IsOfReading}
@@ -185,7 +185,7 @@ module _ {R A S : Type 0} (run : Begun R A S) where
   Unshown parts rest came = IsUnshown run.settings.limits (sizes_of parts) rest came
 
   abbrev pub MoreWanted : RawReader R A → List Part → (came : ℕ) → Type 0
-  MoreWanted new parts came = Wants parts came ⊎ Unshown parts (kept new) came
+  MoreWanted new parts came = WantToSee run.settings.limits parts (kept new) came
 
   module _ (takes : S → S → List Placed → (told : List ℕ) → Type 0) (full : S → Bool) where
     -- these messages were wanted, of the run
@@ -260,6 +260,7 @@ module _ {R A S : Type 0} (run : Begun R A S) where
       pub wanted : AreWanted Fills [] messages
       pub unfilled : full s ≡ false
       pub came : takes run.s0 s messages (told ++ text)
+      pub needed : (run.settings.keeps_going ≡ true → fault ≡ None) → ReadsFor (WantToSee run.settings.limits through.parts through.kept) run.old new
 
     -- or no more is wanted after the parts
     pub record HasEnough (new : RawReader R A) (tally : Tally) (s : S) : Type 0 where

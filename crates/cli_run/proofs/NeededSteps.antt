@@ -26,8 +26,9 @@ use Rattle.dbus_stream.specs.declared.buffer.Buffer.{Ghosts}
 use Rattle.dbus_stream.specs.declared.raw_reader.RawReader.{RawReader}
 use Rattle.dbus_stream.specs.declared.reader.Reader.{Reader}
 use Rattle.dbus_stream.proofs.SizeSteps.{one_size, size_some}
+use Rattle.cli_report.specs.Devices.{Reading}
 use Rattle.cli_run.specs.Inputs.{By, Part, PassedOver, Whole, sizes_of}
-use Rattle.cli_run.specs.Needed.{IsUnshown, ReadsIf, WantMore, ahead_by}
+use Rattle.cli_run.specs.Needed.{IsReadFor, IsUnshown, ReadsIf, ReadsOnlyIf, WantMore, ahead_by}
 
 -- a message has more bytes than the first ones that are no message yet
 pub whole_past : (limits : Limits) (held piece : List ℕ) (order : Order) (m : MessageTree)
@@ -74,6 +75,23 @@ module _ {R : Type 0} (left : R → Option (List ℕ)) (calls : R → ℕ) (Firs
         subst Holds (sym (length-append bytes before)) (g (length before) holds),
       )
     ]
+
+-- as a clause says it
+pub reads_only : {R : Type 0} (r : Reading R) (Wants : ℕ → Type 0)
+    → ReadsIf r.left r.calls Wants r.old r.new → ReadsOnlyIf Wants (IsReadFor r)
+reads_only r Wants reads = elim reads [
+  | inl none ↦ inl (inl none)
+  | inr (before, between, came, last, wants) ↦
+      inr (length before, wants, inr (before, between, came, last, omega arith))
+]
+
+-- of a source that stands where this one does
+pub reads_as : {N M : (size : ℕ) → Type 0} (Wants : ℕ → Type 0) → ((size : ℕ) → N size → M size)
+    → ReadsOnlyIf Wants N → ReadsOnlyIf Wants M
+reads_as Wants to reads = elim reads [
+  | inl none ↦ inl (to 0 none)
+  | inr (came, wants, some) ↦ inr (came, wants, to (came + 1) some)
+]
 
 -- those of one call
 module _ {R T B A G : Type 0} {b : Ghosts B} (k : Taking T G) (Needed : List ℕ → Type 0)

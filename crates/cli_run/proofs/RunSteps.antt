@@ -430,7 +430,7 @@ plainly r w e settings no_more most command end runs =
     let by_limits = subst (λ (s : Settings). RunsWith r w e s most command end) (plain_is settings settings.as_json settings.explains settings.keeps_going settings.window.skip settings.window.limit no_more) runs in
     elim by_limits [
       | inl goes ↦ elim goes [
-        | inl g ↦ ran r w e settings most command end g
+        | inl g ↦ ran r w e settings most command end g.0
         | inr far ↦ absurd (never_filled settings command far.messages far.enough.1)
       ]
       | inr g ↦ stopped r w e settings most command g.before g.stop end g.within g.failed g.tells

@@ -304,9 +304,9 @@ module _ (settings : Settings) (is_check : Bool) (input : List ℕ) (bytes : IsB
         (elim alike [ inl packets ↦ inl (packets.0, packets.2, packets.1) | inr done ↦ inr (inr (none_refused (passed_count g.parts) None (sym g.end_is ∙ done)).0) ])
 
     ends_alike : {N M : (size : ℕ) → Type 0} (g : Goes t settings most is_check F N P end) (h : Goes u settings more is_check G M Q other) → TellAlike settings end (shown_of g) (shown_of h) → AreAlikeRuns t u P Q end other
-    ends_alike (inl through) (inl too) explains = goes_alike through too explains known known_too alike
-    ends_alike (inl through) (inr far) explains = absurd (far_not through far)
-    ends_alike (inr far) (inl too) explains = absurd (not_far far too)
+    ends_alike (inl through) (inl too) explains = goes_alike through.0 too.0 explains known known_too alike
+    ends_alike (inl through) (inr far) explains = absurd (far_not through.0 far)
+    ends_alike (inr far) (inl too) explains = absurd (not_far far too.0)
     ends_alike (inr far) (inr far_too) explains = far_alike far far_too explains
 
 -- ---- the laws

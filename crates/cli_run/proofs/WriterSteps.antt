@@ -22,7 +22,7 @@ use Rattle.cli_report.specs.declared.page.Page.{Page}
 use Rattle.cli_run.specs.Going.{Goes, GoesThrough, StopsWithin}
 use Rattle.cli_run.specs.Inputs.{ArePlaced, Part, Placed}
 use Rattle.cli_run.specs.Making.{EndsAfterAll, EndsSo, FillsFrom, GathersLast, LeavesMade, WritesLast, WritesMade}
-use Rattle.cli_run.specs.Needed.{IsReadFor}
+use Rattle.cli_run.specs.Needed.{IsReadFor, ReadsToSee, WantToSee}
 use Rattle.cli_run.specs.OutputWriting.{GathersNone, GathersOne, LeavesFirst, LeavesWritten, WritesAll}
 use Rattle.cli_run.specs.Told.{GotFirst, GotSecond, IsUnwritten, first_of, second_of}
 use Rattle.cli_run.specs.Visiting.{FillsBy, LetsGo, TakesOne, TellsOne, WantsAll}
@@ -31,6 +31,7 @@ use Rattle.cli_run.specs.declared.output_writer.OutputWriter.{OutputWriter}
 use Rattle.cli_run.specs.declared.visitor.RunStop.{RunStop}
 use Rattle.cli_run.specs.declared.visitor.RunStop.TheVariants.{Cause as ByCause, Untold}
 use Rattle.cli_run.proofs.EndSteps.{ends_as, goes_as, got_first, got_nothing, stops_as, through_by}
+use Rattle.cli_run.proofs.NeededSteps.{reads_as}
 
 -- what the first writer gets of a text: all of it, since what makes none has none
 first_made : (silent : Bool) (text : List ℕ) → (silent ≡ true → text ≡ []) → text ≡ first_of silent text []
@@ -273,18 +274,15 @@ module _ {C S W E : Type 0} (stands : C → S → Type 0) (makes : S → List Pl
   module _ (full : C → Bool) (s : S) (there : stands a.renderer s) (none : gathered_bytes a.gathered ≡ []) {w2 : W} {e2 : E} (first : b.first.now ≡ w2) (second : b.second.now ≡ e2) (loud : silent a.renderer ≡ false) (wants : (c : C) → full c ≡ false) where
     pub to_end : {R : Type 0} (left_in : R → Option (List ℕ)) (calls read_failures : R → ℕ) (packets : R → Option Packets) (settings : Settings) (most : ℕ) (r0 r1 : R) {r2 : R} (source : r1 ≡ r2)
         (comes : (parts : List Part) (items : List Placed) → ArePlaced (packets r0) 1 0 parts items → follows s items) (ends : S → (text note : List ℕ) → Type 0) → gathered_bytes b.gathered ≡ [] → (w3 : W) (e3 : E) (res : Result (String Global) Cause) (due end : ExitStatus)
-        → ((t : S) → stands b.renderer t → WritesLast ends t (writing held failures w2 w3) res) → EndsSo (writing second_held second_failures e2 e3) due end res → {N : (size : ℕ) → Type 0}
+        → ((t : S) → stands b.renderer t → WritesLast ends t (writing held failures w2 w3) res) → EndsSo (writing second_held second_failures e2 e3) due end res → {N : (size : ℕ) → Type 0} → ((size : ℕ) → N size → IsReadFor (reading left_in calls read_failures packets r0 r1) size)
         → Goes (taken (reading left_in calls read_failures packets r0 r1)) settings most false (FillsBy Takes (λ x. full x.renderer) a) N (Takes a b) due
         → EndsAfterAll makes s ends (reading left_in calls read_failures packets r0 r2) (writing held failures a.first.now w3) (writing second_held second_failures a.second.now e3) settings most end
-    to_end left_in calls read_failures packets settings most r0 r1 source comes ends last w3 e3 res due end wrote told g =
+    to_end left_in calls read_failures packets settings most r0 r1 source comes ends last w3 e3 res due end wrote told reads g =
         let all : (l : List Placed) (b : Bool) → FillsBy Takes (λ x. full x.renderer) a l b → WantsAll l b = λ l b h. sym h.3 ∙ wants h.0.renderer in
-        record {
-          due = due;
-          middle = w2;
-          before = e2;
-          last = res;
-          through = subst (λ (r : _). GoesThrough (taken (reading left_in calls read_failures packets r0 r)) settings most false WantsAll
-              (λ items said. (h : WritesMade makes s false (writing held failures a.first.now w2) (writing second_held second_failures a.second.now e2) items said) × WritesLast ends h.then (writing held failures w2 w3) res) due) source
-              (goes_as all (λ parts items said placed h. let d = done_by s there none first second loud last items said (comes parts items placed) h in (d.0, wrote d.0.then d.1)) (through_by all g));
-          ends_so = told;
-        }
+        let both = through_by all g in
+        let done = goes_as all (λ parts items said placed h. let d = done_by s there none first second loud last items said (comes parts items placed) h in (d.0, wrote d.0.then d.1)) both.0 in
+        let through = subst (λ (r : _). (g : GoesThrough (taken (reading left_in calls read_failures packets r0 r)) settings most false WantsAll
+        (λ items said. (h : WritesMade makes s false (writing held failures a.first.now w2) (writing second_held second_failures a.second.now e2) items said) × WritesLast ends h.then (writing held failures w2 w3) res) due)
+        × ReadsToSee settings g.fault g.through.parts g.through.kept (IsReadFor (reading left_in calls read_failures packets r0 r))) source
+        (done, λ faultless. reads_as (WantToSee settings.limits both.0.through.parts both.0.through.kept) reads (both.1 faultless)) in
+        record { due = due; middle = w2; before = e2; last = res; through = through.0; reads = through.1; ends_so = told }

@@ -9,7 +9,7 @@ use Rattle.dbus_count.specs.declared.count.Count.{Count}
 use Rattle.dbus_count.specs.declared.form.Form.{Form}
 use Rattle.dbus_count.specs.declared.span.Span.{Span}
 use Rattle.cli_options.specs.declared.settings.Settings.{Settings}
-use Rattle.cli_report.specs.Devices.{Reading, Writing, Taken}
+use Rattle.cli_report.specs.Devices.{Reading, Writing, taken}
 use Rattle.cli_report.specs.declared.ending.Cause.{Cause}
 use Rattle.cli_report.specs.declared.ending.Cause.TheVariants.{Memory, WriteFailed, ReadFailed, TooManyReads}
 use Rattle.cli_report.specs.declared.ending.ExitStatus.{ExitStatus}
@@ -18,6 +18,7 @@ use Rattle.dbus_stream.specs.declared.read_fault.ReadFault.TheVariants as read
 use Rattle.cli_run.specs.Going.{IsThrough, StopsWithin}
 use Rattle.cli_run.specs.Inputs.{Placed}
 use Rattle.cli_run.specs.Making.{RunsToEnd}
+use Rattle.cli_run.specs.Needed.{IsReadFor, ReadsToSee}
 use Rattle.cli_run.specs.Told.{IsUnwritten}
 use Rattle.cli_run.specs.Visiting.{WantsAll}
 use Rattle.cli_run.specs.declared.by_name.CountRenderer.{CountRenderer}
@@ -93,7 +94,8 @@ stopped_by count size Enough = Ok (record { count = count; size = size; fault = 
 -- by settings that ask for no more all messages were counted, up to the end of the input or a
 -- fault, and the line of the fault is due, with this packet; or reading was given up. most is how
 -- many reads may be made
-abbrev pub Tallies : Taken → Settings → (most : ℕ) → (packet : Option ℕ) → Result Counted Cause → Type 0
-Tallies t settings most packet (Ok counted) =
-    IsThrough t settings most true (record { count = counted.count; size = counted.size; passed = 0; passed_size = 0; is_cut = false }) counted.fault [] (fault_line counted.size counted.fault packet)
-Tallies t settings most packet (Err cause) = StopsWithin t settings most true WantsAll (λ items told stop. IsUnwritten stop × (told ≡ [])) (ByCause cause)
+abbrev pub Tallies : {R : Type 0} → Reading R → Settings → (most : ℕ) → (packet : Option ℕ) → Result Counted Cause → Type 0
+Tallies r settings most packet (Ok counted) =
+    (t : IsThrough (taken r) settings most true (record { count = counted.count; size = counted.size; passed = 0; passed_size = 0; is_cut = false }) counted.fault [] (fault_line counted.size counted.fault packet))
+    × ReadsToSee settings counted.fault t.parts t.kept (IsReadFor r)
+Tallies r settings most packet (Err cause) = StopsWithin (taken r) settings most true WantsAll (λ items told stop. IsUnwritten stop × (told ≡ [])) (ByCause cause)

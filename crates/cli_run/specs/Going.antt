@@ -25,7 +25,7 @@ use Rattle.cli_report.specs.declared.ending.Cause.TheVariants.{Memory, ReadFaile
 use Rattle.cli_run.specs.Inputs.{Part, Whole, PassedOver, size_of, sizes_of, reach_end, BeginWithParts, IsCutOff, IsLast, IsPassedBy, IsTellable, ArePlaced, Placed, looked_after, looked_in, seek_of}
 use Rattle.cli_run.specs.Output.{ok_line, status_of}
 use Rattle.cli_run.specs.declared.tally.Tally.{Tally}
-use Rattle.cli_run.specs.Needed.{IsReadFor, WantMore}
+use Rattle.cli_run.specs.Needed.{IsReadFor, ReadsOnlyIf, ReadsToSee, WantMore}
 use Rattle.cli_run.specs.Refusals.{IsRefusedIn}
 use Rattle.cli_run.specs.Told.{TellsStop}
 use Rattle.cli_run.specs.Visiting.{AreWanted, FillsBy, IsOfReading}
@@ -280,7 +280,7 @@ module _ (t : Taken) (settings : Settings) (most : ℕ) (is_check : Bool) (fille
     pub wanted : AreWanted filled [] messages
     pub enough : IsEnough parts messages line
     -- a read was made only if more bytes than had come were wanted for them
-    pub reads : needed 0 ⊎ ((came : ℕ) × WantMore settings.limits 0 parts came × needed (came + 1))
+    pub reads : ReadsOnlyIf (WantMore settings.limits 0 parts) needed
     pub read_failed : t.failures1 ≡ t.failures0
     pub came : done messages (told ++ line)
     pub end_is : end ≡ status_at (passed_count parts) None
@@ -293,9 +293,9 @@ module _ (t : Taken) (settings : Settings) (most : ℕ) (is_check : Bool) (fille
     pub within : StopsWithin (left before) stop
     pub tells : TellsStop e.held e.failures is_check stop before e.new
 
-  -- all was taken and told, or as much as was wanted
+  -- all was taken and told, and no more was read to see that; or as much as was wanted
   abbrev pub Goes : (needed : (size : ℕ) → Type 0) → (done : List Placed → (told : List ℕ) → Type 0) → (end : ExitStatus) → Type 0
-  Goes needed done end = GoesThrough done end ⊎ GoesFar needed done end
+  Goes needed done end = ((g : GoesThrough done end) × ReadsToSee settings g.fault g.through.parts g.through.kept needed) ⊎ GoesFar needed done end
 
 module _ {R : Type 0} (r : Reading R) (settings : Settings) (most : ℕ) (is_check : Bool) {S : Type 0} (takes : S → S → List Placed → (told : List ℕ) → Type 0) (leaves : S → S → List Placed → (told : List ℕ) → RunStop → Type 0)
     (full : S → Bool) (s0 s1 : S) where

@@ -13,7 +13,7 @@ use Rattle.cli_report.specs.declared.ending.ExitStatus.{ExitStatus}
 use Rattle.cli_report.specs.declared.ending.ExitStatus.TheVariants as status
 use Rattle.cli_run.specs.Going.{GivesUp, Goes, GoesThrough}
 use Rattle.cli_run.specs.Inputs.{Placed}
-use Rattle.cli_run.specs.Needed.{IsReadFor}
+use Rattle.cli_run.specs.Needed.{IsReadFor, ReadsToSee}
 use Rattle.cli_run.specs.Told.{GotFirst, GotSecond, IsUnwritten, first_of, second_of}
 use Rattle.cli_run.specs.Visiting.{WantsAll}
 use Rattle.cli_run.specs.declared.visitor.RunStop.{RunStop}
@@ -85,6 +85,7 @@ module _ {S : Type 0} (makes : S → List Placed → List ℕ → S → Type 0) 
     pub last : Result (String Global) Cause
     pub through : GoesThrough (taken r) settings most false WantsAll
         (λ items told. (made : WritesMade false (writing w.held w.failures w.old middle) (writing e.held e.failures e.old before) items told) × WritesLast ends made.then (writing w.held w.failures middle w.new) last) due
+    pub reads : ReadsToSee settings through.fault through.through.parts through.through.kept (IsReadFor r)
     pub ends_so : EndsSo (writing e.held e.failures before e.new) due end last
 
   -- that, or it was given up

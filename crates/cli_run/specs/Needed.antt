@@ -1,12 +1,14 @@
 -- Whether a source was read no further than was needed.
-use Rattle.std.specs.Prelude.{◌⊎◌, ◌+◌, ◌*◌, ◌-◌, ◌<◌, ◌≤◌, ℕ, List, [], ◌∷◌, length, take, Option}
+use Rattle.std.specs.Prelude.{◌≡◌, ◌⊎◌, ◌+◌, ◌*◌, ◌-◌, ◌<◌, ◌≤◌, ℕ, List, [], ◌∷◌, length, take, true, Option, None}
 use Rattle.std.specs.Io.KnownBytes.{Consumes}
+use Rattle.dbus_value_model.specs.declared.fault.Fault.{Fault}
 use Rattle.dbus_value_model.specs.declared.limits.Limits.{Limits}
 use Rattle.dbus_header.specs.MessageOutcomes.{IsPartial}
 use Rattle.dbus_device.specs.Device.{RisesBy}
 use Rattle.dbus_stream.specs.GoingOn.{ahead_of}
+use Rattle.cli_options.specs.declared.settings.Settings.{Settings}
 use Rattle.cli_report.specs.Devices.{Reading}
-use Rattle.cli_run.specs.Inputs.{By, Part, PassedOver, PastWindow, Resumed, Whole}
+use Rattle.cli_run.specs.Inputs.{By, Part, PassedOver, PastWindow, Resumed, Whole, sizes_of}
 
 -- no call was made of a source, or this holds of how many bytes had come before the last one
 abbrev pub ReadsIf : {R : Type 0} → (left : R → Option (List ℕ)) → (calls : R → ℕ)
@@ -40,3 +42,17 @@ WantMore limits offset (Whole item ∷ parts) came = WantMore limits (offset + i
 WantMore limits offset (PassedOver kept fault by size ∷ parts) came =
     IsUnshown limits offset kept came
     ⊎ ((came < offset + 2 * ahead_by by) ⊎ WantMore limits (offset + size) parts came)
+
+-- They are wanted to see what follows these parts, of which so much was kept when that showed: they
+-- are wanted for the parts; or what had come of it shows no fault.
+abbrev pub WantToSee : Limits → List Part → (kept : List ℕ) → (came : ℕ) → Type 0
+WantToSee limits parts kept came = WantMore limits 0 parts came ⊎ IsUnshown limits (sizes_of parts) kept came
+
+-- a read was made only if this holds of how many bytes had come. needed says whether so many bytes
+-- were needed of the input
+abbrev pub ReadsOnlyIf : (Wants : (came : ℕ) → Type 0) → (needed : (size : ℕ) → Type 0) → Type 0
+ReadsOnlyIf Wants needed = needed 0 ⊎ ((came : ℕ) × Wants came × needed (came + 1))
+
+-- no more is read once that shows; but a run that is to go on reads to pass over what is refused
+abbrev pub ReadsToSee : Settings → Option Fault → List Part → (kept : List ℕ) → (needed : (size : ℕ) → Type 0) → Type 0
+ReadsToSee settings fault parts kept needed = (settings.keeps_going ≡ true → fault ≡ None) → ReadsOnlyIf (WantToSee settings.limits parts kept) needed

@@ -39,7 +39,7 @@ shown_through all = record { passed = passed_of all.through.parts; last = last_o
 -- or as much as was wanted
 abbrev pub shown_of : {t : Taken} {settings : Settings} {most : ℕ} {is_check : Bool} {filled : List Placed → Bool → Type 0} {needed : (size : ℕ) → Type 0} {done : List Placed → (told : List ℕ) → Type 0} {end : ExitStatus}
     → Goes t settings most is_check filled needed done end → AllShown
-shown_of (inl all) = shown_through all
+shown_of (inl all) = shown_through all.0
 shown_of (inr far) = record { passed = passed_of far.parts; last = [] }
 
 -- none is looked at

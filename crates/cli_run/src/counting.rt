@@ -6,7 +6,7 @@ ghost use Rattle.cli_options.specs.Limiting.{ask_more};
 ghost use Rattle.cli_options.specs.declared.settings.Settings.{Settings};
 ghost use Rattle.cli_run.specs.ByName.{Tallies};
 ghost use Rattle.cli_run.specs.Refusals.{number_of};
-ghost use Rattle.cli_report.specs.Devices.{reading, taken};
+ghost use Rattle.cli_report.specs.Devices.{reading};
 
 use crate::counted::Counted;
 use crate::handing::ended_by;
@@ -20,8 +20,8 @@ fn count_all<R: Source>(messages: &mut CheckReader<R>) -> Result<Counted, Cause>
         (limits_of messages.old) messages.old }
     ensures counts { (settings : Settings) → ask_more settings ≡ false →
         settings.limits ≡ limits_of messages.old → Tallies
-        (taken (reading R.left R.calls R.failures R.packets (source_of messages.old)
-        (source_of messages.new)))
+        (reading R.left R.calls R.failures R.packets (source_of messages.old)
+        (source_of messages.new))
         settings (most_reads_of messages.old) (number_of (R.packet (source_of messages.new)))
         result }
     ensures same_reference { R.reference (source_of messages.new) ≡
@@ -52,7 +52,7 @@ pub(crate) fn count_through<R: Source + Drop>(
 ) -> (Result<Counted, Cause>, R)
     requires few { reads ≤ 2 ^ 32 }
     requires no_more { ask_more settings ≡ false }
-    ensures counts { Tallies (taken (reading R.left R.calls R.failures R.packets source result.1))
+    ensures counts { Tallies (reading R.left R.calls R.failures R.packets source result.1)
         settings reads (number_of (R.packet result.1)) result.0 }
     ensures same_reference { R.reference result.1 ≡ R.reference source }
 {

@@ -4,7 +4,7 @@ use Rattle.dbus_stream.specs.CheckReading.{GivesLength, limits_of, Reads, length
 use Rattle.dbus_stream.specs.Cut.{CutMessage}
 use Rattle.dbus_stream.specs.Reading.{done_of, most_reads_of, source_of}
 use Rattle.cli_run.specs.ByName.{Tallies, ended_by}
-use Rattle.cli_report.specs.Devices.{reading, taken}
+use Rattle.cli_report.specs.Devices.{reading}
 use Rattle.cli_run.proofs.ReadSteps.{length-sizes}
 use Rattle.cli_run.specs.Refusals.{number_of}
 use Rattle.cli_run.proofs.HandSteps.{hands_none, hands_more, hands_ended, hands_faulted}
@@ -81,7 +81,7 @@ returns-in-Err-clause-counts g c =
     let answer : c.ended_by.result ≡ ended_by c.messages.count (done_of c.next.new.self) fault = c.ended_by.ensures ∙ ap (λ n. ended_by c.messages.count n fault) c.done-in-Err.ensures in
     let known = keeps_if g.R.Source.packets g.R.Source.packet c.messages.messages c.next.new.self _ c.next.ensures.packets c.messages.invariant.4 in
     λ settings no_more same.
-    subst (λ x. Tallies (taken (reading g.R.Source.left g.R.Source.calls g.R.Source.failures g.R.Source.packets (source_of c.args.messages.now) (source_of c.next.new.self))) settings (most_reads_of c.args.messages.now)
+    subst (λ x. Tallies (reading g.R.Source.left g.R.Source.calls g.R.Source.failures g.R.Source.packets (source_of c.args.messages.now) (source_of c.next.new.self)) settings (most_reads_of c.args.messages.now)
     (number_of (g.R.Source.packet (source_of c.next.new.self))) x) (sym answer)
     (tallied g.R.Source.left g.R.Source.calls g.R.Source.failures g.R.Source.packets g.R.Source.packet c.args.messages.now c.next.new.self c.requires known settings no_more same (ended_by c.messages.count (done_of c.next.new.self) fault)
     (hands_faulted adds_up h read.0 {s2 = tt} tt refl fault (check_faults (rest ++ read.0.bytes) c.messages.messages c.next.new.self fault (read.1 h.unstopped)) c.in-Err.ensures.failed tt))

@@ -19,7 +19,7 @@ returns-in-Ok-write_last g c = λ s there comes.
     (c.in-Ok-write_last.ensures t (subst (λ (r : g.row.C.Denot). g.C.Renderer.stands r t) (sym c.into_parts-renderer.ensures.renderer) stands)) in
     inl (to_end g.C.Renderer.stands g.C.Renderer.makes g.C.Renderer.follows g.C.Renderer.silent g.W.Sink.held g.W.Sink.failures g.E.Sink.held g.E.Sink.failures g.met.C.Renderer.nothing _ c.pass_through-ended.new.visitor g.C.Renderer.full s there
     c.new.ensures first second (g.met.C.EndRenderer.loud c.args.renderer) g.met.C.EndRenderer.wants_all g.R.Source.left g.R.Source.calls g.R.Source.failures g.R.Source.packets c.args.settings _ c.args.reader.now c.pass_through-ended.result.1.now source comes g.C.Renderer.ends
-    (rw c.in-Ok.is at c.pass_through-ended.ensures.settled) c.first-1.given.0 c.tell_note.new.second (Ok c.in-Ok-write_last.note) c.in-Ok.status c.tell_note.result wrote c.tell_note.ensures passes)
+    (rw c.in-Ok.is at c.pass_through-ended.ensures.settled) c.first-1.given.0 c.tell_note.new.second (Ok c.in-Ok-write_last.note) c.in-Ok.status c.tell_note.result wrote c.tell_note.ensures (λ size reads. elim reads [ inl none ↦ inl none | inr some ↦ inr (some.0, some.1.now, some.2, some.3, some.4) ]) passes)
 
 pub returns-in-Err-write_last : goal.returns-in-Err-write_last
 returns-in-Err-write_last g c = λ s there comes.
@@ -35,7 +35,7 @@ returns-in-Err-write_last g c = λ s there comes.
     (c.in-Err-write_last.ensures t (subst (λ (r : g.row.C.Denot). g.C.Renderer.stands r t) (sym c.into_parts-renderer.ensures.renderer) stands)) in
     inl (to_end g.C.Renderer.stands g.C.Renderer.makes g.C.Renderer.follows g.C.Renderer.silent g.W.Sink.held g.W.Sink.failures g.E.Sink.held g.E.Sink.failures g.met.C.Renderer.nothing _ c.pass_through-ended.new.visitor g.C.Renderer.full s there
     c.new.ensures first second (g.met.C.EndRenderer.loud c.args.renderer) g.met.C.EndRenderer.wants_all g.R.Source.left g.R.Source.calls g.R.Source.failures g.R.Source.packets c.args.settings _ c.args.reader.now c.pass_through-ended.result.1.now source comes g.C.Renderer.ends
-    (rw c.in-Ok.is at c.pass_through-ended.ensures.settled) c.first-1.given.0 c.give_up.new.second (Err c.in-Err-write_last.cause) c.in-Ok.status c.give_up.result wrote (c.give_up.ensures.told, c.give_up.ensures.failed) passes)
+    (rw c.in-Ok.is at c.pass_through-ended.ensures.settled) c.first-1.given.0 c.give_up.new.second (Err c.in-Err-write_last.cause) c.in-Ok.status c.give_up.result wrote (c.give_up.ensures.told, c.give_up.ensures.failed) (λ size reads. elim reads [ inl none ↦ inl none | inr some ↦ inr (some.0, some.1.now, some.2, some.3, some.4) ]) passes)
 
 pub returns-in-Err : goal.returns-in-Err
 returns-in-Err g c = λ s there comes.
