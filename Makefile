@@ -30,6 +30,7 @@
 # make test-completions loads the completions in bash, zsh and fish, and compares what each completes with the texts of help
 # make page        proves and builds the module of the page for browsers, and puts the page together in out/dbus-wire.html, which opens from the disk,
 #                  and in docs/index.html, which git ignores, so that to host the folder is to publish it
+# make pictures    writes the pictures of the page in docs/, and measures its contrasts and what is seen of it at several widths
 # make test-page   compares what the page gives of the samples and cases with what dbus-wire writes: by its module in Node, of version 20 at least, and by
 #                  the page in a headless Chromium, of version 133 at least, if there is one; BROWSER names another
 # make test-memory runs dbus-wire failing each of its allocations in turn
@@ -111,7 +112,7 @@ ARGS = check
 FILE = samples/session.dbus
 
 .PHONY: kit run quick-test build library test weight lint test-c test-python page test-page test-memory gate-times wrong-bodies promises promises-diff api graph definitions definitions-check \
-	doc-examples readme-test peers export-cases instructions bench bench-c bench-languages install install-program install-c install-shared install-dev install-python install-notices uninstall deb tarball wheel test-wheel crate test-crate test-completions release test-release test-packages test-root
+	doc-examples readme-test peers export-cases instructions bench bench-c bench-languages install install-program install-c install-shared install-dev install-python install-notices uninstall pictures deb tarball wheel test-wheel crate test-crate test-completions release test-release test-packages test-root
 
 # What rt try builds is gone when it ends. What make build made runs at once, and needs no kit.
 IS_BUILT = [ -x $(PROGRAM) ] && [ -z "$$(find crates.txt crates/*/src -newer $(PROGRAM))" ]
@@ -199,6 +200,9 @@ page: kit
 	packaging/notices.py $(PAGE_NOTICES) dbus_page
 	web/build.py $(MODULE) $(PAGE_NOTICES) $(PAGE)
 	cp $(PAGE) docs/index.html
+
+pictures: page
+	web/pictures.py $(PAGE)
 
 test-page: build page
 	web/test.py $(PROGRAM) $(MODULE) $(PAGE)

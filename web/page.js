@@ -231,7 +231,8 @@ function seenOf(index) {
   return { ...row, said, kind: said.type, time: said.time, sender: said.sender, destination: said.destination };
 }
 
-// What the cells of a row have. The diagram has a line for the names that come most, and others are told.
+// What the cells of a row have. The diagram has a line for the names that come most, and others are told; on a narrow
+// screen all are.
 function cellsOf(row) {
   if (!row.isWhole) {
     return { number: row.number, info: listed(row) };
@@ -240,7 +241,8 @@ function cellsOf(row) {
   // Long names leave no room for the rest.
   const parts = (PARTS.exec(listed(row, row.said, width)) ?? PARTS.exec(listed(row, row.said))).groups;
   const isDrawn = [row.sender, row.destination].every((it) => !it || state.lifelines.includes(it));
-  const names = find("diagram").checked && !isDrawn ? `${parts.sender} > ${parts.destination} ` : "";
+  const isNarrow = rowHeight() === NARROW_ROW_HEIGHT;
+  const names = find("diagram").checked && (isNarrow || !isDrawn) ? `${parts.sender} > ${parts.destination} ` : "";
   const time = find("only").value && row.isCall ? took(row) : null;
   return { ...parts, info: `${time === null ? "" : `${milliseconds(time)} ms  `}${names}${parts.info}` };
 }
@@ -457,7 +459,7 @@ function openRow(index) {
   const line = element("p", listed(row, row.said), { class: "line" }), text = textOf(index);
   const parts = [element("h2", title), element("p", where), line, ...joined(row)];
   parts.push(...(row.isWhole ? [copyButton("Copy as JSON", () => text)] : []));
-  parts.push(element("h3", row.isWhole ? "Values" : "Why"), element("pre", row.isWhole ? pretty(text) : text, { tabindex: 0 }));
+  parts.push(element("h3", row.isWhole ? "Values" : "Why"), element("pre", row.isWhole ? pretty(text) : text, { tabindex: 0, class: "values" }));
   const end = row.isWhole ? row.length : Math.max(row.length, at + HEX_BYTES * 4);
   parts.push(element("h3", "Bytes"), hexElement(row.offset, end, at));
   find("details").replaceChildren(...parts);

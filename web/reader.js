@@ -8,24 +8,23 @@ const PAGE_BYTES = 65536;
 const WINDOW = 1_048_576, EFFORT = 16;
 const MOST_FIELDS = 2 ** 26, MOST_BYTES = 2 ** 27, FRONT_BYTES = 16;
 // The structs of calls, one after another, and a line's texts; and the bytes of a `PagePart`.
-const UNPACKED = 0, NEXT = 32, PLACE = 48, COUNT = 80, BESIDE = 88, EVENT = 144, EVENT_WORDS = 18, TEXTS = 216;
+const UNPACKED = 0, NEXT = 32, PLACE = 48, COUNT = 80, BESIDE = 96, EVENT = 152, EVENT_WORDS = 18, TEXTS = 224;
 const TOLD_BYTES = 1024, PART_BYTES = 24;
+// Words of a `PagePart`.
+const START = 0, TIME = 1, HAS_TIME = 2;
 const FIRST_TEXT_BYTES = 65536;
 const ENCODER = new TextEncoder(), DECODER = new TextDecoder("utf-8", { ignoreBOM: true });
 
-// One input, in the memory of an instance of its own. It is unpacked in that of another, which is let go.
+// One input, in the memory of an instance of its own. It is unpacked there, and texts come over what it was unpacked of.
 class Reader {
   constructor(compiled, file, letGo = () => {}) {
     // What one read of 65,536 bytes gives of a packet is a part. A packet takes 17 bytes of the file at least.
     const parts = Math.floor(file.length / 17) + Math.ceil(file.length / PAGE_BYTES) + 2;
     const { length } = file;
-    this.begin(compiled, parts, length + 1, length);
+    this.begin(compiled, parts, length + 1, Math.max(length, FIRST_TEXT_BYTES));
     this.bytes.set(file, this.text);
     letGo();
-    const filled = this.unpack(parts, length);
-    this.begin(compiled, this.partCount, this.length, FIRST_TEXT_BYTES);
-    this.bytes.set(filled.parts, this.parts);
-    this.bytes.set(filled.data, this.data);
+    this.unpack(parts, length);
     // A file of packets has more than their bytes. How many bytes were looked at to go on.
     this.isRaw = this.length === length;
     this.looked = 0;
@@ -59,7 +58,7 @@ class Reader {
   input = (offset, length) => slice(this.data + offset, length);
   number = (place) => Number(this.view.getBigUint64(this.told + place, true));
 
-  // Takes the messages' bytes out of the file, and returns them and their parts.
+  // Takes the messages' bytes and their parts out of the file.
   unpack(partsRoom, length) {
     const room = [...slice(this.data, length + 1), ...slice(this.parts, partsRoom), this.toldAt(UNPACKED)];
     const answer = this.calls.dbus_page_unpack(...slice(this.text, length), ...room);
@@ -70,19 +69,24 @@ class Reader {
     this.partCount = this.number(UNPACKED + 8);
     // The fault of a pcap or pcapng file, by its place in it.
     this.fileFault = this.number(UNPACKED + 24) ? this.number(UNPACKED + 16) : null;
-    const part = (start, length) => this.bytes.subarray(start, start + length);
-    return { parts: part(this.parts, this.partCount * PART_BYTES), data: part(this.data, this.length) };
   }
+
+  partWord = (part, word) => this.view.getBigUint64(this.parts + part * PART_BYTES + word * 8, true);
+  partEnd = (part) => (part + 1 < this.partCount ? Number(this.partWord(part + 1, START)) : this.length);
+  partAt = (offset) => leastOf(0, this.partCount - 1, (it) => this.partEnd(it) > offset);
 
   // The time of the packet that the byte at the offset is of, in nanoseconds, or null.
   timeAt(offset) {
-    let low = 0, high = this.partCount;
-    while (high - low > 1) {
-      const middle = (low + high) >> 1, start = this.view.getBigUint64(this.parts + middle * PART_BYTES, true);
-      [low, high] = start <= offset ? [middle, high] : [low, middle];
-    }
-    const part = this.parts + low * PART_BYTES;
-    return high > low && this.view.getBigUint64(part + 16, true) ? this.view.getBigUint64(part + 8, true) : null;
+    const part = this.partAt(offset);
+    return this.partCount && this.partWord(part, HAS_TIME) ? this.partWord(part, TIME) : null;
+  }
+
+  // The next packet after that by which the message at the offset is refused, or null. Of one that is read in parts, which
+  // are of 65,536 bytes, it is the next part.
+  nextPacket(offset) {
+    const isRefused = (part) => this.next(offset, this.partEnd(part)).answer === REFUSED;
+    const end = this.partEnd(leastOf(this.partAt(offset), this.partCount - 1, isRefused));
+    return end < this.length ? end : null;
   }
 
   // What begins at the offset of what ends there: a message of this length; or a fault, or the end, at a place.
@@ -105,13 +109,13 @@ class Reader {
     return fields > MOST_FIELDS || size > MOST_BYTES ? 0 : size;
   }
 
-  // Where messages begin again behind a refused one, or null: in a capture by its size, else as `--resync` does, with a
-  // pause before each message that is tried.
-  *goOn(offset, at) {
-    const stated = this.stated(offset), behind = offset + stated, isThere = stated > 0 && behind <= this.length;
+  // Where messages begin again behind a refused one, or null, as `--resync` does: in a capture at the next packet; and
+  // else with a pause before each message that is tried.
+  *goOn(offset, answer, at) {
     if (!this.isRaw) {
-      return isThere ? behind : null;
+      return answer === REFUSED ? this.nextPacket(offset) : null;
     }
+    const stated = this.stated(offset), behind = offset + stated, isThere = stated > 0 && behind <= this.length;
     const most = Math.max(0, EFFORT * WINDOW - Math.max(0, this.looked + at - EFFORT * offset));
     const { found, looked } = yield* this.seek(offset, Math.min(this.length, offset + WINDOW), behind, most);
     this.looked = Math.min(this.looked + at + looked, Math.max(this.looked, EFFORT * (offset + WINDOW)));
@@ -210,6 +214,15 @@ class Reader {
   part = (start, end) => this.bytes.slice(this.data + start, this.data + Math.min(end, this.length));
 }
 
+// The least number from `low` on that passes a test, as all after it do; or `high`.
+function leastOf(low, high, passes) {
+  while (low < high) {
+    const middle = Math.floor((low + high) / 2);
+    [low, high] = passes(middle) ? [low, middle] : [middle + 1, high];
+  }
+  return low;
+}
+
 // A slice as the module takes it.
 const slice = (address, length) => [BigInt(address), BigInt(length)];
 
@@ -227,7 +240,7 @@ function* entries(reader) {
   reader.looked = 0;
   for (let offset = 0, end = 0; end !== null && offset < reader.length; offset = end) {
     const { answer, length, at } = reader.next(offset);
-    end = answer === WHOLE ? offset + length : yield* reader.goOn(offset, at);
+    end = answer === WHOLE ? offset + length : yield* reader.goOn(offset, answer, at);
     yield { offset, length: (end ?? reader.length) - offset, isWhole: answer === WHOLE, isPartial: answer === PARTIAL };
   }
 }

@@ -9,18 +9,21 @@ fault; its explanation, of which the bytes are left out if the input is a captur
 has read; and the place of the fault of a file. Of the page also: the cells of the first row and the last; which messages it
 shows by a rule and a word, what it saves of them, and what the command that it gives writes; and which calls its choices
 show, and its tables of members and of counts, by what `calls` and `count` write. It reads each second input by gzip. Of
-rules: which messages of the samples `filter` writes; and what the cases say of rules and of messages that match.
+rules: which messages of the samples `filter` writes; and what the cases say of rules and of messages that match. Of calls
+and names: the lines of `list` of random sessions, which tell both.
 """
 
 import concurrent.futures as futures
 import functools
 import gzip
+import itertools
 import json
 import os
 import pathlib
 import random
 import re
 import shutil
+import struct
 import subprocess
 import sys
 import tempfile
@@ -30,6 +33,7 @@ ROOT = HERE.parent
 sys.dont_write_bytecode = True
 sys.path.insert(0, str(ROOT / "cases"))
 
+from browser import Browser  # noqa: E402
 from read_cases import DATA, read_bytes, read_cases, read_parts  # noqa: E402
 
 REFUSED = re.compile(r"refused at (\d+): (\S+) in message (\d+) at (\d+)(?: in packet \d+)?\n((?:  .*\n){3,4})?")
@@ -42,10 +46,40 @@ COLUMNS = {"messages": (2, 3), "faults": (2, 3), "streams": (2,), "printed": (2,
 # What is asked of each message of the samples.
 RULES = ("", "type='error'", "type='signal',sender='org.freedesktop.DBus'", "interface='org.freedesktop.DBus',member='Hello'", "path_namespace='/org'",
          "destination=':1.4'", "arg0namespace='org.example'", "arg0path='/org/'", "sender=':1.1',eavesdrop='true'", "type='signal',arg0=''")
+# Of the messages of random sessions.
+TYPES = ("method_call", "method_call", "method_return", "method_return", "error", "signal")
 # What the page's choices are to `calls`.
 CHOICES = ("--slower 0", "--unanswered", "--errors")
 DAMAGED = 30
+# How many sessions are random, of how many messages, out of how many; and how many Node is asked for at once.
+SESSIONS, SESSION, DRAWN, AT_ONCE = 10000, 40, 4000, 500
 MOST_REPORTED = 5
+# What a page is asked of an input, with a rule and a word: what is shown of the first row and the last;
+# the numbers of the messages that it shows by both, what is saved of them, and their command; those of
+# the calls that each choice shows, by the words of `calls`; and the tables of members and of counts.
+SEEN = """(async () => {
+  const press = (key) => find("list").dispatchEvent(new KeyboardEvent("keydown", { key, bubbles: true }));
+  const seen = ["n", "End"].map((key) => {
+    press(key);
+    const row = find(`row-${state.active}`), texts = ["pre", ".line"].map((it) => find("details").querySelector(it)?.textContent);
+    return row ? [[...row.children].map((cell) => cell.textContent), ...texts] : null;
+  });
+  [find("rule").value, find("words").value] = ["type='method_call'", "DBus"];
+  await filter();
+  const calls = state.shown.map((it) => state.rows.at(it)).filter((it) => it.isWhole).map((it) => it.number);
+  const asked = { ...answersOf(state.reader, state.rows), seen, calls, saved: [...new Uint8Array(await pcap().arrayBuffer())], command: command(), chosen: {} };
+  find("rule").value = find("words").value = "";
+  for (const choice of [...Object.keys(CALLS), ""]) {
+    find("only").value = choice;
+    await filter();
+    Object.assign(asked.chosen, choice && { [CALLS[choice]]: state.shown.map((it) => it + 1) });
+  }
+  for (const table of [members, counts]) {
+    await table();
+    asked.chosen[table.name] = find("details").querySelector("pre").textContent;
+  }
+  return JSON.stringify(asked);
+})()"""
 
 
 def inputs():
@@ -70,7 +104,13 @@ def inputs():
             at, count = draws.randrange(len(data)), draws.choice((1, 5, 200))
             new = draws.choice((b"", b"\0", draws.randbytes(count), data[at:at + count] * 2))
             yield f"{name}, damaged {number} at {at}", data[:at] + new + data[at + count:]
+            yield f"{name}, damaged {number} at {at}, in packets", pcap(data[:at] + new + data[at + count:], draws)
         yield f"{name}, of type 0", data[:1] + b"\0" + data[2:]
+    for name in ("calls.pcap", "calls.pcapng"):
+        data = (ROOT / "samples" / name).read_bytes()
+        for number in range(DAMAGED):
+            at = draws.randrange(len(data))
+            yield f"{name}, damaged {number} at {at}", data[:at] + draws.randbytes(1) + data[at + 1:]
     # What each side sends, with messages behind it, and cut off within its last line.
     message = (ROOT / "samples" / "big-endian.dbus").read_bytes()
     for case in read_cases(DATA / "handshakes.txt"):
@@ -78,6 +118,18 @@ def inputs():
             sent = read_bytes(case[column])
             yield f"handshakes.txt {case[0]} {side}", sent + message
             yield f"handshakes.txt {case[0]} {side} cut", sent[:-3]
+
+
+def pcap(data, draws):
+    """A pcap file that has the bytes in packets, which begin where messages do or do not. Some are read in parts."""
+    lengths = [draws.choice((1, 16, 169, 400)) for _ in range(len(data) // 100)]
+    ends = [0, *itertools.accumulate(lengths)] if draws.randrange(5) else [0]
+    ends += [at for at in range(len(data)) if data[at:at + 4] in (b"l\1\0\1", b"l\4\1\1", b"l\2\1\1")]
+    ends = sorted({it for it in ends if it < len(data)}) + [len(data)]
+    packets = [data[start:end] for start, end in itertools.pairwise(ends)]
+    packets.append(data)
+    heads = (struct.pack("<4I", 1, at, len(it), len(it)) for at, it in enumerate(packets))
+    return bytes.fromhex("4d3cb2a1020004000000000000000000ffffff07e7000000") + b"".join(itertools.chain(*zip(heads, packets)))
 
 
 def is_capture(data):
@@ -238,6 +290,52 @@ def rules_differ(program, answers):
     return len(wrong)
 
 
+def session_messages(program):
+    """Messages of three connections with each other and the bus, of few serials and names."""
+    draws = random.Random(98)
+    bus, names = "org.freedesktop.DBus", ("org.example.A", "org.example.B")
+    unique = (":1.1", ":1.2", ":1.3")
+
+    def one():
+        kind, sender = draws.choice(TYPES), draws.choice((*unique, *unique, bus, bus, "org.example.A", None))
+        said = {"type": kind, "flags": draws.choice((0, 0, 0, 1)), "serial": draws.randint(1, 3), "sender": sender, "path": "/a",
+                "interface": draws.choice((bus, bus, "org.example.I")), "destination": draws.choice((*unique, *unique, *names, bus, bus, None)),
+                "member": draws.choice(("RequestName", "GetNameOwner", "Get"))}
+        values = draws.choice(([draws.choice(names)], [draws.choice(unique)], [draws.randint(1, 4)], []))
+        if kind == "signal":
+            said["member"] = draws.choice(("NameOwnerChanged", "NameOwnerChanged", "NameAcquired", "NameLost", "Got"))
+            if said["member"] == "NameOwnerChanged":
+                values = [draws.choice((*names, *unique)), draws.choice((*unique, "")), draws.choice((*unique, ""))]
+        if kind in ("method_return", "error"):
+            said = {it: said[it] for it in ("type", "flags", "serial", "sender", "destination")} | {"reply_serial": draws.randint(1, 3)}
+        if kind == "error":
+            said["error_name"] = "org.example.Error"
+        if said.get("member") == "RequestName":
+            values = [draws.choice(names), 0]
+        types = "".join("u" if isinstance(it, int) else "s" for it in values)
+        return {"order": draws.choice("lB"), **{key: it for key, it in said.items() if it is not None}, "signature": types, "body": values}
+
+    lines = "".join(f"{json.dumps(one())}\n" for _ in range(DRAWN)).encode()
+    data = subprocess.run([program, "encode"], input=lines, stdout=subprocess.PIPE, check=True).stdout
+    places = [json.loads(it)["offset"] for it in subprocess.run([program, "json"], input=data, stdout=subprocess.PIPE, check=True).stdout.splitlines()]
+    return [data[start:end] for start, end in itertools.pairwise([*places, len(data)])]
+
+
+def sessions_differ(program, pool, answers):
+    """How many random sessions are listed otherwise than the program does."""
+    draws, messages = random.Random(99), session_messages(program)
+    sessions = [b"".join(draws.choices(messages, k=SESSION)) for _ in range(SESSIONS)]
+    listed = lambda it: subprocess.run([program, "list", "--width", "0"], input=it, stdout=subprocess.PIPE).stdout.decode()
+    given_of = lambda at: [it["listed"] for it in answers("".join(f"{it.hex()}\n" for it in sessions[at:at + AT_ONCE]))]
+    wanted, given = list(pool.map(listed, sessions)), [*itertools.chain(*pool.map(given_of, range(0, SESSIONS, AT_ONCE)))]
+    wrong = [both for both in zip(wanted, given, strict=True) if both[0] != both[1]]
+    for want, found in wrong[:MOST_REPORTED]:
+        print(f"of a session the script lists\n{found}and dbus-wire\n{want}")
+    replies, names = (sum(len(re.findall(it, one, re.M)) for one in wanted) for it in (r" to #\d", r" :1\.\d\("))
+    print(f"calls and names: {SESSIONS - len(wrong)} sessions as dbus-wire lists them, with {replies} replies and {names} names, {len(wrong)} not")
+    return len(wrong)
+
+
 def is_utf8(data):
     try:
         data.decode()
@@ -261,9 +359,10 @@ def main(program, module, page):
     all_inputs = list(inputs())
     with futures.ThreadPoolExecutor(len(os.sched_getaffinity(0))) as pool:
         wanted = list(pool.map(lambda it: written(program, it[1]), all_inputs))
-    answers = functools.partial(run_node, [*node_words(), HERE / "answers.js", module])
-    given = answers("".join(f"{data.hex()}\n" for _, data in all_inputs))
-    wrong = differs("the module in Node", all_inputs, wanted, given) + rules_differ(program, answers)
+        answers = functools.partial(run_node, [*node_words(), HERE / "answers.js", module])
+        given = answers("".join(f"{data.hex()}\n" for _, data in all_inputs))
+        wrong = differs("the module in Node", all_inputs, wanted, given) + rules_differ(program, answers)
+        wrong += sessions_differ(program, pool, answers)
     browser = os.environ.get("BROWSER") or shutil.which("chromium") or shutil.which("google-chrome")
     if not browser:
         print("there is no Chromium here: the page was not tried in one")
@@ -272,7 +371,8 @@ def main(program, module, page):
         files = [pathlib.Path(folder) / str(at) for at in range(len(all_inputs))]
         for at, (file, (_, data)) in enumerate(zip(files, all_inputs)):
             file.write_bytes(gzip.compress(data) if at % 2 else data)
-        shown = run_node([HERE / "browser.js", browser, page], "".join(f"{it}\n" for it in files))
+        with Browser(browser, page) as chromium:
+            shown = [json.loads(chromium.value(SEEN)) if chromium.choose(it) else None for it in files]
         wrong += differs(f"the page in {pathlib.Path(browser).name}", all_inputs, wanted, shown)
         wrong += unseen(program, pathlib.Path(folder), all_inputs, wanted, shown)
     return 1 if wrong else 0
