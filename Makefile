@@ -30,6 +30,7 @@
 # make test-completions loads the completions in bash, zsh and fish, and compares what each completes with the texts of help
 # make page        proves and builds the module of the page for browsers, and puts the page together in out/dbus-wire.html, which opens from the disk,
 #                  and in docs/index.html, which git ignores, so that to host the folder is to publish it
+# make page-quick  the same without its proofs, in minutes, in out/dbus-wire-unproved.html, which says so at its head
 # make pictures    writes the pictures of the page in docs/, and measures its contrasts and what is seen of it at several widths
 # make test-page   compares what the page gives of the samples and cases with what dbus-wire writes: by its module in Node, of version 20 at least, and by
 #                  the page in a headless Chromium, of version 133 at least, if there is one; BROWSER names another
@@ -112,7 +113,7 @@ ARGS = check
 FILE = samples/session.dbus
 
 .PHONY: kit run quick-test build library test weight lint test-c test-python page test-page test-memory gate-times wrong-bodies promises promises-diff api graph definitions definitions-check \
-	doc-examples readme-test peers export-cases instructions bench bench-c bench-languages install install-program install-c install-shared install-dev install-python install-notices uninstall pictures deb tarball wheel test-wheel crate test-crate test-completions release test-release test-packages test-root
+	doc-examples readme-test peers export-cases instructions bench bench-c bench-languages install install-program install-c install-shared install-dev install-python install-notices uninstall page-quick pictures deb tarball wheel test-wheel crate test-crate test-completions release test-release test-packages test-root
 
 # What rt try builds is gone when it ends. What make build made runs at once, and needs no kit.
 IS_BUILT = [ -x $(PROGRAM) ] && [ -z "$$(find crates.txt crates/*/src -newer $(PROGRAM))" ]
@@ -200,6 +201,12 @@ page: kit
 	packaging/notices.py $(PAGE_NOTICES) dbus_page
 	web/build.py $(MODULE) $(PAGE_NOTICES) $(PAGE)
 	cp $(PAGE) docs/index.html
+
+page-quick: kit
+	mkdir -p out
+	web/quick.py out/dbus_page-unproved.wasm
+	packaging/notices.py $(PAGE_NOTICES) dbus_page
+	web/build.py out/dbus_page-unproved.wasm $(PAGE_NOTICES) out/dbus-wire-unproved.html unproved
 
 pictures: page
 	web/pictures.py $(PAGE)

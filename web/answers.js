@@ -8,8 +8,8 @@ const fs = require("node:fs");
 // The page's scripts but page.js, as build.py puts them together.
 const read = (it) => fs.readFileSync(`${__dirname}/${it}`, "utf8");
 const source = ["reader.js", "tables.js", "side.js", "rule.js"].map(read).join("\n");
-const { Reader, Rows, answersOf, entries, handshakeLength, matchesRule, readRule } = new Function(
-  `${source}\nreturn { Reader, Rows, answersOf, entries, handshakeLength, matchesRule, readRule };`,
+const { Reader, Rows, answersOf, entries, handshakeLength, leavesOfLine, matchesRule, readRule } = new Function(
+  `${source}\nreturn { Reader, Rows, answersOf, entries, handshakeLength, leavesOfLine, matchesRule, readRule };`,
 )();
 const compiled = new WebAssembly.Module(fs.readFileSync(process.argv[2]));
 
@@ -32,7 +32,9 @@ function answer(data, rule) {
   for (const entry of [...entries(reader)].filter((it) => !it.isPause)) {
     rows.learn(rows.add(entry));
   }
-  return { ...answersOf(reader, rows), matching: rule === undefined ? null : matching(rows, rule) };
+  const whole = [...Array(rows.count).keys()].map((it) => rows.at(it)).filter((it) => it.isWhole);
+  const tied = whole.map((it) => leavesOfLine(reader.items(it.offset, it.length), rows.time(it.index) !== null));
+  return { ...answersOf(reader, rows), tied, matching: rule === undefined ? null : matching(rows, rule) };
 }
 
 for (const line of fs.readFileSync(0, "latin1").split("\n").slice(0, -1)) {

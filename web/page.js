@@ -4,6 +4,8 @@ const ROW_HEIGHT = 26, NARROW_ROW_HEIGHT = 48;
 const MOST_LIST_HEIGHT = 8e6;
 const TURN_MILLISECONDS = 80;
 const HEX_BYTES = 16, HEX_LINES = 48;
+// Of a longer line of JSON no value is tied to its bytes.
+const MOST_TIED = 200_000;
 const MOST_LIFELINES = 8, LIFELINE_GAP = 24, MOST_SAMPLED = 5000;
 const NANOSECONDS = 1_000_000_000n;
 // As many cells as the line of a row has at least, and the width of one.
@@ -13,7 +15,8 @@ const COLUMNS = ["number", "time", "sender", "destination", "arrow", "info", "si
 const PARTS = /^ *(?<number>\d+) ((?<time>\S+:\S+) )? *(?<size>\d+) (?<sender>\S+) +> (?<destination>\S+) +(?<info>.+)/s;
 
 const find = (id) => document.getElementById(id);
-const state = { module: null, reader: null, rows: null, shown: [], active: -1, run: 0, isReading: false, lifelines: [] };
+const state = { module: null, reader: null, rows: null, shown: [], active: -1, run: 0, isReading: false, lifelines: [],
+  opened: null };
 
 // ---- Reading
 
@@ -61,7 +64,8 @@ function openInput(bytes, name) {
   }
   const side = skipped === 0 ? "" : bytes[0] === 0 ? "client" : "server";
   const reader = new Reader(state.module, bytes.subarray(skipped), () => bytes.buffer.transfer?.(0));
-  Object.assign(state, { reader, name, side, skipped, rows: new Rows(reader), shown: [], active: -1, lifelines: [] });
+  const rows = new Rows(reader);
+  Object.assign(state, { reader, name, side, skipped, rows, shown: [], active: -1, lifelines: [], opened: null });
   find("details").replaceChildren();
   draw();
 }
@@ -290,12 +294,20 @@ function pressKey(event) {
   }
 }
 
-// From the details too, n and N choose the next message and the one before, and Escape goes back to the list.
+// From the details too, n and N choose the next message and the one before, b and B mark the next value or the one
+// before, and Escape goes back to the list.
 function pressAnyKey(event) {
   if (event.key === "Escape") {
     find("list").focus();
   } else if (event.key === "n" || event.key === "N") {
     choose(state.active + (event.key === "n" ? 1 : -1));
+  } else if ((event.key === "b" || event.key === "B") && state.opened) {
+    const { leaves, marked } = state.opened, way = event.key === "b" ? 1 : -1;
+    let leaf = marked + way;
+    while (leaves[leaf] === null) {
+      leaf += way;
+    }
+    mark(leaf);
   }
 }
 
@@ -310,6 +322,7 @@ const milliseconds = (time) => {
 // Hands each row on, and then shows the lines that are made of them.
 async function showTable(title, rows, take, linesOf) {
   if (state.rows && (await inTurns(state.run, rows, take, () => tell("Counting …")))) {
+    state.opened = null;
     find("details").replaceChildren(element("h2", title), element("pre", linesOf().join(""), { tabindex: 0 }));
     tellEnd(state.name);
   }
@@ -459,10 +472,15 @@ function openRow(index) {
   const line = element("p", listed(row, row.said), { class: "line" }), text = textOf(index);
   const parts = [element("h2", title), element("p", where), line, ...joined(row)];
   parts.push(...(row.isWhole ? [copyButton("Copy as JSON", () => text)] : []));
-  parts.push(element("h3", row.isWhole ? "Values" : "Why"), element("pre", row.isWhole ? pretty(text) : text, { tabindex: 0, class: "values" }));
   const end = row.isWhole ? row.length : Math.max(row.length, at + HEX_BYTES * 4);
-  parts.push(element("h3", "Bytes"), hexElement(row.offset, end, at));
-  find("details").replaceChildren(...parts);
+  const isTied = row.isWhole && text.length < MOST_TIED;
+  const leaves = isTied ? leavesOfLine(reader.items(row.offset, row.length), Boolean(row.time)) : [];
+  state.opened = { offset: row.offset, end, fault: at, leaves, marked: -1 };
+  const said = row.isWhole ? valuesElement(text, isTied) : element("pre", text, { tabindex: 0 });
+  const how = isTied ? "A value marks its bytes, and a byte its value: press one, or b and B." : "";
+  parts.push(element("h3", row.isWhole ? "Values" : "Why"), said);
+  parts.push(element("h3", "Bytes"), element("p", how, { id: "marked", role: "status" }));
+  find("details").replaceChildren(...parts, hexElement());
 }
 
 // A time in UTC, with nine digits behind the point.
@@ -493,21 +511,55 @@ function joined(row) {
 }
 
 // JSON on several lines. Numbers stay as they are written, since some are above 2^53.
-function pretty(line) {
-  let depth = 0;
-  const broken = () => `\n${"  ".repeat(depth)}`;
-  return line.trimEnd().replace(/"(?:[^"\\]|\\.)*"|\[\]|[[{]|[\]}]|,|:/g, (token) => {
+function valuesElement(line, isTied) {
+  const box = element("pre", "", { tabindex: 0, class: "values" });
+  let depth = 0, leaf = 0;
+  for (const [token, isKey] of line.trimEnd().matchAll(/"(?:[^"\\]|\\.)*"(:)?|\[\]|[[{\]},]|[^",:[\]{}]+/g)) {
     depth += { "[": 1, "{": 1, "]": -1, "}": -1 }[token] ?? 0;
     const isEnd = "]}".includes(token), isStart = "[{,".includes(token);
-    return isEnd ? broken() + token : isStart ? token + broken() : token === ":" ? ": " : token;
-  });
+    const broken = `\n${"  ".repeat(depth)}`;
+    const isValue = isTied && !isEnd && !isStart && !isKey && token !== "[]";
+    const told = isEnd ? broken + token : isStart ? token + broken : isKey ? `${token} ` : token;
+    box.append(isValue ? element("span", told, { "data-leaf": leaf++ }) : told);
+  }
+  return box;
 }
 
-// The bytes from a line before the place of a fault on, or from the first.
-function hexElement(offset, end, fault) {
+// Marks a value and its bytes, and says which these are.
+function mark(leaf) {
+  const { leaves } = state.opened, details = find("details");
+  if (!leaves[leaf]) {
+    return;
+  }
+  const [start, end] = leaves[leaf], value = details.querySelector(`[data-leaf="${leaf}"]`);
+  const isOf = ({ dataset: { at } }) => (at ? at >= start && at < end : false);
+  if (start < end && !details.querySelector(`[data-at="${start}"]`)) {
+    details.lastChild.replaceWith(hexElement(start));
+  }
+  state.opened.marked = leaf;
+  const all = details.querySelectorAll("[data-leaf], [data-at]");
+  all.forEach((it) => it.classList.toggle("marked", it === value || isOf(it)));
+  [value, details.querySelector(`[data-at="${start}"]`)].forEach((it) => it?.scrollIntoView({ block: "nearest" }));
+  find("marked").textContent = start < end ? `Bytes ${start} to ${end - 1}: ${value.textContent}` : "A text without bytes.";
+}
+
+function pressDetails({ target: { dataset } }) {
+  if (!dataset.at && !dataset.leaf) {
+    return;
+  }
+  const { at, leaf } = dataset, of = leaf ?? state.opened.leaves.findIndex((it) => it && it[0] <= at && at < it[1]);
+  if (of < 0) {
+    find("marked").textContent = `Byte ${at} is of no value: of a length, a type, padding or the end of a text.`;
+  }
+  mark(Number(of));
+}
+
+// The bytes from some lines before the place of a fault on, or before another place, or from the first.
+function hexElement(from = state.opened.fault) {
+  const { offset, end, fault } = state.opened;
   const label = fault < 0 ? "bytes of the message" : `bytes, the fault is at byte ${fault}`;
   const box = element("pre", "", { tabindex: 0, "aria-label": label });
-  let next = Math.max(0, Math.floor((fault - 8 * HEX_BYTES) / HEX_BYTES) * HEX_BYTES);
+  let next = Math.max(0, Math.floor((from - 8 * HEX_BYTES) / HEX_BYTES) * HEX_BYTES);
   const extend = (more) => {
     more?.remove();
     for (const last = Math.min(end, next + HEX_LINES * HEX_BYTES); next < last; next += HEX_BYTES) {
@@ -526,7 +578,7 @@ function hexLine(offset, start, end, fault) {
   const cells = Array.from({ length: HEX_BYTES }, (_, at) => {
     const isAtFault = start + at === fault;
     const text = at < bytes.length ? bytes[at].toString(16).padStart(2, "0") : isAtFault ? "[]" : "  ";
-    return [" ", isAtFault ? element("mark", text) : text];
+    return [" ", element(isAtFault ? "mark" : "span", text, at < bytes.length ? { "data-at": start + at } : {})];
   });
   const letters = [...bytes].map((it) => (it > 31 && it < 127 ? String.fromCharCode(it) : ".")).join("");
   return [`${start.toString(16).padStart(8, "0")} `, ...cells.flat(), `  ${letters}\n`];
@@ -567,6 +619,7 @@ async function begin() {
   find("list").addEventListener("scroll", draw);
   find("list").addEventListener("keydown", pressKey);
   document.querySelector("main").addEventListener("keydown", pressAnyKey);
+  find("details").addEventListener("click", pressDetails);
   find("save").before(copyButton("Copy command", command));
   document.addEventListener("dragover", (event) => event.preventDefault());
   document.addEventListener("drop", (event) => [event.preventDefault(), take(event.dataTransfer)]);

@@ -9,10 +9,13 @@ const WINDOW = 1_048_576, EFFORT = 16;
 const MOST_FIELDS = 2 ** 26, MOST_BYTES = 2 ** 27, FRONT_BYTES = 16;
 // The structs of calls, one after another, and a line's texts; and the bytes of a `PagePart`.
 const UNPACKED = 0, NEXT = 32, PLACE = 48, COUNT = 80, BESIDE = 96, EVENT = 152, EVENT_WORDS = 18, TEXTS = 224;
-const TOLD_BYTES = 1024, PART_BYTES = 24;
+const TOLD_BYTES = 1024, PART_BYTES = 32, ITEM_BYTES = 32;
 // Words of a `PagePart`.
-const START = 0, TIME = 1, HAS_TIME = 2;
+const START = 0, PACKET = 1, TIME = 2, HAS_TIME = 3;
 const FIRST_TEXT_BYTES = 65536;
+// The bytes of a number by its type; and the header fields that have names have these codes.
+const WIDTHS = { y: 1, b: 4, n: 2, q: 2, i: 4, u: 4, x: 8, t: 8, d: 8, h: 4 };
+const FIRST_FIELD = 1, LAST_FIELD = 9, CODE_ITEM = 1, VALUE_ITEM = 3;
 const ENCODER = new TextEncoder(), DECODER = new TextDecoder("utf-8", { ignoreBOM: true });
 
 // One input, in the memory of an instance of its own. It is unpacked there, and texts come over what it was unpacked of.
@@ -81,11 +84,11 @@ class Reader {
     return this.partCount && this.partWord(part, HAS_TIME) ? this.partWord(part, TIME) : null;
   }
 
-  // The next packet after that by which the message at the offset is refused, or null. Of one that is read in parts, which
-  // are of 65,536 bytes, it is the next part.
+  // The next packet after that by which the message at the offset is refused, or null.
   nextPacket(offset) {
-    const isRefused = (part) => this.next(offset, this.partEnd(part)).answer === REFUSED;
-    const end = this.partEnd(leastOf(this.partAt(offset), this.partCount - 1, isRefused));
+    const isRefused = (part) => this.next(offset, this.partEnd(part)).answer === REFUSED, most = this.partCount - 1;
+    const part = leastOf(this.partAt(offset), most, isRefused), packet = this.partWord(part, PACKET);
+    const end = this.partEnd(leastOf(part, most, (it) => it < most && this.partWord(it + 1, PACKET) > packet));
     return end < this.length ? end : null;
   }
 
@@ -186,6 +189,24 @@ class Reader {
     return { event: words[0], serial: words[1], says: words[2], caller, sender, name, unique, forCaller, forOwner, byName };
   }
 
+  // Where the parts of the message stand: items of its header fields, and of its body's values.
+  items(offset, length) {
+    for (let room = 64; ; room = this.number(COUNT + 8)) {
+      this.reach(this.text + room * ITEM_BYTES);
+      const given = [...this.input(offset, length), ...slice(this.text, room), this.toldAt(COUNT)];
+      if (this.calls.dbus_page_items(...given) !== NO_ROOM) {
+        const all = Array.from({ length: this.number(COUNT + 8) }, this.item), fields = this.number(COUNT);
+        return { fields: all.slice(0, fields), body: all.slice(fields) };
+      }
+    }
+  }
+
+  item = (_, at) => {
+    const start = this.text + at * ITEM_BYTES, word = (it) => Number(this.view.getBigUint64(start + 8 * it, true));
+    const letter = (it) => String.fromCharCode(this.view.getUint32(start + it, true));
+    return { number: word(0), offset: word(1), length: word(2), code: letter(24), element: letter(28) };
+  };
+
   // The name of the reason why no message begins at the offset.
   reason = (offset) =>
     this.written((...room) => this.calls.dbus_page_reason(...this.input(offset, this.length - offset), ...room));
@@ -221,6 +242,32 @@ function leastOf(low, high, passes) {
     [low, high] = passes(middle) ? [low, middle] : [middle + 1, high];
   }
   return low;
+}
+
+// Where the values stand that JSON has of these items: the first byte of each, and the one behind it.
+const leavesOf = (items) => items.flatMap(({ offset, length, code, element }) => {
+  const width = WIDTHS[element];
+  if (code !== "a" || element === "y") {
+    return "({".includes(code) ? [] : [[offset, offset + length]];
+  }
+  const start = (at) => offset + at * width;
+  return width ? Array.from({ length: length / width }, (_, at) => [start(at), start(at + 1)]) : [];
+});
+
+// The same of all values that the line of JSON of a message has, in its order; null of those that its bytes do not say.
+function leavesOfLine({ fields, body }, hasTime) {
+  const known = [], others = [], isKnown = ({ number }) => number >= FIRST_FIELD && number <= LAST_FIELD;
+  for (let at = 0; at < fields.length; at += fields[at].number + 1) {
+    const parts = fields.slice(at, at + fields[at].number + 1);
+    if (isKnown(parts[CODE_ITEM])) {
+      known.push(...leavesOf(parts.slice(VALUE_ITEM)));
+    } else {
+      others.push({ leaves: leavesOf(parts), known: known.length });
+    }
+  }
+  const placed = others.flatMap((it) => (it.known < known.length ? [...it.leaves, null] : it.leaves));
+  const first = [...Array(hasTime ? 4 : 3).fill(null), [0, 1], [1, 2], [2, 3], [8, 12]];
+  return [...first, ...known, ...placed, ...leavesOf(body)];
 }
 
 // A slice as the module takes it.

@@ -54,13 +54,16 @@ DAMAGED = 30
 # How many sessions are random, of how many messages, out of how many; and how many Node is asked for at once.
 SESSIONS, SESSION, DRAWN, AT_ONCE = 10000, 40, 4000, 500
 MOST_REPORTED = 5
-# What a page is asked of an input, with a rule and a word: what is shown of the first row and the last;
-# the numbers of the messages that it shows by both, what is saved of them, and their command; those of
+# What a page is asked of an input, with a rule and a word: what is shown of the first row and the last, after the mark went
+# through all values; the numbers of the messages that it shows by both, what is saved of them, and their command; those of
 # the calls that each choice shows, by the words of `calls`; and the tables of members and of counts.
 SEEN = """(async () => {
   const press = (key) => find("list").dispatchEvent(new KeyboardEvent("keydown", { key, bubbles: true }));
   const seen = ["n", "End"].map((key) => {
     press(key);
+    for (let last = -2; state.opened && last !== state.opened.marked; press("b")) {
+      last = state.opened.marked;
+    }
     const row = find(`row-${state.active}`), texts = ["pre", ".line"].map((it) => find("details").querySelector(it)?.textContent);
     return row ? [[...row.children].map((cell) => cell.textContent), ...texts] : null;
   });
@@ -127,7 +130,8 @@ def pcap(data, draws):
     ends += [at for at in range(len(data)) if data[at:at + 4] in (b"l\1\0\1", b"l\4\1\1", b"l\2\1\1")]
     ends = sorted({it for it in ends if it < len(data)}) + [len(data)]
     packets = [data[start:end] for start, end in itertools.pairwise(ends)]
-    packets.append(data)
+    # A long one: the messages once more, and many times.
+    packets.append(data * draws.choice((0, 1, 1 + 140000 // len(data))))
     heads = (struct.pack("<4I", 1, at, len(it), len(it)) for at, it in enumerate(packets))
     return bytes.fromhex("4d3cb2a1020004000000000000000000ffffff07e7000000") + b"".join(itertools.chain(*zip(heads, packets)))
 
@@ -182,6 +186,42 @@ def compared(answers, data):
         return None
     refused = [[*it[:4], without_bytes(it[4]) if is_capture(data) else it[4]] for it in answers["refused"]]
     return {**{it: answers[it] for it in ("lines", "listed", "cut", "fault")}, "refused": refused}
+
+
+def leaves_of(said):
+    """The values of JSON that have no parts, in their order."""
+    parts = said.values() if isinstance(said, dict) else said if isinstance(said, list) else None
+    return [said] if parts is None else [*itertools.chain(*map(leaves_of, parts))]
+
+
+def is_said(value, part, order):
+    """Whether these bytes say the value of a message of this order."""
+    if isinstance(value, float):
+        return value == struct.unpack("<d" if order == "little" else ">d", part)[0]
+    if isinstance(value, int):
+        return value in (int.from_bytes(part, order), int.from_bytes(part, order, signed=True))
+    # A NaN is its bits.
+    return value in (part.decode(errors="replace"), part.hex(), f"{int.from_bytes(part, order):016x}")
+
+
+def untied(all_inputs, given):
+    """How many messages have values that the script ties to other bytes, of inputs of raw messages."""
+    count, wrong = 0, []
+    for (name, data), answers in zip(all_inputs, given):
+        if answers is None or is_capture(data) or side_of(data):
+            continue
+        for line, tied in zip(answers["lines"].splitlines(), answers["tied"], strict=True):
+            said = json.loads(line)
+            message, order = data[said["offset"]:said["offset"] + said["length"]], "little" if said["order"] == "l" else "big"
+            # The first ones are of where it stands, and of the bytes before its fields.
+            values = [*zip(leaves_of(said), tied, strict=True)][7:]
+            count += 1
+            if not all(it is None or is_said(value, message[it[0]:it[1]], order) for value, it in values):
+                wrong.append((name, values))
+    for name, values in wrong[:MOST_REPORTED]:
+        print(f"{name}: the script ties {values}")
+    print(f"values and bytes: {count - len(wrong)} messages as the bytes say, {len(wrong)} not")
+    return len(wrong)
 
 
 def differs(kind, all_inputs, wanted, given):
@@ -362,7 +402,7 @@ def main(program, module, page):
         answers = functools.partial(run_node, [*node_words(), HERE / "answers.js", module])
         given = answers("".join(f"{data.hex()}\n" for _, data in all_inputs))
         wrong = differs("the module in Node", all_inputs, wanted, given) + rules_differ(program, answers)
-        wrong += sessions_differ(program, pool, answers)
+        wrong += untied(all_inputs, given) + sessions_differ(program, pool, answers)
     browser = os.environ.get("BROWSER") or shutil.which("chromium") or shutil.which("google-chrome")
     if not browser:
         print("there is no Chromium here: the page was not tried in one")

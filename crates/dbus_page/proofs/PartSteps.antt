@@ -8,15 +8,15 @@ use Rattle.std.proofs.lemmas.Slice.{take-put_mid_below}
 use Rattle.std.proofs.Math.Seq.{take-append-add}
 use Rattle.dbus_device.specs.Packets.{Packets, PacketsAfter, AreOfPacket}
 use Rattle.dbus_device.specs.declared.packet.Packet.{Packet}
-use Rattle.dbus_page.specs.Parts.{AreParts, time_in, time_of}
+use Rattle.dbus_page.specs.Parts.{AreParts, number_in, time_in, time_of}
 use Rattle.dbus_page.specs.declared.unpacking.PagePart.{PagePart}
 
 -- one part more
 pub parts_more : (packets : Packets) (begin end next : ℕ) (parts : List PagePart) (part : PagePart) (packet : Option Packet) → AreParts packets begin parts end → part.start ≡ end → end < next
-    → ((i : ℕ) → end ≤ i → i < next → packets i ≡ packet) → time_of part ≡ time_in packet → AreParts packets begin (parts ++ part ∷ []) next
-parts_more packets begin end next [] part packet are starts le of timed =
-    let first : packets begin ≡ packet = of begin (omega (arith, are)) (omega (arith, are, le)) in (next, starts ∙ sym are, omega (arith, are, le), λ i from to. of i (omega (arith, are, from)) to ∙ sym first, timed ∙ sym (ap time_in first), refl)
-parts_more packets begin end next (p ∷ parts) part packet are starts le of timed = (are.0, are.1, are.2, are.3, are.4, parts_more packets are.0 end next parts part packet are.5 starts le of timed)
+    → ((i : ℕ) → end ≤ i → i < next → packets i ≡ packet) → part.packet ≡ number_in packet → time_of part ≡ time_in packet → AreParts packets begin (parts ++ part ∷ []) next
+parts_more packets begin end next [] part packet are starts le of numbered timed =
+    let first : packets begin ≡ packet = of begin (omega (arith, are)) (omega (arith, are, le)) in (next, starts ∙ sym are, omega (arith, are, le), λ i from to. of i (omega (arith, are, from)) to ∙ sym first, numbered ∙ sym (ap number_in first), timed ∙ sym (ap time_in first), refl)
+parts_more packets begin end next (p ∷ parts) part packet are starts le of numbered timed = (are.0, are.1, are.2, are.3, are.4, are.5, parts_more packets are.0 end next parts part packet are.6 starts le of numbered timed)
 
 -- the front of what was read into a part of the room
 pub front_read : (room part : List ℕ) (n m k : ℕ) → n ≤ length room → k ≤ length part → take (n + k) (put_mid n m room part) ≡ take n room ++ take k part
@@ -64,15 +64,15 @@ module _ {S : Type 0} (left : S → Option (List ℕ)) (packets : S → Option P
   pub more_read : (old now new : S) (room part : List ℕ) (size m count : ℕ) (parts : List PagePart) (number : ℕ) (x : PagePart) (packet : Option Packet)
       → ReadsUpTo left packets old now room size parts number → 0 < count → count ≤ length part → number < length parts
       → Consumes (left now) (left new) (take count part) → PacketsAfter count (packets now) (packets new) → AreOfPacket count (packets now) packet
-      → x.start ≡ size → time_of x ≡ time_in packet
+      → x.start ≡ size → x.packet ≡ number_in packet → time_of x ≡ time_in packet
       → take (size + count) (put_mid size m room part) ≡ take size room ++ take count part
       → ReadsUpTo left packets old new (put_mid size m room part) (size + count) (set parts number x) (number + 1)
-  more_read old now new room part size m count parts number x packet u some within place consumed after of starts timed front = record {
+  more_read old now new room part size m count parts number x packet u some within place consumed after of starts numbered timed front = record {
     within = omega (arith, ap length front, length-append (take size room) (take count part), length-take (size + count) (put_mid size m room part), length-take size room, length-take count part, u.within, within);
     read = subst (λ (l : List ℕ). Consumes (left old) (left new) l) (sym front) (Consumes-trans _ _ _ _ _ u.read consumed);
     after = after_both size count (packets old) (packets now) (packets new) u.after after;
     in_parts = λ p is.
         let known = subst (λ (o : Option Packets). PacketsAfter size o (packets now)) is u.after in
         subst (λ (l : List PagePart). AreParts p 0 l (size + count)) (sym (take_more_set parts number x place))
-        (parts_more p 0 size (size + count) (take number parts) x packet (u.in_parts p is) starts (omega (arith, some)) (of_packet size count p (packets now) packet known of) timed);
+        (parts_more p 0 size (size + count) (take number parts) x packet (u.in_parts p is) starts (omega (arith, some)) (of_packet size count p (packets now) packet known of) numbered timed);
   }

@@ -4,4 +4,5 @@ pub mod Beside
 pub mod Events
 pub mod Telling
 pub mod Parts
+pub mod Items
 pub mod Failing

@@ -2,8 +2,9 @@
 //! page. D-Bus Specification, "Message Protocol".
 //!
 //! [`dbus_page_unpack`] takes messages out of a file, [`dbus_page_next`] returns whether bytes
-//! begin with one, [`dbus_page_json`] and [`dbus_page_line`] write it, [`dbus_page_event`] what it
-//! tells of calls and names, and [`dbus_page_explain`] and [`dbus_page_reason`] why there is none.
+//! begin with one, [`dbus_page_json`] and [`dbus_page_line`] write it, [`dbus_page_items`] where its
+//! parts stand, [`dbus_page_event`] what it tells of calls and names, and [`dbus_page_explain`] and
+//! [`dbus_page_reason`] why there is none.
 //! Bytes are given as an address and a number, and structs as an address, as in C. No call
 //! allocates, and the module imports nothing. `web/reader.js` calls it.
 #![tactic(auto)]
@@ -11,6 +12,7 @@
 mod answers;
 mod event;
 mod explaining;
+mod items;
 mod json_line;
 mod line;
 mod memory;
@@ -26,6 +28,7 @@ pub use event::{
     LOST, NOTHING, OTHER, OWNED, PageEvent, REPLY, dbus_page_event,
 };
 pub use explaining::dbus_page_explain;
+pub use items::dbus_page_items;
 pub use json_line::{PagePlace, dbus_page_json};
 pub use line::{PageBeside, dbus_page_line};
 pub use next::{Next, dbus_page_next};

@@ -7,7 +7,7 @@ ghost use Rattle.dbus_capture.specs.Beginnings.{first_scan};
 ghost use Rattle.dbus_capture.specs.Captures.{file_of, left_of, opened, packets_of, scan_of, source_of};
 ghost use Rattle.dbus_capture.specs.Steps.{ended, given, packet_given, run};
 ghost use Rattle.dbus_device.specs.Packets.{Packets};
-ghost use Rattle.dbus_page.specs.Parts.{AreParts, IsFaultTold, IsFull, time_in, time_of};
+ghost use Rattle.dbus_page.specs.Parts.{AreParts, IsFaultTold, IsFull, number_in, time_in, time_of};
 ghost use Rattle.dbus_page.specs.Failing.{MayFail};
 ghost use Rattle.dbus_page.specs.declared.answers.TheConstants.{NO_ROOM, WHOLE};
 
@@ -22,6 +22,9 @@ use dbus_device::{Packet, Source};
 pub struct PagePart {
     /// The offset of the first among all bytes that were unpacked.
     pub start: u64,
+    /// The number of the packet among those that were not passed over, counted from 1; 0 if the
+    /// bytes are of none.
+    pub packet: u64,
     /// When the packet was captured, in nanoseconds since 1970 began in UTC, if that is known.
     pub time: u64,
     /// 0 if it is not known, else 1.
@@ -56,23 +59,22 @@ struct Filled {
 // The part that begins here and is of this packet.
 fn part_of(start: usize, packet: Option<Packet>) -> PagePart
     ensures begins { result.start ≡ start }
+    ensures numbered { result.packet ≡ number_in packet }
     ensures timed { time_of result ≡ time_in packet }
 {
-    let time = match packet {
-        Some(packet) => packet.time,
-        None => None,
+    let (number, time) = match packet {
+        Some(packet) => (packet.number, packet.time),
+        None => (0, None),
     };
-    match time {
-        Some(time) => PagePart {
-            start: start as u64,
-            time,
-            has_time: 1,
-        },
-        None => PagePart {
-            start: start as u64,
-            time: 0,
-            has_time: 0,
-        },
+    let (time, has_time) = match time {
+        Some(time) => (time, 1),
+        None => (0, 0),
+    };
+    PagePart {
+        start: start as u64,
+        packet: number,
+        time,
+        has_time,
     }
 }
 
@@ -146,8 +148,8 @@ fn unpacked_of(filled: &Filled, fault: Option<CaptureFault>) -> Unpacked
 
 /// Writes the bytes of messages that a file has to the start of the room: those of the D-Bus
 /// packets of a pcap or pcapng file, one after another, or all bytes of any other file. Writes to
-/// `parts` where each part of a packet begins, and when the packet was captured. A fault of the
-/// file ends its bytes.
+/// `parts` where each part of a packet begins, and which packet it is and when it was captured. A
+/// fault of the file ends its bytes.
 ///
 /// [`WHOLE`] if these are all bytes; a fault is told then. [`NO_ROOM`] if the room or `parts` is
 /// full, and no fault is told: both need room for one more than is written, and may change behind

@@ -17,7 +17,7 @@ loop-number-preserved g c =
     let read = c.in-Ok.ensures in
     let of = subst (λ (p : Option Packet). AreOfPacket k (packets l.capture) p) (sym c.packet.ensures) read.of_packet.1 in (
       more_read (left_of left) packets c.args.capture.now l.capture c.read.new.self l.room c.read.new.buffer l.length m k l.parts l.number c.part_of.result c.packet.result
-          l.invariant.0 (omega (arith, c.if-count-eq0.false)) read.bound (omega (arith, c.loop-number-test.true, l.auto.parts)) read.bytes.0 read.of_packet.0 of c.part_of.ensures.begins c.part_of.ensures.timed
+          l.invariant.0 (omega (arith, c.if-count-eq0.false)) read.bound (omega (arith, c.loop-number-test.true, l.auto.parts)) read.bytes.0 read.of_packet.0 of c.part_of.ensures.begins c.part_of.ensures.numbered c.part_of.ensures.timed
           (front_read l.room c.read.new.buffer l.length m k l.invariant.0.within read.bound),
       input_ran left g.R.Source.calls g.R.Source.failures c.args.capture.now l.capture c.read.new.self c.read.new.buffer l.invariant.1 k read.input c.if-count-eq0.false,
       input_unfailed left g.R.Source.calls g.R.Source.failures c.args.capture.now l.capture c.read.new.self c.read.new.buffer l.invariant.1 k read.input ∙ l.invariant.2,
