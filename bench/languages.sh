@@ -1,7 +1,8 @@
 #!/bin/sh
 # languages.sh LIBRARIES: microseconds of some messages that are read and built by the crate for Rust (languages.rs) and
 # by the module for Python (languages.py), beside the C library in the folder LIBRARIES, and beside zvariant, jeepney
-# and dbus-fast, as far as Debian's packages of these are there (librust-zvariant-dev, python3-jeepney, python3-dbus-fast).
+# and dbus-fast, as far as Debian's packages of these are there (librust-zvariant-dev, python3-jeepney, python3-dbus-
+# fast).
 # Compare figures of one run alone.
 set -eu
 here=$(cd "$(dirname "$0")" && pwd) libraries=$(cd "$1" && pwd)

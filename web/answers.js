@@ -1,7 +1,8 @@
 "use strict";
-// answers.js MODULE: what the page's module and scripts give of each input, of which a line of standard input has the bytes in hexadecimal, and then, if there is
-// one, a match rule. A line of JSON answers it, as web/test.py compares it with what dbus-wire writes. Node runs it, by --experimental-wasm-memory64 where that
-// is still an experiment.
+// answers.js MODULE: what the page's module and scripts give of each input, of which a line of standard input has
+// the bytes in hexadecimal, and then, if there is one, a match rule. A line of JSON answers it, as web/test.py
+// compares it with what dbus-wire writes. Node runs it, by --experimental-wasm-memory64 where that is still an
+// experiment.
 
 const fs = require("node:fs");
 

@@ -1,8 +1,9 @@
 #!/usr/bin/env python3
-"""build.py MODULE NOTICES OUT [unproved]: puts the page together in one file, which opens from the disk: page.html with page.css, the scripts, the module, a sample and
-the licences of all that is in it.
+"""build.py MODULE NOTICES OUT [unproved]: puts the page together in one file, which opens from the disk: page.html
+with page.css, the scripts, the module, a sample and the licences of all that is in it.
 
-The page's policy of content allows this script and this style by their hashes, WebAssembly, and nothing else: no network and no other script.
+The page's policy of content allows this script and this style by their hashes, WebAssembly, and nothing else:
+no network and no other script.
 """
 
 import base64

@@ -1,8 +1,10 @@
 #!/usr/bin/env python3
-"""module.py OUT: proves and builds the module of the page, of the crate dbus_page, for wasm64. The libraries below it are built already.
+"""module.py OUT: proves and builds the module of the page, of the crate dbus_page, for wasm64. The libraries below
+it are built already.
 
-In the list of crates dbus_page is a static library, which is proved for this machine. Here it stands in a folder of its own, whose list says that it is for
-wasm64, so that `rt lib` proves it for that and links a module.
+In the list of crates dbus_page is a static library, which is proved for this machine. Here it stands in a
+folder of its own, whose list says that it is for wasm64, so that `rt lib` proves it for that and links a
+module.
 """
 
 import os

@@ -1,9 +1,10 @@
 #!/usr/bin/env python3
-"""pictures.py PAGE [FOLDER]: looks at the page in a headless Chromium at several widths, light and dark, with and without
-its diagram, and writes the pictures of docs/, or all of them to the folder. BROWSER names another browser.
+"""pictures.py PAGE [FOLDER]: looks at the page in a headless Chromium at several widths, light and dark, with and
+without its diagram, and writes the pictures of docs/, or all of them to the folder. BROWSER names another
+browser.
 
-A line for each tells the least contrast of a text to what is behind it, and what of a row is cut off or not seen
-without scrolling sideways. The exit status is 1 if a contrast is below 4.5, or something is not seen.
+A line for each tells the least contrast of a text to what is behind it, and what of a row is cut off or not
+seen without scrolling sideways. The exit status is 1 if a contrast is below 4.5, or something is not seen.
 """
 
 import base64

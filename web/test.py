@@ -1,16 +1,17 @@
 #!/usr/bin/env python3
-"""test.py PROGRAM MODULE PAGE: compares what the page gives with what dbus-wire writes, over the samples and the bytes of
-cases: by the module in Node, and by the page in a headless Chromium, if there is one. BROWSER names another. The exit
-status is 1 if something differs.
+"""test.py PROGRAM MODULE PAGE: compares what the page gives with what dbus-wire writes, over the samples and the
+bytes of cases: by the module in Node, and by the page in a headless Chromium, if there is one. BROWSER names
+another. The exit status is 1 if something differs.
 
-What is compared of each input: the lines of `json --resync`, or `--keep-going` if it is a capture, with `--handshake` if
-it begins as one side of a connection; those of `list` with it, of 100 cells and of as many as they take; the number, offset, place and reason of each
-fault; its explanation, of which the bytes are left out if the input is a capture, since dbus-wire shows only those that it
-has read; and the place of the fault of a file. Of the page also: the cells of the first row and the last; which messages it
-shows by a rule and a word, what it saves of them, and what the command that it gives writes; and which calls its choices
-show, and its tables of members and of counts, by what `calls` and `count` write. It reads each second input by gzip. Of
-rules: which messages of the samples `filter` writes; and what the cases say of rules and of messages that match. Of calls
-and names: the lines of `list` of random sessions, which tell both.
+What is compared of each input: the lines of `json --resync`, or `--keep-going` if it is a capture, with
+`--handshake` if it begins as one side of a connection; those of `list` with it, of 100 cells and of as many as
+they take; the number, offset, place and reason of each fault; its explanation, of which the bytes are left out
+if the input is a capture, since dbus-wire shows only those that it has read; and the place of the fault of a
+file. Of the page also: the cells of the first row and the last; which messages it shows by a rule and a word,
+what it saves of them, and what the command that it gives writes; and which calls its choices show, and its
+tables of members and of counts, by what `calls` and `count` write. It reads each second input by gzip. Of
+rules: which messages of the samples `filter` writes; and what the cases say of rules and of messages that
+match. Of calls and names: the lines of `list` of random sessions, which tell both.
 """
 
 import concurrent.futures as futures
@@ -54,16 +55,14 @@ DAMAGED = 30
 # How many sessions are random, of how many messages, out of how many; and how many Node is asked for at once.
 SESSIONS, SESSION, DRAWN, AT_ONCE = 10000, 40, 4000, 500
 MOST_REPORTED = 5
-# What a page is asked of an input, with a rule and a word: what is shown of the first row and the last, after the mark went
-# through all values; the numbers of the messages that it shows by both, what is saved of them, and their command; those of
+# What a page is asked of an input, with a rule and a word: what is shown of the first row and the last, after a mark went
+# through some values; the numbers of the messages that it shows by both, what is saved of them, and their command; those of
 # the calls that each choice shows, by the words of `calls`; and the tables of members and of counts.
 SEEN = """(async () => {
   const press = (key) => find("list").dispatchEvent(new KeyboardEvent("keydown", { key, bubbles: true }));
   const seen = ["n", "End"].map((key) => {
     press(key);
-    for (let last = -2; state.opened && last !== state.opened.marked; press("b")) {
-      last = state.opened.marked;
-    }
+    ["b", "b", "b", "B", "b"].forEach(press);
     const row = find(`row-${state.active}`), texts = ["pre", ".line"].map((it) => find("details").querySelector(it)?.textContent);
     return row ? [[...row.children].map((cell) => cell.textContent), ...texts] : null;
   });
@@ -338,8 +337,9 @@ def session_messages(program):
 
     def one():
         kind, sender = draws.choice(TYPES), draws.choice((*unique, *unique, bus, bus, "org.example.A", None))
-        said = {"type": kind, "flags": draws.choice((0, 0, 0, 1)), "serial": draws.randint(1, 3), "sender": sender, "path": "/a",
-                "interface": draws.choice((bus, bus, "org.example.I")), "destination": draws.choice((*unique, *unique, *names, bus, bus, None)),
+        said = {"type": kind, "flags": draws.choice((0, 0, 0, 1)), "serial": draws.randint(1, 3), "sender": sender,
+                "path": "/a", "interface": draws.choice((bus, bus, "org.example.I")),
+                "destination": draws.choice((*unique, *unique, *names, bus, bus, None)),
                 "member": draws.choice(("RequestName", "GetNameOwner", "Get"))}
         values = draws.choice(([draws.choice(names)], [draws.choice(unique)], [draws.randint(1, 4)], []))
         if kind == "signal":
@@ -347,17 +347,20 @@ def session_messages(program):
             if said["member"] == "NameOwnerChanged":
                 values = [draws.choice((*names, *unique)), draws.choice((*unique, "")), draws.choice((*unique, ""))]
         if kind in ("method_return", "error"):
-            said = {it: said[it] for it in ("type", "flags", "serial", "sender", "destination")} | {"reply_serial": draws.randint(1, 3)}
+            said = {it: said[it] for it in ("type", "flags", "serial", "sender", "destination")}
+            said["reply_serial"] = draws.randint(1, 3)
         if kind == "error":
             said["error_name"] = "org.example.Error"
         if said.get("member") == "RequestName":
             values = [draws.choice(names), 0]
         types = "".join("u" if isinstance(it, int) else "s" for it in values)
-        return {"order": draws.choice("lB"), **{key: it for key, it in said.items() if it is not None}, "signature": types, "body": values}
+        said = {key: it for key, it in said.items() if it is not None}
+        return {"order": draws.choice("lB"), **said, "signature": types, "body": values}
 
     lines = "".join(f"{json.dumps(one())}\n" for _ in range(DRAWN)).encode()
     data = subprocess.run([program, "encode"], input=lines, stdout=subprocess.PIPE, check=True).stdout
-    places = [json.loads(it)["offset"] for it in subprocess.run([program, "json"], input=data, stdout=subprocess.PIPE, check=True).stdout.splitlines()]
+    lines = subprocess.run([program, "json"], input=data, stdout=subprocess.PIPE, check=True).stdout.splitlines()
+    places = [json.loads(it)["offset"] for it in lines]
     return [data[start:end] for start, end in itertools.pairwise([*places, len(data)])]
 
 
@@ -367,12 +370,14 @@ def sessions_differ(program, pool, answers):
     sessions = [b"".join(draws.choices(messages, k=SESSION)) for _ in range(SESSIONS)]
     listed = lambda it: subprocess.run([program, "list", "--width", "0"], input=it, stdout=subprocess.PIPE).stdout.decode()
     given_of = lambda at: [it["listed"] for it in answers("".join(f"{it.hex()}\n" for it in sessions[at:at + AT_ONCE]))]
-    wanted, given = list(pool.map(listed, sessions)), [*itertools.chain(*pool.map(given_of, range(0, SESSIONS, AT_ONCE)))]
+    wanted = list(pool.map(listed, sessions))
+    given = [*itertools.chain(*pool.map(given_of, range(0, SESSIONS, AT_ONCE)))]
     wrong = [both for both in zip(wanted, given, strict=True) if both[0] != both[1]]
     for want, found in wrong[:MOST_REPORTED]:
         print(f"of a session the script lists\n{found}and dbus-wire\n{want}")
     replies, names = (sum(len(re.findall(it, one, re.M)) for one in wanted) for it in (r" to #\d", r" :1\.\d\("))
-    print(f"calls and names: {SESSIONS - len(wrong)} sessions as dbus-wire lists them, with {replies} replies and {names} names, {len(wrong)} not")
+    told = f"with {replies} replies and {names} names, {len(wrong)} not"
+    print(f"calls and names: {SESSIONS - len(wrong)} sessions as dbus-wire lists them, {told}")
     return len(wrong)
 
 
