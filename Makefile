@@ -4,8 +4,8 @@
 #                  It also holds the manual page and the completions against the texts of help; bench/options.py writes what it can of them
 # make api         prints docs/API.md, the calls of the libraries, out of the sources; make quick-test checks that it is current
 # make graph       writes which crate uses which into docs/ARCHITECTURE.md; make definitions-check, and quick-test, check it
-# make definitions writes the tables of docs/DEFINITIONS.md and docs/WORKED-EXAMPLES.md out of the definitions and their examples, the rules of refused messages
-#                  into the manual page, and docs/SPECIFICATION.md; make definitions-check, and quick-test, check them
+# make definitions writes the tables of docs/DEFINITIONS.md and docs/WORKED-EXAMPLES.md out of the definitions and their examples, those of reasons out of
+#                  bench/reasons.txt, and docs/SPECIFICATION.md; make definitions-check, and quick-test, check them
 # make doc-examples builds and runs the examples of doc comments, without proofs: a minute. make quick-test does it too
 # make readme-test runs the commands of README.md, by what make build made or else without proofs, and compares what they write;
 #                  those of docs/RECIPES.md too, if make build made dbus-wire
@@ -241,14 +241,14 @@ graph:
 definitions:
 	bench/definitions.py
 	bench/worked_examples.py
-	bench/rules.py
+	bench/reasons.py
 	cases/specification.py
 
 definitions-check:
 	bench/graph.py --check
 	bench/definitions.py --check
 	bench/worked_examples.py --check
-	bench/rules.py --check
+	bench/reasons.py --check
 	cases/specification.py --check
 
 readme-test: kit

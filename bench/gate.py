@@ -29,7 +29,7 @@ NOT_COPIED = shutil.ignore_patterns(".git", "out", "target", "__pycache__")
 # What compares dbus-wire with the cases: of captures, listed messages, refused lines and damaged messages.
 READERS = ("captures", "lines", "refused_lines", "damaged")
 # What says whether the pages that scripts write are current, and the pages of options.
-PAGES = "graph.py definitions.py worked_examples.py rules.py api.py options.py ../cases/specification.py".split()
+PAGES = "graph.py definitions.py worked_examples.py reasons.py api.py options.py ../cases/specification.py".split()
 COUNT = re.compile(r"(\d+) passed, (\d+) failed")
 
 

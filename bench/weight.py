@@ -28,7 +28,7 @@ import sys
 import definitions
 import graph
 import options
-import rules
+import reasons
 from crate_list import PARTS, ROOT, folder_of, read_crates
 from edits import edits_in
 from guards import unguarded
@@ -48,7 +48,7 @@ GENERATED = {
     **dict.fromkeys(("docs/API.md", "docs/PEERS.md", "docs/SPECIFICATION.md", "docs/WORKED-EXAMPLES.md"), WHOLE),
     "docs/ARCHITECTURE.md": (graph.PICTURE,),
     "docs/DEFINITIONS.md": (definitions.TABLE,),
-    "man/dbus-wire.1": (rules.PART, rules.LINES_PART),
+    **{file: [it for name, it, _ in reasons.tables() if name == file] for file in reasons.LISTS},
 }
 # The texts in other files.
 TEXTS = {
@@ -90,7 +90,7 @@ def pages():
         name, text = path.relative_to(ROOT).as_posix(), path.read_text()
         by_hand = text
         for written in GENERATED.get(name, ()):
-            by_hand = written.sub(lambda it: "".join(it.groups()), by_hand)
+            by_hand = written.sub(lambda it: "".join(it.groups()), by_hand, count=1)
         if by_hand:
             yield "all manual" if path.suffix == ".1" else f"page {name}", told(by_hand)
         if by_hand != text:

@@ -43,11 +43,9 @@ def rules():
     if RULES.exists():
         return json.loads(RULES.read_text())
     sys.path.insert(0, str(DATA.parent.parent / "bench"))
-    import rules as explained
+    import reasons
 
-    page = (DATA.parent.parent / "docs" / "MATCH-RULES.md").read_text()
-    rows = re.findall(r"^\| `(\w+)` \| (.*?) \|", page, re.M)
-    return {why: [f"refused if {text}", "Match Rules"] for why, text in rows} | dict(explained.rules())
+    return dict(reasons.rules())
 
 
 def sections_for(it):
