@@ -1,33 +1,13 @@
 //! Server addresses.
 
-use std::error::Error;
 use std::ffi::OsString;
-use std::fmt;
 use std::io;
 use std::os::linux::net::SocketAddrExt;
 use std::os::unix::ffi::OsStringExt;
 use std::os::unix::net::{SocketAddr, UnixStream};
 use std::path::PathBuf;
 
-use crate::fault::AddressReason;
-use crate::sys;
-
-/// Where and why a text of server addresses is refused.
-#[derive(Clone, Copy, Debug, PartialEq, Eq, Hash)]
-pub struct AddressFault {
-    /// Its offset, in bytes from the first of the text.
-    pub at: usize,
-    /// Why.
-    pub reason: AddressReason,
-}
-
-impl fmt::Display for AddressFault {
-    fn fmt(&self, f: &mut fmt::Formatter<'_>) -> fmt::Result {
-        write!(f, "{}, at byte {}", self.reason, self.at)
-    }
-}
-
-impl Error for AddressFault {}
+use crate::{sys, AddressFault};
 
 /// A server address: a transport, and keys with their values.
 #[derive(Clone, Copy, Debug)]
@@ -124,7 +104,7 @@ pub fn parse_addresses(text: &str) -> Result<Vec<Address<'_>>, AddressFault> {
     // SAFETY: a slice and a reference, as `sys` says.
     match unsafe { sys::dbus_wire_address_check(text.as_ptr(), text.len(), &raw mut told) } {
         sys::DBUS_WIRE_OK => Ok((0..told.count).map(|number| Address { text, number }).collect()),
-        _ => Err(AddressFault { at: told.offset as usize, reason: AddressReason::new(told.reason, 0) }),
+        _ => Err(AddressFault::new(told.offset, told.reason, 0)),
     }
 }
 

@@ -39,6 +39,17 @@ macro_rules! reasons {
                 }
             }
         }
+
+        impl fmt::Display for $reasons {
+            fn fmt(&self, f: &mut fmt::Formatter<'_>) -> fmt::Result {
+                f.write_str(self.sentence())?;
+                match self {
+                    $($($reasons::$name(code) => write!(f, ": that of code {}", *code as $field),)?)*
+                    $reasons::Other(number) => write!(f, ": {number}"),
+                    _ => Ok(()),
+                }
+            }
+        }
     };
 }
 
@@ -119,68 +130,50 @@ reasons! {
     Guid = 7, "the value of guid is not 32 hexadecimal digits";
 }
 
-impl fmt::Display for Reason {
-    fn fmt(&self, f: &mut fmt::Formatter<'_>) -> fmt::Result {
-        f.write_str(self.sentence())?;
-        match self {
-            Reason::FieldMissing(code) => write!(f, ": that of code {code}"),
-            Reason::Other(number) => write!(f, ": {number}"),
-            _ => Ok(()),
+macro_rules! faults {
+    ($($(#[$doc:meta])* $fault:ident: $reason:ident, $whole:literal;)*) => {$(
+        $(#[$doc])*
+        #[derive(Clone, Copy, Debug, PartialEq, Eq, Hash)]
+        pub struct $fault {
+            #[doc = concat!("Its offset, in bytes from the first of the ", $whole, ".")]
+            pub at: usize,
+            /// Why.
+            pub reason: $reason,
         }
-    }
-}
 
-impl fmt::Display for RuleReason {
-    fn fmt(&self, f: &mut fmt::Formatter<'_>) -> fmt::Result {
-        f.write_str(self.sentence())?;
-        match self {
-            RuleReason::Other(number) => write!(f, ": {number}"),
-            _ => Ok(()),
+        impl $fault {
+            pub(crate) fn new(at: u64, reason: u32, code: u32) -> Self {
+                Self { at: at as usize, reason: $reason::new(reason, code) }
+            }
         }
-    }
-}
 
-impl fmt::Display for AddressReason {
-    fn fmt(&self, f: &mut fmt::Formatter<'_>) -> fmt::Result {
-        f.write_str(self.sentence())?;
-        match self {
-            AddressReason::Other(number) => write!(f, ": {number}"),
-            _ => Ok(()),
+        impl fmt::Display for $fault {
+            fn fmt(&self, f: &mut fmt::Formatter<'_>) -> fmt::Result {
+                write!(f, "{}, at byte {}", self.reason, self.at)
+            }
         }
-    }
+
+        impl Error for $fault {}
+    )*};
 }
 
-/// Where and why bytes are refused: no message begins with those up to the fault's place, whatever
-/// follows.
-///
-/// ```
-/// use dbus_wire::{Message, ParseError};
-///
-/// let Err(ParseError::Refused(fault)) = Message::parse(b"l\x01\0\x02") else { unreachable!() };
-/// assert_eq!(fault.at, 3);
-/// assert_eq!(fault.to_string(), "the protocol version is not 1, at byte 3");
-/// ```
-#[derive(Clone, Copy, Debug, PartialEq, Eq, Hash)]
-pub struct Fault {
-    /// Its offset, in bytes from the first of the message.
-    pub at: usize,
-    /// Why.
-    pub reason: Reason,
+faults! {
+    /// Where and why bytes are refused: no message begins with those up to the fault's place, whatever
+    /// follows.
+    ///
+    /// ```
+    /// use dbus_wire::{Message, ParseError};
+    ///
+    /// let Err(ParseError::Refused(fault)) = Message::parse(b"l\x01\0\x02") else { unreachable!() };
+    /// assert_eq!(fault.at, 3);
+    /// assert_eq!(fault.to_string(), "the protocol version is not 1, at byte 3");
+    /// ```
+    Fault: Reason, "message";
+    /// Where and why a text spells no rule.
+    RuleFault: RuleReason, "text";
+    /// Where and why a text of server addresses is refused.
+    AddressFault: AddressReason, "text";
 }
-
-impl Fault {
-    pub(crate) fn new(at: u64, reason: u32, field: u32) -> Self {
-        Self { at: at as usize, reason: Reason::new(reason, field) }
-    }
-}
-
-impl fmt::Display for Fault {
-    fn fmt(&self, f: &mut fmt::Formatter<'_>) -> fmt::Result {
-        write!(f, "{}, at byte {}", self.reason, self.at)
-    }
-}
-
-impl Error for Fault {}
 
 /// Why bytes begin with no message.
 #[derive(Clone, Copy, Debug, PartialEq, Eq, Hash)]
@@ -206,14 +199,17 @@ impl Error for ParseError {}
 mod tests {
     use super::{AddressReason, Reason, RuleReason};
     use crate::sys;
+    use std::fmt::Debug;
 
     const HEADER: &str = include_str!("../include/dbus_wire.h");
 
-    // What one of the two calls writes of a number.
-    fn name(call: unsafe extern "C" fn(u32, *mut u8, usize) -> usize, number: u32) -> String {
+    type Call = unsafe extern "C" fn(u32, *mut u8, usize) -> usize;
+
+    // What a call writes of a number.
+    fn name(call: Call, number: usize) -> String {
         let mut text = [0; 32];
         // SAFETY: a mutable slice, as `sys` says.
-        let length = unsafe { call(number, text.as_mut_ptr(), text.len()) };
+        let length = unsafe { call(number as u32, text.as_mut_ptr(), text.len()) };
         String::from_utf8(text[..length].to_vec()).unwrap()
     }
 
@@ -225,43 +221,25 @@ mod tests {
         texts.lines().filter_map(|line| line.trim().split_once('"')?.1.strip_suffix("\",")).collect()
     }
 
+    // Compares reasons with what the library and the header have of each number.
+    fn compare<R: Copy + Debug>(call: Call, function: &str, new: fn(u32, u32) -> R, said: fn(R) -> (u32, &'static str)) {
+        let sentences = sentences(function);
+        assert_eq!((name(call, 0), name(call, sentences.len())), (String::new(), String::new()));
+        for (number, sentence) in sentences.into_iter().enumerate().filter(|it| it.1 != "reserved") {
+            let reason = new(number as u32, 5);
+            assert_eq!(said(reason), (number as u32, sentence));
+            assert_eq!(format!("{reason:?}").replace("(5)", "").replace("Other(0)", ""), name(call, number));
+        }
+    }
+
     #[test]
     fn reasons_are_the_librarys_and_the_headers() {
-        let (sentences, name) = (sentences("dbus_wire_reason_text"), |number| name(sys::dbus_wire_reason_name, number));
-        let last = sys::DBUS_WIRE_REASON_MAY_BE_ROUNDED;
-        for number in (1..=last).filter(|it| *it != sys::DBUS_WIRE_REASON_NOT_YET) {
-            let reason = Reason::new(number, 5);
-            assert_eq!(reason.number(), number);
-            assert_eq!(format!("{reason:?}").replace("(5)", ""), name(number));
-            assert_eq!(reason.sentence(), sentences[number as usize]);
-        }
-        assert_eq!(sentences.len(), last as usize + 1);
+        compare(sys::dbus_wire_reason_name, "dbus_wire_reason_text", Reason::new, |it| (it.number(), it.sentence()));
+        compare(sys::dbus_wire_rule_reason_name, "dbus_wire_rule_reason_text", RuleReason::new, |it| {
+            (it.number(), it.sentence())
+        });
+        let said = |it: AddressReason| (it.number(), it.sentence());
+        compare(sys::dbus_wire_address_reason_name, "dbus_wire_address_reason_text", AddressReason::new, said);
         assert_eq!(Reason::new(99, 0), Reason::Other(99));
-        assert_eq!((name(0), Reason::Other(0).sentence()), (String::new(), sentences[0]));
-    }
-
-    #[test]
-    fn reasons_of_rules_are_the_librarys_and_the_headers() {
-        let (sentences, name) = (sentences("dbus_wire_rule_reason_text"), |number| name(sys::dbus_wire_rule_reason_name, number));
-        for number in 1..=sys::DBUS_WIRE_RULE_REASON_NOT_UTF8 {
-            let reason = RuleReason::new(number, 0);
-            assert_eq!((reason.number(), format!("{reason:?}")), (number, name(number)));
-            assert_eq!(reason.sentence(), sentences[number as usize]);
-        }
-        assert_eq!(sentences.len(), sys::DBUS_WIRE_RULE_REASON_NOT_UTF8 as usize + 1);
-        assert_eq!((name(0), RuleReason::Other(0).sentence()), (String::new(), sentences[0]));
-    }
-
-    #[test]
-    fn reasons_of_addresses_are_the_librarys_and_the_headers() {
-        let (sentences, name) =
-            (sentences("dbus_wire_address_reason_text"), |number| name(sys::dbus_wire_address_reason_name, number));
-        for number in 1..=sys::DBUS_WIRE_ADDRESS_REASON_GUID {
-            let reason = AddressReason::new(number, 0);
-            assert_eq!((reason.number(), format!("{reason:?}")), (number, name(number)));
-            assert_eq!(reason.sentence(), sentences[number as usize]);
-        }
-        assert_eq!(sentences.len(), sys::DBUS_WIRE_ADDRESS_REASON_GUID as usize + 1);
-        assert_eq!((name(0), AddressReason::Other(0).sentence()), (String::new(), sentences[0]));
     }
 }

@@ -119,16 +119,6 @@ impl Handshake {
             piece = &byte;
         }
     }
-
-    fn set_bounds(&mut self, Bounds { rejections, errors }: Bounds) {
-        // SAFETY: a reference, as `sys` says; only calls write `raw`.
-        unsafe { sys::dbus_wire_handshake_bound(&raw mut self.raw, rejections, errors) };
-    }
-
-    fn agreed(&mut self) -> bool {
-        // SAFETY: a reference, as `sys` says; only calls write `raw`.
-        unsafe { sys::dbus_wire_handshake_agreed(&raw mut self.raw) == sys::DBUS_WIRE_OK }
-    }
 }
 
 impl Drop for Handshake {
@@ -138,6 +128,61 @@ impl Drop for Handshake {
         unsafe { sys::dbus_wire_handshake_free(&raw mut self.raw) };
     }
 }
+
+// What both ends can do.
+macro_rules! ends {
+    ($($end:ident)*) => {$(
+        impl $end {
+            /// Bounds what the end sends, from here on. A server for anybody needs bounds.
+            ///
+            /// ```
+            /// use dbus_wire::{Bounds, Server, Status};
+            ///
+            /// let mut server = Server::new("0123456789abcdef0123456789abcdef", Some(0), false)?;
+            /// server.set_bounds(Bounds { rejections: 1, errors: 6 });
+            /// assert_eq!(server.take(b"\0AUTH\r\n")?.reply, b"REJECTED EXTERNAL\r\n");
+            /// assert_eq!(server.take(b"AUTH\r\n")?.status, Status::Closed);
+            /// # Ok::<(), Box<dyn std::error::Error>>(())
+            /// ```
+            pub fn set_bounds(&mut self, Bounds { rejections, errors }: Bounds) {
+                // SAFETY: a reference, as `sys` says; only calls write `raw`.
+                unsafe { sys::dbus_wire_handshake_bound(&raw mut self.0.raw, rejections, errors) };
+            }
+
+            /// Takes at most one line of the piece, with a client's byte 0 before the first, and
+            /// answers it. The first call of a client starts the handshake: it takes nothing, and its
+            /// reply is the byte 0 and the first line. Once the handshake succeeded or failed it takes
+            /// nothing.
+            ///
+            /// # Errors
+            ///
+            /// If there is no memory: then nothing is changed, so that the same piece may be passed
+            /// again.
+            pub fn take(&mut self, piece: &[u8]) -> Result<Step<'_>, OutOfMemory> {
+                self.0.take(piece)
+            }
+
+            /// Shakes hands with the other end of a connection that blocks, from the first byte on. It
+            /// reads no byte of what follows, which [`messages`](crate::messages) reads.
+            ///
+            /// # Errors
+            ///
+            /// With `ConnectionRefused` if the handshake fails, with `OutOfMemory` if memory runs out,
+            /// and else what the connection returned.
+            pub fn shake_hands(&mut self, connection: impl Read + Write) -> io::Result<()> {
+                self.0.shake_hands(connection)
+            }
+
+            /// Whether both ends agreed to pass Unix file descriptors, once the handshake succeeded.
+            pub fn agreed(&mut self) -> bool {
+                // SAFETY: a reference, as `sys` says; only calls write `raw`.
+                unsafe { sys::dbus_wire_handshake_agreed(&raw mut self.0.raw) == sys::DBUS_WIRE_OK }
+            }
+        }
+    )*};
+}
+
+ends! { Server Client }
 
 fn mechanisms(external: u32, user: u32, anonymous: bool, descriptors: bool) -> sys::dbus_wire_mechanisms {
     sys::dbus_wire_mechanisms { external, user, anonymous: anonymous.into(), descriptors: descriptors.into() }
@@ -204,51 +249,6 @@ impl Server {
             sys::DBUS_WIRE_REFUSED => Err(HandshakeError::BadGuid),
             _ => Err(HandshakeError::OutOfMemory),
         }
-    }
-
-    /// Bounds what the end sends, from here on. A server for anybody needs bounds.
-    ///
-    /// ```
-    /// use dbus_wire::{Bounds, Server, Status};
-    ///
-    /// let mut server = Server::new("0123456789abcdef0123456789abcdef", Some(0), false)?;
-    /// server.set_bounds(Bounds { rejections: 1, errors: 6 });
-    /// assert_eq!(server.take(b"\0AUTH\r\n")?.reply, b"REJECTED EXTERNAL\r\n");
-    /// assert_eq!(server.take(b"AUTH\r\n")?.status, Status::Closed);
-    /// # Ok::<(), Box<dyn std::error::Error>>(())
-    /// ```
-    pub fn set_bounds(&mut self, bounds: Bounds) {
-        self.0.set_bounds(bounds);
-    }
-
-    /// Takes at most one line of the piece, with the byte 0 before the first, and answers it. Once
-    /// the handshake succeeded or failed it takes nothing. Out of memory changes nothing: pass the
-    /// same piece again.
-    ///
-    /// # Errors
-    ///
-    /// If there is no memory: then nothing is changed, so that the same piece may be passed again.
-    pub fn take(&mut self, piece: &[u8]) -> Result<Step<'_>, OutOfMemory> {
-        self.0.take(piece)
-    }
-
-    /// Shakes hands with the other end of a connection that blocks, from the first byte on. It
-    /// reads no byte of what follows, which [`messages`](crate::messages) reads.
-    ///
-    /// If the handshake fails, the error is `ConnectionRefused`, and if memory runs out
-    /// `OutOfMemory`. Others are those of the connection.
-    ///
-    /// # Errors
-    ///
-    /// With `ConnectionRefused` if the handshake fails, with `OutOfMemory` if memory runs out, and else
-    /// what the connection returned.
-    pub fn shake_hands(&mut self, connection: impl Read + Write) -> io::Result<()> {
-        self.0.shake_hands(connection)
-    }
-
-    /// Whether both ends agreed to pass Unix file descriptors, once the handshake succeeded.
-    pub fn agreed(&mut self) -> bool {
-        self.0.agreed()
     }
 }
 
@@ -325,42 +325,6 @@ impl Client {
             sys::DBUS_WIRE_REFUSED => Err(HandshakeError::LongTrace),
             _ => Err(HandshakeError::OutOfMemory),
         }
-    }
-
-    /// Bounds what the end sends, from here on.
-    pub fn set_bounds(&mut self, bounds: Bounds) {
-        self.0.set_bounds(bounds);
-    }
-
-    /// The first call starts the handshake: it takes nothing, and its reply is the byte 0 and the
-    /// first line. Each further one takes at most one line of the piece, and answers it. Once the
-    /// handshake succeeded or failed it takes nothing. Out of memory changes nothing: pass the same
-    /// piece again.
-    ///
-    /// # Errors
-    ///
-    /// If there is no memory: then nothing is changed, so that the same piece may be passed again.
-    pub fn take(&mut self, piece: &[u8]) -> Result<Step<'_>, OutOfMemory> {
-        self.0.take(piece)
-    }
-
-    /// Shakes hands with the other end of a connection that blocks, from the first byte on. It
-    /// reads no byte of what follows, which [`messages`](crate::messages) reads.
-    ///
-    /// If the handshake fails, the error is `ConnectionRefused`, and if memory runs out
-    /// `OutOfMemory`. Others are those of the connection.
-    ///
-    /// # Errors
-    ///
-    /// With `ConnectionRefused` if the handshake fails, with `OutOfMemory` if memory runs out, and else
-    /// what the connection returned.
-    pub fn shake_hands(&mut self, connection: impl Read + Write) -> io::Result<()> {
-        self.0.shake_hands(connection)
-    }
-
-    /// Whether both ends agreed to pass Unix file descriptors, once the handshake succeeded.
-    pub fn agreed(&mut self) -> bool {
-        self.0.agreed()
     }
 
     /// The server's GUID, as 32 hexadecimal digits in lower case, once it accepted the client.

@@ -4,25 +4,7 @@ use std::error::Error;
 use std::fmt;
 use std::ptr;
 
-use crate::fault::RuleReason;
-use crate::{check_text, sys, Limits, Message, OutOfMemory, TextFault, TextKind};
-
-/// Where and why a text spells no rule.
-#[derive(Clone, Copy, Debug, PartialEq, Eq, Hash)]
-pub struct RuleFault {
-    /// Its offset, in bytes from the first of the text.
-    pub at: usize,
-    /// Why.
-    pub reason: RuleReason,
-}
-
-impl fmt::Display for RuleFault {
-    fn fmt(&self, f: &mut fmt::Formatter<'_>) -> fmt::Result {
-        write!(f, "{}, at byte {}", self.reason, self.at)
-    }
-}
-
-impl Error for RuleFault {}
+use crate::{check_text, sys, Limits, Message, OutOfMemory, RuleFault, TextFault, TextKind};
 
 /// Why a rule is not made.
 #[derive(Clone, Copy, Debug, PartialEq, Eq, Hash)]
@@ -120,10 +102,7 @@ impl RuleSet {
                 self.count += 1;
                 Ok(RuleId(id))
             }
-            sys::DBUS_WIRE_REFUSED => {
-                let reason = RuleReason::new(told.reason, 0);
-                Err(RuleError::Refused(RuleFault { at: told.offset as usize, reason }))
-            }
+            sys::DBUS_WIRE_REFUSED => Err(RuleError::Refused(RuleFault::new(told.offset, told.reason, 0))),
             _ => Err(RuleError::OutOfMemory),
         }
     }
