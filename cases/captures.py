@@ -19,8 +19,9 @@ sys.dont_write_bytecode = True
 from read_cases import DATA, read_cases, read_parts, read_words  # noqa: E402
 
 # What a file gives: the bytes of its D-Bus packets, the time of each in nanoseconds or None, how many bytes there are up to the end of each packet, the
-# number of the packet of the last byte or None, the place and the reason of its fault, or (), and how many packets were passed over since they were cut.
-Given = collections.namedtuple("Given", "data times ends last fault cut")
+# number of the packet of the last byte or None, the place and the reason of its fault, or (), and how many packets were passed over since they were cut, or
+# since they are of another link type.
+Given = collections.namedtuple("Given", "data times ends last fault cut others")
 Interface = collections.namedtuple("Interface", "link_type most unit has_offset")
 
 DBUS = 231
@@ -48,7 +49,7 @@ class Reader:
     """The bytes of a file, and what they gave so far."""
 
     def __init__(self, data, passes_cut):
-        self.bytes, self.at, self.order, self.passes_cut, self.cut = data, 0, "little", passes_cut, 0
+        self.bytes, self.at, self.order, self.passes_cut, self.cut, self.others = data, 0, "little", passes_cut, 0, 0
         self.data, self.times, self.ends, self.last, self.interfaces = b"", [], [], None, []
 
     def take(self, count):
@@ -167,6 +168,7 @@ class Reader:
         if captured + -captured % 4 > room:
             raise Refused(place, "Lengths")
         if interface.link_type != DBUS:
+            self.others += 1
             self.take(room)
             return
         if captured > original:
@@ -190,7 +192,7 @@ def read(data, passes_cut=False):
             reader.data = data
     except Refused as it:
         fault = it.args
-    return Given(reader.data, reader.times, reader.ends, reader.last, fault, reader.cut)
+    return Given(reader.data, reader.times, reader.ends, reader.last, fault, reader.cut, reader.others)
 
 
 def fronts(data):
@@ -214,9 +216,10 @@ def checked(given):
     is_cut = size % MESSAGE > 0
     packet = f" in packet {given.last}" if given.last else ""
     first = f"refused at {size}: Truncated{packet}\n" if is_cut else f"ok {size // MESSAGE} messages {size} bytes\n"
-    second = f"capture: {given.cut} cut packet{'s' if given.cut > 1 else ''} passed over\n" if given.cut else ""
+    counts = (given.cut, "cut"), (given.others, "non-D-Bus")
+    second = "".join(f"capture: {count} {which} packet{'s' if count > 1 else ''} passed over\n" for count, which in counts if count)
     second += "capture refused at {}: {}\n".format(*given.fault) if given.fault else ""
-    return first.encode(), second.encode(), 1 if is_cut or second else 0
+    return first.encode(), second.encode(), 1 if is_cut or given.cut or given.fault else 0
 
 
 def is_checked(program, data):

@@ -66,9 +66,14 @@ done
 must "dbus-wire $(pkg-config --modversion dbus-wire)" dbus-wire --version
 dbus-wire json < one | grep -q '"a b"'
 must "PropertiesChanged" /usr/bin/python3 -c 'import dbus_wire; print(next(dbus_wire.messages(open("one", "rb").read())).member)'
-for page in dbus-wire.1 dbus_wire.3 dbus_wire_check.3 dbus_wire_reason_text.3; do
+for page in dbus-wire.1 dbus-record.1 dbus_wire.3 dbus_wire_check.3 dbus_wire_reason_text.3; do
     MANPATH=$root/usr/share/man man --warnings "${page#*.}" "${page%.*}" 2> said > page
     test -s page && test ! -s said
 done
+if command -v dbus-run-session > /dev/null; then
+    # It ends when it is told to.
+    dbus-run-session -- timeout 2 dbus-record recorded || true
+    dbus-wire list --width 0 < recorded | grep -q 'GetNameOwner("org.freedesktop.DBus")'
+fi
 env PATH="/usr/bin:/bin" "$here/../completions/test.py" "$root/"
 echo "the packages do what they should"

@@ -20,15 +20,15 @@ ghost use Rattle.std.specs.IoError.{error_kind};
 ghost use Rattle.cli_report.specs.Devices.{writing};
 ghost use Rattle.dbus_tool.specs.Handshaking.{Shows};
 ghost use Rattle.dbus_tool.specs.Words.{RunsWords};
-ghost use Rattle.dbus_wire.specs.FileReports.{passes_cut, takes_lines};
+ghost use Rattle.dbus_wire.specs.FileReports.{settings_of, takes_lines};
 ghost use Rattle.dbus_wire.specs.NoWords.{TellsNoWords};
 
 mod file_report;
 
 use dbus_capture::Capture;
 use dbus_stream::{FromRead, FromWrite, Sink, Source, WrittenOnly, write_all};
-use dbus_tool::{Asked, ExitStatus, ReadAhead, UsageFault, command_of, run_asked};
-use file_report::tell_file;
+use dbus_tool::{Asked, ExitStatus, ReadAhead, Settings, UsageFault, command_of, run_asked};
+use file_report::{FileEnd, Form, form_of, tell_file};
 use std::alloc::Global;
 use std::io::ErrorKind;
 use std::process::ExitCode;
@@ -69,11 +69,20 @@ fn run<R: Source + Drop, W: Sink, E: Sink>(
         let mut reader = ReadAhead::new(input);
         return run_on(alloc, words, asked, &mut reader, first, second);
     }
-    let mut capture = Capture::new(input, passes_cut(&asked));
+    let (passes_cut, form) = match settings_of(&asked) {
+        Some(settings) => (settings.keeps_going, form_of(settings)),
+        None => (false, Form::Text),
+    };
+    let mut capture = Capture::new(input, passes_cut);
     let mut reader = ReadAhead::new(&mut capture);
     let status = run_on(alloc, words, asked, &mut reader, first, second);
-    let (cut, fault) = (capture.cut_packets(), capture.fault());
-    tell_file(alloc, cut, fault, status, second)
+    let cut = capture.cut_packets();
+    let end = FileEnd {
+        cut,
+        others: capture.passed_over().wrapping_sub(cut),
+        fault: capture.fault(),
+    };
+    tell_file(alloc, end, form, status, second)
 }
 
 // Does what these words ask for, as they were read.
@@ -102,9 +111,10 @@ fn takes_lines(asked: &Result<Asked, UsageFault>) -> bool
     matches!(asked, Ok(Asked::Encode(_)))
 }
 
-// Whether packets that were cut are passed over: if the command keeps going.
-fn passes_cut(asked: &Result<Asked, UsageFault>) -> bool
-    ensures { result ≡ passes_cut asked.now }
+// The settings of a command over messages, if the words ask for one. Packets that were cut are
+// passed over if it keeps going.
+fn settings_of(asked: &Result<Asked, UsageFault>) -> Option<Settings>
+    ensures { result ≡ settings_of asked.now }
 {
     match asked {
         Ok(
@@ -112,8 +122,8 @@ fn passes_cut(asked: &Result<Asked, UsageFault>) -> bool
             | Asked::Count(settings)
             | Asked::List(settings, _)
             | Asked::Calls(settings, _),
-        ) => settings.keeps_going,
-        Ok(Asked::Encode(_) | Asked::Handshake(_)) | Err(_) => false,
+        ) => Some(*settings),
+        Ok(Asked::Encode(_) | Asked::Handshake(_)) | Err(_) => None,
     }
 }
 

@@ -1,8 +1,0 @@
-use Rattle.std.proofs.Common.{List, ℕ, ◌∙◌, inl, subst}
-use Rattle.dbus_tool.specs.Handshaking.{Shows}
-use Rattle.cli_report.specs.declared.ending.ExitStatus.TheVariants.{Refused}
-use Rattle.dbus_wire.proofs.file_report.refuse_file.Goals as goal
-
-pub returns-in-Ok : goal.returns-in-Ok
-returns-in-Ok g c =
-    inl (subst (λ (t : List ℕ). Shows g.E.Sink.held g.E.Sink.failures c.args.second.now c.tell.new.second Refused t c.tell.result) (c.as_str.ensures.value ∙ c.in-Ok.ensures) c.tell.ensures)
