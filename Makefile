@@ -21,9 +21,10 @@
 # make export-cases writes the cases for other implementations to out/, as lines of JSON and as an archive
 # make test-c      builds the examples for C over it, tests the Rust crate, and compares what both write with dbus-wire check. With TARGET the examples
 #                  for C alone, run by qemu-user-static or what RUN says: a quarter of an hour
-# make test-python compares what the module for Python makes of messages by it with what dbus-wire writes, and with what jeepney and
-#                  dbus-fast make of them, if these are there
-# make wheel       makes a wheel of the module for Python, with the library in it, in out/; `pip install ./python` does too
+# make test-python compares what the module for Python makes of messages by it, and by its extension module, with what dbus-wire writes,
+#                  and with what jeepney and dbus-fast make of them, if these are there
+# make wheel       makes a wheel of the module for Python, with the library in it, in out/, and with the extension module if there are a
+#                  compiler and Python's headers; `pip install ./python` does too
 # make test-wheel  installs that in a fresh environment, without a network, and runs the tests of the module there
 # make crate       packs the crate for Rust, and builds what it packed, in out/; CARGO_PACKAGE_FLAGS=--allow-dirty if not all is committed
 # make test-crate  runs the tests that are packed with it, from a folder of their own
@@ -95,6 +96,8 @@ HEAP = $(CC) -std=c99 -O2 -fPIC -c -o $(ROOM)/$(HEAP_OBJECT) packaging/heap.c
 RUN = qemu-aarch64-static -L /usr/$(TARGET)
 RUN_BY = $(TARGET) $(RUN)
 endif
+# The extension module for Python, beside the modules that use it.
+EXTENSION = python/dbus_wire/_objects.abi3.so
 VERSION = $(shell sed -n 's/.*VERSION: &str = "\(.*\)";/\1/p' crates/cli_options/src/help.rt)
 # The licences of the kit's crates that are linked in. They come from the kit, and what is installed needs no kit.
 NOTICES = out/NOTICES
@@ -173,11 +176,18 @@ test-crate: crate
 	cd out/crate/* && DBUS_WIRE_LIB_DIR=$(CURDIR)/out CARGO_TARGET_DIR=$(CURDIR)/out/rust cargo test --quiet --offline
 	rm -rf out/crate
 
-test-python: build library
-	DBUS_WIRE_LIBRARY=$(SHARED) DBUS_WIRE_PROGRAM=$(PROGRAM) python3 -W error -m unittest discover python/tests
+$(EXTENSION): python/dbus_wire/_objects.c include/dbus_wire.h python/wheel_of_module.py
+	python3 python/wheel_of_module.py --extension
+
+# With the extension module, and by ctypes alone.
+BOTH_WAYS = for without in '' 1; do DBUS_WIRE_NO_EXTENSION=$$without DBUS_WIRE_PROGRAM=$(PROGRAM) $(1) -W error -m unittest discover python/tests || exit 1; done
+
+test-python: build library $(EXTENSION)
+	export DBUS_WIRE_LIBRARY=$(SHARED); $(call BOTH_WAYS,python3)
 
 wheel:
 	@test -f $(SHARED) || { echo "there is no $(SHARED): run make library" >&2; exit 1; }
+	rm -f out/dbus_wire-*.whl
 	SOURCE_DATE_EPOCH=$${SOURCE_DATE_EPOCH:-$$(git log -1 --format=%ct)} python3 python/wheel_of_module.py out
 
 # The module is that of the environment, and its library that of the wheel.
@@ -189,7 +199,7 @@ test-wheel: wheel
 	python3 -m venv out/venv
 	out/venv/bin/pip install --quiet --no-index out/dbus_wire-$(VERSION)-*.whl
 	env -u DBUS_WIRE_LIBRARY out/venv/bin/python -I -c "$(IS_INSTALLED)"
-	env -u DBUS_WIRE_LIBRARY DBUS_WIRE_PROGRAM=$(PROGRAM) out/venv/bin/python -W error -m unittest discover python/tests
+	unset DBUS_WIRE_LIBRARY; $(call BOTH_WAYS,out/venv/bin/python)
 	rm -rf out/venv
 
 test-completions:
@@ -275,7 +285,7 @@ bench-c: library
 	bench/pieces.sh out/pieces
 	$(CC) -std=c99 -O2 -Iinclude -o out/rules bench/rules.c $(ARCHIVE)
 
-bench-languages: library
+bench-languages: library $(EXTENSION)
 	bench/languages.sh out
 
 install: install-program install-c

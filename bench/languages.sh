@@ -28,3 +28,5 @@ fi
 (cd "$room" && DBUS_WIRE_LIB_DIR=$libraries LD_LIBRARY_PATH=$libraries cargo run --quiet --release --offline $features)
 export PYTHONPATH="$here/../python:/usr/lib/python3/dist-packages" DBUS_WIRE_LIBRARY="$libraries/libdbus_wire.so.0"
 "$here/languages.py"
+echo "by ctypes, without the extension module:"
+DBUS_WIRE_NO_EXTENSION=1 "$here/languages.py"

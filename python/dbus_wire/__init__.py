@@ -18,6 +18,11 @@ does; `explain` says why for a reader, as `dbus-wire check --explain` does, and
 writes the line of `dbus-wire json`, and `Message.from_json` reads one; JSON that spells no message
 raises BadJson. No value that is given is changed: one that is not of its type raises BadValue,
 which says where it is.
+
+An extension module builds and reads messages, if a compiler made it. Without it, and if the
+environment variable DBUS_WIRE_NO_EXTENSION is not empty, ctypes makes these calls too: slower, with
+the same results.
+
 examples/python has programs. All of it may be called from any thread; a thread needs 256 KiB of
 stack for a call. A message of any depth is read within Python's default limit on recursion.
 """

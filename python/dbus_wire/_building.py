@@ -8,9 +8,10 @@ from ctypes import byref
 from typing import Any
 
 from . import _library
+from ._compiled import objects
 from ._errors import bad_value, refused
 from ._library import NO_MEMORY, OK, Bytes, as_bytes, library
-from ._limits import Limits, limits_struct
+from ._limits import SPECIFICATION, Limits, limits_struct
 from ._messages import Message, MessageFlag, MessageType
 from ._spelling import spell_body
 from ._values import Order, order_of, text_of, uint32_of
@@ -20,7 +21,7 @@ from ._values import Order, order_of, text_of, uint32_of
 _NUMBERS = ("type", "flags", "serial", "reply_serial", "unix_fds")
 _TEXTS = ("path", "interface", "member", "error_name", "destination", "sender", "signature")
 _DRAFT = struct.Struct("=6I23Q")
-_ORDERS = {it: ord(it.value) for it in Order}
+_METHOD_CALL, _METHOD_RETURN, _ERROR, _SIGNAL = map(int, MessageType)
 
 
 def build(
@@ -53,15 +54,9 @@ def build(
     no text; and Refused if no message has these parts, whose place counts from the first byte that
     they spell.
     """
-    if body is None:
-        body = spell_body("" if signature is None else signature, values, order)
-    elif values:
-        raise TypeError("a body is either values or bytes")
-    parts: dict[str, Any] = {"order": order, "body": body, "unix_fds": unix_fds}
-    parts |= {"type": type, "flags": flags, "serial": serial, "reply_serial": reply_serial}
-    parts |= {"path": path, "interface": interface, "member": member, "error_name": error_name}
-    parts |= {"destination": destination, "sender": sender, "signature": signature}
-    return _built(library.dbus_wire_build, (), parts, limits)
+    numbers = (type, flags, serial, reply_serial, unix_fds)
+    texts = (path, interface, member, error_name, destination, sender, signature)
+    return _with_body(values, order, numbers, texts, body, limits)
 
 
 def call(
@@ -83,9 +78,9 @@ def call(
 
     call(2, "RequestName", "su", "a.b", 0, path="/org/freedesktop/DBus", destination="org.freedesktop.DBus")
     """
-    parts: dict[str, Any] = {"path": path, "interface": interface, "destination": destination, "sender": sender}
-    parts |= {"flags": flags, "order": order, "unix_fds": unix_fds, "body": body, "limits": limits}
-    return build(MessageType.METHOD_CALL, serial, signature, *values, member=member, **parts)
+    numbers = (_METHOD_CALL, flags, serial, None, unix_fds)
+    texts = (path, interface, member, None, destination, sender, signature)
+    return _with_body(values, order, numbers, texts, body, limits)
 
 
 def signal(
@@ -107,9 +102,9 @@ def signal(
 
     signal(7, "/a", "a.b", "Changed", "su", "x", 1)
     """
-    parts: dict[str, Any] = {"path": path, "interface": interface, "destination": destination, "sender": sender}
-    parts |= {"flags": flags, "order": order, "unix_fds": unix_fds, "body": body, "limits": limits}
-    return build(MessageType.SIGNAL, serial, signature, *values, member=member, **parts)
+    numbers = (_SIGNAL, flags, serial, None, unix_fds)
+    texts = (path, interface, member, None, destination, sender, signature)
+    return _with_body(values, order, numbers, texts, body, limits)
 
 
 def reply_to(
@@ -130,8 +125,9 @@ def reply_to(
     Its reply serial is the call's serial, its destination the call's sender, if it has one, and its
     byte order the call's; and it expects no reply itself.
     """
-    parts: dict[str, Any] = {"sender": sender, "flags": flags, "unix_fds": unix_fds, "body": body, "limits": limits}
-    return build(MessageType.METHOD_RETURN, serial, signature, *values, **_of_reply(call), **parts)
+    numbers = (_METHOD_RETURN, flags, serial, call.serial, unix_fds)
+    texts = (None, None, None, None, call.sender, sender, signature)
+    return _with_body(values, call.order, numbers, texts, body, limits)
 
 
 def error_to(
@@ -150,13 +146,9 @@ def error_to(
 
     error_to(call, 7, "org.freedesktop.DBus.Error.UnknownMethod", "s", "there is no Greet")
     """
-    parts: dict[str, Any] = {"sender": sender, "flags": flags, "unix_fds": unix_fds, "body": body, "limits": limits}
-    return build(MessageType.ERROR, serial, signature, *values, error_name=name, **_of_reply(call), **parts)
-
-
-def _of_reply(call: Message) -> dict[str, Any]:
-    """The parts of a reply that the call says."""
-    return {"order": call.order, "reply_serial": call.serial, "destination": call.sender}
+    numbers = (_ERROR, flags, serial, call.serial, unix_fds)
+    texts = (None, None, None, name, call.sender, sender, signature)
+    return _with_body(values, call.order, numbers, texts, body, limits)
 
 
 def rebuild(message: Message, *, limits: Limits | None = None, **changes: Any) -> Message:
@@ -167,41 +159,69 @@ def rebuild(message: Message, *, limits: Limits | None = None, **changes: Any) -
     Fields that the message does not have come last, in the order of their codes. With no changes it
     is the same message, byte for byte. Raises what `build` raises.
     """
-    parts = {name: getattr(message, name) for name in (*_NUMBERS, *_TEXTS)}
-    parts["body"] = message.body_bytes
+    parts = {name: getattr(message, name) for name in (*_NUMBERS, *_TEXTS)} | {"body": message.body_bytes}
     if unknown := changes.keys() - parts.keys():
         raise TypeError(f"a message has no part {min(unknown)!r} to change")
-    changed = parts | changes | {"order": message.order}
-    return _built(library.dbus_wire_rebuild, (message.data, len(message.data)), changed, limits)
+    parts |= changes
+    numbers, texts = (tuple(map(parts.get, names)) for names in (_NUMBERS, _TEXTS))
+    return _built(message, message.order, numbers, texts, parts["body"], limits)
 
 
-def _built(function: Any, of: tuple[Any, ...], parts: dict[str, Any], limits: Limits | None) -> Message:
-    """The message that the library's call makes of the parts, and of a message and its length, if it
-    changes one."""
-    order = _ORDERS[order_of(parts["order"])]
-    numbers = [0 if parts[name] is None else uint32_of(name, parts[name]) for name in _NUMBERS]
-    texts = [None if parts[name] is None else text_of(name, parts[name]) for name in _TEXTS]
-    if not isinstance(parts["body"], (bytes, bytearray, memoryview)):
-        raise bad_value("body", "bytes, a bytearray or a memoryview", parts["body"])
-    body = as_bytes(parts["body"])
-    # The draft's texts and its body, in one row.
-    row = b"".join((*filter(None, texts), body))
-    at = ctypes.c_void_p.from_buffer(ctypes.c_char_p(row)).value or 0
+def _with_body(
+    values: tuple[Any, ...],
+    order: Order | str,
+    numbers: tuple[Any, ...],
+    texts: tuple[Any, ...],
+    body: Bytes | None,
+    limits: Limits | None,
+) -> Message:
+    """The message of these parts, in the order of their names above, with the values or the body."""
+    if body is None:
+        signature = texts[-1]
+        body = spell_body("" if signature is None else signature, values, order)
+    elif values:
+        raise TypeError("a body is either values or bytes")
+    return _built(None, order, numbers, texts, body, limits)
+
+
+def _built(
+    of: Message | None,
+    order: Order | str,
+    numbers: tuple[Any, ...],
+    texts: tuple[Any, ...],
+    body: Bytes,
+    limits: Limits | None,
+) -> Message:
+    """The message of these parts, in the order of their names above; of another message that they
+    change, if there is one."""
+    number, given, other = ord(order_of(order)), limits_struct(limits), None if of is None else of.data
+    if objects and type(body) is bytes:
+        made = objects.build((number, *numbers, *texts), body, ctypes.addressof(given), other)
+        if made is not None:
+            return Message._of(made, SPECIFICATION, 0)
+    row = [number, *[0 if it is None else uint32_of(name, it) for name, it in zip(_NUMBERS, numbers)]]
+    encoded = [b"" if it is None else text_of(name, it) for name, it in zip(_TEXTS, texts)]
+    if not isinstance(body, (bytes, bytearray, memoryview)):
+        raise bad_value("body", "bytes, a bytearray or a memoryview", body)
+    body = as_bytes(body)
+    # The draft's texts and its body, one after another.
+    joined = b"".join((*encoded, body))
+    at = ctypes.c_void_p.from_buffer(ctypes.c_char_p(joined)).value or 0
     places: list[int] = []
-    for text in texts:
-        length = 0 if text is None else len(text)
-        places += at, length, text is not None
-        at += length
-    draft = byref(_library.Draft.from_buffer_copy(_DRAFT.pack(order, *numbers, *places, at, len(body))))
+    for text, it in zip(encoded, texts):
+        places += at, len(text), it is not None
+        at += len(text)
+    draft = byref(_library.Draft.from_buffer_copy(_DRAFT.pack(*row, *places, at, len(body))))
     # Each of seven texts has 16 bytes beside its own at most, and so has each number, the fixed
     # header and the body.
-    room = sum(of[1:]) + len(row) + 11 * 16
-    out, told, limit = ctypes.create_string_buffer(room), _library.Checked(), byref(limits_struct(limits))
-    given = (*of, limit, draft) if of else (draft, limit)
-    answer = function(*given, out, room, byref(told))
+    room = len(other or b"") + len(joined) + 11 * 16
+    out, told = ctypes.create_string_buffer(room), _library.Checked()
+    if other is None:
+        answer = library.dbus_wire_build(draft, byref(given), out, room, byref(told))
+    else:
+        answer = library.dbus_wire_rebuild(other, len(other), byref(given), draft, out, room, byref(told))
     if answer == NO_MEMORY:
         raise MemoryError
     if answer != OK:
         raise refused(told.offset, told.reason, told.field)
-    decoded = tuple(text if text is None else text.decode() for text in texts)
-    return Message._made(out.raw[: told.length], (order, *numbers), decoded)
+    return Message._made(out.raw[: told.length], (*row, *[None if it is None else str.__str__(it) for it in texts]))

@@ -91,6 +91,14 @@ class LinePlace(ctypes.Structure):
     _fields_ = [(name, c_uint64) for name in ("number", "offset", "time", "has_time")]
 
 
+class Writer(ctypes.Structure):
+    _fields_ = [("length", c_uint64), ("order", c_uint32), ("reserved", c_uint32)]
+
+
+class Array(ctypes.Structure):
+    _fields_ = [(name, c_uint64) for name in ("length_at", "start")]
+
+
 class TextChecked(ctypes.Structure):
     _fields_ = [("offset", c_uint64), ("is_too_long", c_uint32), ("reserved", c_uint32)]
 
@@ -149,6 +157,7 @@ class Addresses(ctypes.Structure):
 _MESSAGE = (c_char_p, c_size_t, POINTER(Limits))
 _ITEMS = (POINTER(FlatItem), c_size_t, POINTER(c_uint64), POINTER(Checked))
 _ADDRESS = (c_char_p, c_size_t, c_uint64)
+_WRITER = (c_char_p, c_size_t, POINTER(Writer))
 _CALLS = {
     "version": (c_uint32,),
     "specification_limits": (None, POINTER(Limits)),
@@ -164,6 +173,12 @@ _CALLS = {
     "swap": (c_uint32, *_MESSAGE, c_uint32, c_char_p, c_size_t, POINTER(Checked)),
     "build": (c_uint32, POINTER(Draft), POINTER(Limits), c_char_p, c_size_t, POINTER(Checked)),
     "rebuild": (c_uint32, *_MESSAGE, POINTER(Draft), c_char_p, c_size_t, POINTER(Checked)),
+    "put_number": (c_uint32, *_WRITER, c_uint32, c_uint64),
+    "put_text": (c_uint32, *_WRITER, c_char_p, c_size_t),
+    "put_signature": (c_uint32, *_WRITER, c_char_p, c_size_t),
+    "begin_struct": (c_uint32, *_WRITER),
+    "open_array": (c_uint32, *_WRITER, c_uint32, POINTER(Array)),
+    "close_array": (c_uint32, *_WRITER, POINTER(Array)),
     "text_check": (c_uint32, c_uint32, c_char_p, c_size_t, POINTER(TextChecked)),
     "checker_new": (c_uint32, POINTER(Limits), POINTER(Checker)),
     "checker_take": (c_uint32, POINTER(Checker), c_char_p, c_size_t, POINTER(Taken)),

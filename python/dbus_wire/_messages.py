@@ -12,6 +12,7 @@ from functools import cached_property, lru_cache
 from typing import Any, Iterator, Protocol
 
 from . import _library
+from ._compiled import objects
 from ._errors import bad_json, refused, truncated
 from ._library import FIXED_HEADER_LENGTH, NO_MEMORY, NO_ROOM, PARTIAL, REASON_TRAILING, REFUSED, Bytes, as_bytes, library
 from ._limits import Limits, limits_struct
@@ -33,7 +34,7 @@ class MessageType(enum.IntEnum):
 _TYPES = {int(it): it for it in MessageType}
 # The members of _library.Parts and of the texts in it, one after another.
 _PARTS = struct.Struct("=2Q6I21Q")
-_ORDERS = {ord(it.value): it for it in Order}
+_ORDERS = {ord(it): it for it in Order}
 
 
 class MessageFlag(enum.IntFlag):
@@ -81,17 +82,20 @@ class Message:
     @classmethod
     def _of(cls, data: bytes, limits: _library.Limits, at: int) -> Message:
         """The one message that the bytes are, which are at this place of the input."""
+        if objects and (row := objects.parts_of(data, ctypes.addressof(limits))):
+            return cls._made(data, row)
         parts, told = _library.Parts(), _library.Checked()
         _check_all(library.dbus_wire_parts_of(data, len(data), byref(limits), byref(parts), byref(told)), told, data, at)
         found = _PARTS.unpack(parts)
         places = zip(found[8::3], found[9::3], found[10::3])
-        texts = tuple(text_at(data, offset, length) if is_there else None for offset, length, is_there in places)
-        return cls._made(data, found[2:8], texts)
+        texts = (text_at(data, offset, length) if is_there else None for offset, length, is_there in places)
+        return cls._made(data, (*found[2:8], *texts))
 
     @classmethod
-    def _made(cls, data: bytes, numbers: tuple[int, ...], texts: tuple[str | None, ...]) -> Message:
-        """The message of these bytes, which are one, by its parts in the library's order."""
-        order, kind, flags, serial, reply_serial, unix_fds = numbers
+    def _made(cls, data: bytes, row: tuple[Any, ...]) -> Message:
+        """The message of these bytes, which are one, by its parts in the library's order: numbers,
+        and texts or None."""
+        order, kind, flags, serial, reply_serial, unix_fds, *texts = row
         path, interface, member, error_name, destination, sender, signature = texts
         message = object.__new__(cls)
         message.__dict__.update(
@@ -126,18 +130,21 @@ class Message:
         -0.0, it is the list of its pairs, in their order. (The specification has keys differ, and
         does not ask readers to look.)
         """
-        return self._values(library.dbus_wire_flatten)
+        return self._values(False)
 
     @cached_property
     def header_fields(self) -> list[tuple[int, Any]]:
         """The header fields, each as its code and its value, in their order in the message: also
         those whose codes the specification does not name. The values are as those of the body.
         """
-        [fields] = self._values(library.dbus_wire_flatten_fields)
+        [fields] = self._values(True)
         return [(code, variant.value) for code, variant in fields]
 
-    def _values(self, flatten: Any) -> list[Any]:
-        """The values of the part that the call flattens."""
+    def _values(self, is_header: bool) -> list[Any]:
+        """The values of the body, or the one value of the header fields."""
+        if objects and (found := objects.values(self.data, is_header)) is not None:
+            return found
+        flatten = library.dbus_wire_flatten_fields if is_header else library.dbus_wire_flatten
         data, limits, count, told = self.data, byref(limits_struct(None)), ctypes.c_uint64(), _library.Checked()
         items = (_library.FlatItem * 64)()
         while flatten(data, len(data), limits, 0, items, len(items), byref(count), byref(told)) == NO_ROOM:

@@ -133,8 +133,9 @@ _NUMBERS: dict[int, Callable[[int], Any]] = {
 }
 _TEXTS: dict[int, Callable[[str], str]] = {ord("s"): str, ord("o"): ObjectPath, ord("g"): Signature}
 _VARIANT, _ARRAY, _ENTRY = b"va{"
-# What `struct` calls the elements of an array of numbers, and how many bytes each has.
-_FORMS = {ord(code): (form, struct.calcsize(f"={form}")) for code, form in zip("bnqiuxtdh", "IhHiIqQdI")}
+# What `struct` calls the elements of an array of numbers, and how many bytes each has; and an order.
+_FORMS = {ord(code): (form, struct.calcsize(f"={form}")) for code, form in zip("ybnqiuxtdh", "BIhHiIqQdI")}
+_ORDERS = {ord(Order.LITTLE): "<", ord(Order.BIG): ">"}
 # A FlatItem: its number, its place and its length, its code, and its elements' first code.
 _ITEM = struct.Struct("=3Q2I")
 
@@ -158,10 +159,10 @@ def _values_of(data: bytes, order: str, rows: list[tuple[int, ...]], at: int, en
             values.append(_NUMBERS[code](number))
         elif code in _TEXTS:
             values.append(_TEXTS[code](text_at(data, offset, length)))
-        elif code == _ARRAY and element in _FORMS:
-            values.append(_numbers(data[offset : offset + length], order, element))
         elif code == _ARRAY and element == ord("y"):
             values.append(data[offset : offset + length])
+        elif code == _ARRAY and element in _FORMS:
+            values.append(_numbers(data[offset : offset + length], order, element))
         else:
             parts = _values_of(data, order, rows, at, at + number)
             signature = text_at(data, offset, length) if code == _VARIANT else ""
@@ -172,8 +173,14 @@ def _values_of(data: bytes, order: str, rows: list[tuple[int, ...]], at: int, en
 
 def _numbers(data: bytes, order: str, code: int) -> list[Any]:
     form, size = _FORMS[code]
-    numbers = struct.unpack(f"{'<' if order == 'l' else '>'}{len(data) // size}{form}", data)
+    numbers = struct.unpack(f"{_ORDERS[ord(order)]}{len(data) // size}{form}", data)
     return list(map(_NUMBERS[code], numbers)) if code in b"bh" else list(numbers)
+
+
+def packed_numbers(order: int, element: str, numbers: list[Any] | tuple[Any, ...]) -> bytes:
+    """The elements of an array of numbers as they are in a message of the order. Raises struct.error
+    if one is out of range."""
+    return struct.pack(f"{_ORDERS[order]}{len(numbers)}{_FORMS[ord(element)][0]}", *numbers)
 
 
 def _container(code: int, signature: str, parts: list[Any], element: int) -> Any:
