@@ -3,7 +3,10 @@
 more at 8N than at N. The least of three runs, less what the same stream takes under one rule that matches nothing. With RULES, bench/rules.c
 as `make bench-c` builds it, also the microseconds that it takes to find ten of N to 8N rules of each key, for one message.
 
-docs/SPEED.md says what the rows are: many, learned, owned, alone, others, keys, reach. flood is `check --resync` over N
+many: N rules of N interfaces, none of which matches. learned, owned: N rules of N names, whose owners come from the
+stream, or from --owner. alone: the same, of one connection. others: N rules by other senders than the one connection,
+which owns N names, over 4,000 signals. keys, reach: 100 rules with N keys argN, or with the one key argN behind N
+values, over 2,000 signals of 64 texts. flood is `check --resync` over N
 messages of 56 bytes, each of which states all that follows and fails at its end, with a whole one behind each.
 """
 

@@ -1,5 +1,6 @@
 #!/usr/bin/env python3
-"""options.py [--check]: writes the synopsis of the manual page, and what shells complete after a command.
+"""options.py [--check]: writes the synopsis of the manual page, which command takes which option there, and what shells
+complete after a command.
 
 It makes them of the texts of help, cases/data/*.help, which the program prints, and of the comments of the flags.
 """
@@ -18,7 +19,8 @@ OPTION = re.compile(r"(?<![\w-])(--[a-z]+(?:-[a-z]+)*)")
 # A line of help: the option, with its letter if it has one, or the rules; the value, and the text.
 HELP_LINE = re.compile(r"^  (?:-[a-zA-Z], |    |[<[])(--[a-z-]+|RULE)(?:[]>]\.\.\.)?(?: <(.*?)>)? +(.*)", re.M)
 LIMITS = {"--max-message", "--max-array", "--max-depth", "--fds"}
-SYNOPSIS = re.compile(r"(?<=\n\.SH SYNOPSIS\n).*?(?=\.B dbus-wire help\n)", re.S)
+SYNOPSIS = re.compile(r"(?<=\n\.SH SYNOPSIS\n\.nf\n).*?(?=\\fBdbus\\-wire help)", re.S)
+TAKES = re.compile(r"(?<=\n\.SS Which command takes which\n).*?(?=\.SS )", re.S)
 VALUES = re.compile(r"(?<=    case \$option in\n).*?(?=    esac\n)", re.S)
 CASES = re.compile(r"(?<=    case \$command in\n).*?(?=        help\))", re.S)
 SEEN = re.compile(r"(?:complete -c dbus-wire -n '__fish_seen_subcommand_from (?!help').*\n)+")
@@ -48,19 +50,22 @@ def options_of(command):
             yield Option(place, name, value, shown, unit, words, plain, "any number" in text)
 
 
-def synopsis(command, its):
-    """The lines of the manual page for a command."""
-    usage = re.search(r"^Usage: .*", (DATA / f"{command}.help").read_text(), re.M)[0]
-    lines = [f".B {PROGRAM} {command}"]
-    for it in (it for it in its if it.name not in LIMITS):
-        name, value = it.name.replace("-", "\\-"), it.value.replace("=", " = ")
-        if name == "RULE":
-            lines.append(".IR RULE ..." if "<RULE>" in usage else ".RI [ RULE ...]")
-        elif f"{it.name} <" in usage:
-            lines = [f"{lines[0]} {name}", f".I {value}"]
-        else:
-            lines += [f".RB [ {name}", f".IR {value} ]{'...' * it.is_many}"] if value else [f".RB [ {name} ]"]
-    return "\n".join([*lines, *[".RI [ LIMITS ]"] * any(it.name in LIMITS for it in its), ".br\n"])
+def synopsis(command):
+    """The line of the manual page for a command: its usage."""
+    usage = re.search(r"^Usage: (.*) < FILE", (DATA / f"{command}.help").read_text(), re.M)[1].replace("-", "\\-")
+    bold = re.sub(r"^\S+ \S+|\\-\\-\w+", r"\\fB\g<0>\\fP", usage)
+    return re.sub(r"<?\b([A-Z]{2,})\b>?", r"\\fI\1\\fP", bold) + "\n"
+
+
+def takers(seen):
+    """The rows of the manual page: commands, and the options that these take and no other does."""
+    users, rows = collections.defaultdict(set), collections.defaultdict(list)
+    for it in sorted(seen):
+        users["\\fILIMITS\\fP" if it.name in LIMITS else it.name.replace("-", "\\-")].update(seen[it])
+    for name in users.keys() - {"RULE"}:
+        rows[", ".join(it for it in commands() if it in users[name])].append(name)
+    told = sorted(rows.items(), key=lambda it: (-it[0].count(","), it))
+    return "".join(f".TP\n.B {its}\n{', '.join(sorted(names))}\n" for its, names in told)
 
 
 def zsh(it):
@@ -77,7 +82,7 @@ def made():
     for command in (it for it in commands() if it != "help"):
         its = sorted(options_of(command))
         words = " ".join(it.name for it in its if it.name != "RULE")
-        tables[MANUAL, SYNOPSIS] += synopsis(command, its)
+        tables[MANUAL, SYNOPSIS] += synopsis(command)
         ruled = "is_ruled=1 " * any(it.name == "RULE" for it in its)
         tables[BASH, CASES] += f"        {command}) {ruled}options='{words} -h --help' ;;\n"
         tables[ZSH, CASES] += f"        {command})\n            _arguments $help{''.join(map(zsh, its))}\n            ;;\n"
@@ -89,6 +94,7 @@ def made():
         how = f"-x -a '{it.plain}'" if it.plain else "-x" if it.value else "-f"
         told = "-f -a '(__dbus_wire_rule)'" if it.name == "RULE" else f"-l {it.name[2:]} {how} -d '{it.shown}'"
         tables[FISH, SEEN] += f"complete -c {PROGRAM} -n '__fish_seen_subcommand_from {' '.join(seen[it])}' {told}\n"
+    tables[MANUAL, TAKES] = takers(seen)
     texts = {path: path.read_text() for path, _ in tables}
     for (path, part), table in tables.items():
         texts[path] = part.sub(lambda _: table, texts[path], count=1)
