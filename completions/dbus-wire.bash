@@ -51,12 +51,12 @@ _dbus_wire() {
     case $command in
         show) options='--time --escape --json --explain --keep-going --resync --resync-window --skip --limit --check-rest --handshake --max-message --max-array --max-depth --fds -h --help' ;;
         json) options='--no-time --safe-integers --json --explain --keep-going --resync --resync-window --skip --limit --check-rest --handshake --max-message --max-array --max-depth --fds -h --help' ;;
-        list) is_ruled=1 options='--width --invert --may-match --owner --learn-owners --json --explain --keep-going --resync --resync-window --skip --limit --check-rest --handshake --max-message --max-array --max-depth --fds -h --help' ;;
+        list) is_ruled=1 options='--width --invert --may-match --as-bus --owner --learn-owners --json --explain --keep-going --resync --resync-window --skip --limit --check-rest --handshake --max-message --max-array --max-depth --fds -h --help' ;;
         check) options='--json --explain --keep-going --resync --resync-window --handshake --max-message --max-array --max-depth --fds -h --help' ;;
         count) options='--json --explain --keep-going --resync --resync-window --handshake --max-message --max-array --max-depth --fds -h --help' ;;
         calls) options='--members --unanswered --errors --slower --json --explain --keep-going --resync --resync-window --handshake --max-message --max-array --max-depth --fds -h --help' ;;
         swap) options='--to --raw --json --explain --handshake --max-message --max-array --max-depth --fds -h --help' ;;
-        filter) is_ruled=1 options='--invert --may-match --owner --learn-owners --raw --json --explain --keep-going --resync --resync-window --skip --limit --check-rest --handshake --max-message --max-array --max-depth --fds -h --help' ;;
+        filter) is_ruled=1 options='--invert --may-match --as-bus --owner --learn-owners --raw --json --explain --keep-going --resync --resync-window --skip --limit --check-rest --handshake --max-message --max-array --max-depth --fds -h --help' ;;
         encode) options='--to --safe-integers --explain --keep-going --max-line --max-message --max-array --max-depth --fds -h --help' ;;
         handshake) options='--side -h --help' ;;
         help)

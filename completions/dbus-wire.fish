@@ -46,6 +46,7 @@ complete -c dbus-wire -n '__fish_seen_subcommand_from calls' -l errors -f -d 'Li
 complete -c dbus-wire -n '__fish_seen_subcommand_from calls' -l slower -x -d 'List the calls replied to later'
 complete -c dbus-wire -n '__fish_seen_subcommand_from list filter' -l invert -f -d 'Write the messages that match no rule'
 complete -c dbus-wire -n '__fish_seen_subcommand_from list filter' -l may-match -f -d 'Write those that a rule may match'
+complete -c dbus-wire -n '__fish_seen_subcommand_from list filter' -l as-bus -f -d 'Match as a bus does'
 complete -c dbus-wire -n '__fish_seen_subcommand_from list filter' -l owner -x -d 'The owner of a well-known name'
 complete -c dbus-wire -n '__fish_seen_subcommand_from list filter' -l learn-owners -f -d 'Learn owners from the input'
 complete -c dbus-wire -n '__fish_seen_subcommand_from swap filter' -l raw -f -d 'Write raw messages, also of a file'

@@ -1,8 +1,8 @@
 -- Selections: of each message it is decided whether it is selected, and they are equal exactly if
 -- they say the same.
-use Rattle.std.proofs.Common.{◌≡◌, Bool, true, false, List, [], ◌∷◌, map, inl, inr, refl, sym, arith}
+use Rattle.std.proofs.Common.{◌≡◌, ◌∙◌, Bool, true, false, List, [], ◌∷◌, map, cond, inl, inr, refl, sym, ap, arith}
 use Rattle.std.specs.Bool.{Decides}
-use Rattle.std.specs.List.{AllZip}
+use Rattle.std.specs.List.{AllZip, filter}
 use Rattle.std.specs.declared.alloc.Global.{Global}
 use Rattle.std.specs.Cmp.Lexicographic.{pointwise}
 use Rattle.std.proofs.lemmas.Bool.{false≢true}
@@ -19,7 +19,7 @@ use Rattle.dbus_match.proofs.Decided.{decided}
 use Rattle.dbus_rule.proofs.PairChoices.{Either, one_of}
 use Rattle.dbus_match.proofs.Noted.{owners_equal}
 use Rattle.dbus_rule.proofs.SortedConditions.{rules_equal}
-use Rattle.cli_options.specs.Selections.{AreSameSelection, Holds, OrInverted, SelectsBy, SomeHolds, AreSameCommand}
+use Rattle.cli_options.specs.Selections.{AreSameSelection, Holds, OrInverted, SelectsBy, SomeHolds, AreSameCommand, asked_rules, bus_rules, eavesdrops}
 use Rattle.cli_options.specs.contracts.selection.QuestionPartialEq.TheImpl as question_eq
 use Rattle.cli_options.specs.declared.selection.Question.{Question}
 use Rattle.cli_options.specs.declared.selection.Question.TheVariants as questions
@@ -47,8 +47,24 @@ inverted_decided false e = e
 inverted_decided true (inl p) = inr (λ n. n p)
 inverted_decided true (inr n) = inl n
 
+-- the keys and values of rules that eavesdrop
+eavesdropping_pairs : (rules : List (Rule Global)) → map rule_pairs (bus_rules true rules) ≡ filter eavesdrops (map rule_pairs rules)
+eavesdropping_pairs [] = refl
+eavesdropping_pairs (r ∷ rules) =
+    let kept : (b : Bool) → map rule_pairs (cond b (r ∷ bus_rules true rules) (bus_rules true rules)) ≡ cond b (rule_pairs r ∷ map rule_pairs (bus_rules true rules)) (map rule_pairs (bus_rules true rules)) =
+    elim [
+      | false ↦ refl
+      | true ↦ refl
+    ] in
+    kept (eavesdrops (rule_pairs r)) ∙ ap (λ l. cond (eavesdrops (rule_pairs r)) (rule_pairs r ∷ l) l) (eavesdropping_pairs rules)
+
+-- a bus asks the same of rules that are the same
+pub same_bus_rules : (b : Bool) (rules others : List (Rule Global)) → map rule_pairs rules ≡ map rule_pairs others → map rule_pairs (bus_rules b rules) ≡ map rule_pairs (bus_rules b others)
+same_bus_rules false rules others e = e
+same_bus_rules true rules others e = eavesdropping_pairs rules ∙ (ap (filter eavesdrops) e ∙ sym (eavesdropping_pairs others))
+
 pub selected : (s : Selection) (os : List Ownership) (m : MessageTree) → Either (SelectsBy s os m)
-selected s os m = inverted_decided s.is_inverted (some_decided s.question s.rules.items m os)
+selected s os m = inverted_decided s.is_inverted (some_decided s.question (asked_rules s m) m os)
 
 -- ---- what is the same
 
@@ -80,12 +96,13 @@ pub selections_equal : (a b : Selection) → Decides (selection_eq.ghosts.eq a b
 selections_equal a b =
     let rules = mapped_decides rule_pairs _ rules_equal a.rules.items b.rules.items in
     let owners = mapped_decides ownership _ owners_equal a.owners.items b.owners.items in
-    let last = Decides-and _ _ owners (bools_equal a.learns b.learns) in
+    let ends = Decides-and _ _ (bools_equal a.learns b.learns) (bools_equal a.as_bus b.as_bus) in
+    let last = Decides-and _ _ owners ends in
     let asked = Decides-and _ _ (questions_equal a.question b.question) last in
     let rest = Decides-and _ _ (bools_equal a.is_inverted b.is_inverted) asked in
     let all = Decides-and _ _ rules rest in (
-      λ t. record { rules = (all.0 t).0; inverted = (all.0 t).1.0; question = (all.0 t).1.1.0; owners = (all.0 t).1.1.1.0; learns = (all.0 t).1.1.1.1 },
-      λ h. all.1 (h.rules, (h.inverted, (h.question, (h.owners, h.learns)))),
+      λ t. record { rules = (all.0 t).0; inverted = (all.0 t).1.0; question = (all.0 t).1.1.0; owners = (all.0 t).1.1.1.0; learns = (all.0 t).1.1.1.1.0; as_bus = (all.0 t).1.1.1.1.1 },
+      λ h. all.1 (h.rules, (h.inverted, (h.question, (h.owners, (h.learns, h.as_bus))))),
     )
 
 -- Commands are equal exactly where they are the same.

@@ -9,7 +9,7 @@ use Rattle.clap.specs.declared.builder.command.Command.{Command}
 use Rattle.clap.specs.declared.builder.command.Command.TheViews.{out-Command}
 use Rattle.clap.specs.declared.builder.value_parser.ValueParser.TheVariants.{Signed}
 use Rattle.cli_options.specs.declared.flag.Flag.{Flag}
-use Rattle.cli_options.specs.declared.flag.Flag.TheVariants.{Order, OrderOfLines, Side, Time, Escape, NoTime, SafeIntegers, SafeLines, Width, Members, Unanswered, Errors, Slower, Invert, MayMatch, Owner, LearnOwners, Raw, Json, LinesJson, Explain, KeepGoing, LinesKeepGoing, Resync, ResyncWindow, MaxLine, Skip, Limit, CheckRest, Rules, NeededRules, Handshake, MaxMessage, MaxArray, MaxDepth, Fds}
+use Rattle.cli_options.specs.declared.flag.Flag.TheVariants.{Order, OrderOfLines, Side, Time, Escape, NoTime, SafeIntegers, SafeLines, Width, Members, Unanswered, Errors, Slower, Invert, MayMatch, AsBus, Owner, LearnOwners, Raw, Json, LinesJson, Explain, KeepGoing, LinesKeepGoing, Resync, ResyncWindow, MaxLine, Skip, Limit, CheckRest, Rules, NeededRules, Handshake, MaxMessage, MaxArray, MaxDepth, Fds}
 use Rattle.dbus_value_model.specs.declared.limits.TheConstants.{ARRAY_LIMIT, DEPTH_LIMIT, MESSAGE_LIMIT}
 
 -- an option with one value
@@ -53,6 +53,7 @@ rule Errors = flag_rule (codes "errors")
 rule Slower = limit_rule (codes "slower") 4294967295
 rule Invert = flag_rule (codes "invert")
 rule MayMatch = flag_rule (codes "may-match")
+rule AsBus = flag_rule (codes "as-bus")
 rule Owner = many_rule (codes "owner")
 rule LearnOwners = flag_rule (codes "learn-owners")
 rule Raw = flag_rule (codes "raw")
@@ -104,12 +105,12 @@ bare_app = on_top (λ s. record s { subcommand_required = true; has_version = tr
 abbrev pub commands : List (Text × List Flag)
 commands = (codes "show", Time ∷ Escape ∷ window)
     ∷ (codes "json", NoTime ∷ SafeIntegers ∷ window)
-    ∷ (codes "list", Width ∷ Rules ∷ Invert ∷ MayMatch ∷ Owner ∷ LearnOwners ∷ window)
+    ∷ (codes "list", Width ∷ Rules ∷ Invert ∷ MayMatch ∷ AsBus ∷ Owner ∷ LearnOwners ∷ window)
     ∷ (codes "check", going LinesJson)
     ∷ (codes "count", going LinesJson)
     ∷ (codes "calls", Members ∷ Unanswered ∷ Errors ∷ Slower ∷ going LinesJson)
     ∷ (codes "swap", Order ∷ Raw ∷ options Json)
-    ∷ (codes "filter", NeededRules ∷ Invert ∷ MayMatch ∷ Owner ∷ LearnOwners ∷ Raw ∷ window)
+    ∷ (codes "filter", NeededRules ∷ Invert ∷ MayMatch ∷ AsBus ∷ Owner ∷ LearnOwners ∷ Raw ∷ window)
     ∷ (codes "encode", OrderOfLines ∷ SafeLines ∷ Explain ∷ LinesKeepGoing ∷ MaxLine ∷ limits)
     ∷ (codes "handshake", Side ∷ [])
     ∷ []

@@ -1,4 +1,5 @@
--- The command and the settings that words name, and the rule among them that is refused.
+-- The command and the settings that words name, and the rule among them that is refused: D-Bus
+-- Specification, "Match Rules".
 use Rattle.std.specs.Prelude.{◌≡◌, ◌↔◌, ◌⊎◌, ℕ, true, false, List, [], ◌∷◌, ◌++◌, Option, Some, None, option_map, unwrap_or, codes, string_bytes}
 use Rattle.std.specs.List.{AllByRecursion, AllZip}
 use Rattle.std.specs.declared.alloc.Global.{Global}
@@ -56,13 +57,15 @@ HasQuestion rows questions.Matches = IsGiven (codes "may-match") rows → ⊥
 HasQuestion rows questions.MayMatch = IsGiven (codes "may-match") rows
 
 -- the words after `list` or `filter` are texts that spell the rules, in their order; and so are the
--- owners given, and it learns others if it is to; and what is asked of each rule is what they name
+-- owners given, and it learns others if it is to; and what is asked of each rule is what they name,
+-- as at a bus if it is to be
 pub record IsSelectionGiven (rows : List Row) (selection : Selection) : Type 0 where
   pub rules : AreRulesOf (rules_given rows) selection.rules.items
   pub inverted : (selection.is_inverted ≡ true) ↔ IsGiven (codes "invert") rows
   pub question : HasQuestion rows selection.question
   pub owners : AreOwnersOf (words_of (codes "owner") rows) selection.owners.items
   pub learns : (selection.learns ≡ true) ↔ IsGiven (codes "learn-owners") rows
+  pub as_bus : (selection.as_bus ≡ true) ↔ IsGiven (codes "as-bus") rows
 
 -- the name of a subcommand and the words after it name the command; `show` writes times, and
 -- escapes hidden characters, if its flags are given, and `json` writes times if that flag is not,

@@ -1,9 +1,13 @@
 -- Which messages a selection selects.
--- D-Bus Specification, "Match Rules".
-use Rattle.std.specs.Prelude.{◌≡◌, ◌⊎◌, Bool, true, false, List, [], ◌∷◌, map}
+-- D-Bus Specification, "Match Rules" and "Eavesdropping".
+use Rattle.std.specs.Prelude.{◌≡◌, ℕ, ◌⊎◌, ◌&&◌, Bool, true, false, List, [], ◌∷◌, map, codes, is_some, if◌then◌else◌}
+use Rattle.std.specs.List.{filter, list_any}
+use Rattle.std.specs.Str.{bytes_eq}
 use Rattle.std.specs.declared.alloc.Global.{Global}
 use Rattle.dbus_message_model.specs.Messages.{MessageTree}
 use Rattle.dbus_message_model.specs.declared.field_code.TheConstants as field
+use Rattle.dbus_rule.specs.declared.key.Key.{Key}
+use Rattle.dbus_rule.specs.declared.key.Key.TheVariants.{Eavesdrop}
 use Rattle.dbus_rule.specs.declared.rule.Rule.{Rule}
 use Rattle.dbus_rule.specs.Rules.{Pair}
 use Rattle.dbus_match.specs.Matching.{Matches, Ownership, ownerships}
@@ -31,27 +35,46 @@ abbrev pub OrInverted : Bool → Type 0 → Type 0
 OrInverted false P = P
 OrInverted true P = P → ⊥
 
--- the selection selects the message with these owners: what it asks holds of some rule of it; or,
--- inverted, of none
-abbrev pub SelectsBy : Selection → List Ownership → MessageTree → Type 0
-SelectsBy selection os m = OrInverted selection.is_inverted (SomeHolds selection.question selection.rules.items m os)
+-- the key and the value are `eavesdrop='true'`
+abbrev pub is_eavesdrop : Key → List ℕ → Bool
+is_eavesdrop Eavesdrop v = bytes_eq v (codes "true")
+is_eavesdrop k v = false
 
--- it is by this rule alone, if that matches, with no owners, and learns none
+-- a rule of these keys is for messages to others too
+abbrev pub eavesdrops : List Pair → Bool
+eavesdrops ps = list_any (λ p. is_eavesdrop p.key p.value) ps
+
+-- the rules that a bus asks of a message; of one with a DESTINATION, those that eavesdrop
+abbrev pub bus_rules : (has_destination : Bool) → List (Rule Global) → List (Rule Global)
+bus_rules has_destination rules = if has_destination then filter (λ rule. eavesdrops (rule_pairs rule)) rules else rules
+
+-- the rules that the selection asks of a message: all, or as at a bus
+abbrev pub asked_rules : Selection → MessageTree → List (Rule Global)
+asked_rules selection m = bus_rules (selection.as_bus && is_some (text_at field.DESTINATION m)) selection.rules.items
+
+-- the selection selects the message with these owners: what it asks holds of some rule that it asks;
+-- or, inverted, of none
+abbrev pub SelectsBy : Selection → List Ownership → MessageTree → Type 0
+SelectsBy selection os m = OrInverted selection.is_inverted (SomeHolds selection.question (asked_rules selection m) m os)
+
+-- it is by this rule alone, if that matches, not as at a bus, with no owners, and learns none
 pub record IsByRule (rule : Rule Global) (selection : Selection) : Type 0 where
   pub rules : map rule_pairs selection.rules.items ≡ rule_pairs rule ∷ []
   pub straight : selection.is_inverted ≡ false
   pub question : selection.question ≡ questions.Matches
   pub owners : selection.owners.items ≡ []
   pub fixed : selection.learns ≡ false
+  pub unbound : selection.as_bus ≡ false
 
 -- both have the same rules and owners, each in the same order, and ask the same, and both are
--- inverted, or neither is, and both learn, or neither does
+-- inverted, or neither is, and both learn, or neither does, and both ask as a bus, or neither does
 pub record AreSameSelection (a b : Selection) : Type 0 where
   pub rules : map rule_pairs a.rules.items ≡ map rule_pairs b.rules.items
   pub inverted : a.is_inverted ≡ b.is_inverted
   pub question : a.question ≡ b.question
   pub owners : ownerships a.owners.items ≡ ownerships b.owners.items
   pub learns : a.learns ≡ b.learns
+  pub as_bus : a.as_bus ≡ b.as_bus
 
 -- When two commands are the same: their names are, and so is what belongs to them.
 

@@ -43,7 +43,8 @@ use std::alloc::Global;
 /// window; without them it leaves no message out. `--check-rest` of these is set if it is among the
 /// words. `--width` of `list` is the number of cells of its lines; without it they have 80. The
 /// words that stand alone after `list` and `filter` are rules, and `--invert`, `--may-match`,
-/// `--owner` and `--learn-owners` say more of what they select; `list` without rules selects all messages.
+/// `--as-bus`, `--owner` and `--learn-owners` say more of what they select; `list` without rules has the
+/// one that matches all messages.
 /// `encode` takes the options of the limits, `--to` for the order of all messages, `--explain`,
 /// `--keep-going` and `--max-line`, in bytes; without it a line may have 1 GiB. `--safe-integers` of `json` and of
 /// `encode` is set if it is among the words.
@@ -280,6 +281,7 @@ fn selection_named(alloc: Global, inner: &ArgMatches) -> Result<Selection, Usage
         question: question_named(inner),
         owners,
         learns: is_given(inner, "learn-owners"),
+        as_bus: is_given(inner, "as-bus"),
     })
 }
 

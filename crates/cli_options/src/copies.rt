@@ -43,6 +43,7 @@ impl Clone for Selection {
             question: self.question,
             owners: self.owners.clone()?,
             learns: self.learns,
+            as_bus: self.as_bus,
         })
     }
 }

@@ -55,6 +55,8 @@ pub(crate) enum Flag {
     Invert,
     /// Write those that a rule may match
     MayMatch,
+    /// Match as a bus does
+    AsBus,
     /// The owner of a well-known name: NAME=UNIQUE
     Owner,
     /// Learn owners from the input
@@ -135,6 +137,7 @@ pub(crate) fn argument<'a>(alloc: Global, flag: Flag) -> Arg<'a>
             "Writes the messages that match none of the rules",
         ),
         Flag::MayMatch => set(alloc, "may-match").help("Asks whether rules may match, as a policy"),
+        Flag::AsBus => set(alloc, "as-bus").help("Matches as a bus: unicast only by eavesdrop"),
         Flag::Owner => many(alloc, "owner", "NAME=UNIQUE").help(
             "The owner of a name, as org.a.B=:1.7; any number",
         ),

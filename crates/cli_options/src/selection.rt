@@ -31,10 +31,13 @@ pub struct Selection {
     pub owners: Vec<Owner>,
     /// Whether a signal of the bus that names an owner replaces the old ones from then on.
     pub learns: bool,
+    /// Whether rules match as at a bus: a message with a DESTINATION is matched only by a rule with
+    /// `eavesdrop='true'`. D-Bus Specification, "Eavesdropping".
+    pub as_bus: bool,
 }
 
 impl Selection {
-    /// The messages that this rule matches, with no owners, and none is learned.
+    /// The messages that this rule matches, not as at a bus, with no owners, and none is learned.
     ///
     /// Returns `AllocError` only if an allocation failed.
     pub fn by_rule(alloc: Global, rule: Rule) -> Result<Selection, AllocError>
@@ -48,6 +51,7 @@ impl Selection {
             question: Question::Matches,
             owners: Vec::new(alloc),
             learns: false,
+            as_bus: false,
         })
     }
 }

@@ -131,9 +131,17 @@ fn with_command<'a>(
 pub(crate) fn wire<'a>(alloc: Global) -> Result<Command<'a>, AllocError>
     ensures { IfOk result (λ c. app_of c ≡ wire_app) }
 {
-    let list = [Width, Rules, Invert, MayMatch, Owner, LearnOwners];
+    let list = [Width, Rules, Invert, MayMatch, AsBus, Owner, LearnOwners];
     let calls = [Members, Unanswered, Errors, Slower];
-    let filter = [NeededRules, Invert, MayMatch, Owner, LearnOwners, Raw];
+    let filter = [
+        NeededRules,
+        Invert,
+        MayMatch,
+        AsBus,
+        Owner,
+        LearnOwners,
+        Raw,
+    ];
     let encode = [OrderOfLines, SafeLines, Explain, LinesKeepGoing, MaxLine];
     let show = with_window(alloc, command(alloc, "show", help::SHOW, &[Time, Escape]));
     let json = with_window(

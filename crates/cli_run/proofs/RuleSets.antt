@@ -1,8 +1,9 @@
 -- Rules in a set: of which messages what is asked holds by them.
-use Rattle.std.proofs.Common.{◌≡◌, ℕ, ◌+◌, ◌<◌, ◌⊎◌, Bool, true, false, not, List, [], ◌∷◌, Option, None, Some, Ordering, Less, Equal, Greater, cond, length, get_or, drop, inl, inr, ⊎_elim, refl, sym, ap, ◌∙◌, subst}
+use Rattle.std.proofs.Common.{◌≡◌, ℕ, ◌+◌, ◌<◌, ◌⊎◌, Bool, true, false, not, ◌||◌, List, [], ◌∷◌, map, Option, None, Some, Ordering, Less, Equal, Greater, cond, length, get_or, drop, inl, inr, ⊎_elim, refl, sym, ap, ◌∙◌, subst}
 use mathlib.Core.Bool.{beq}
 use Rattle.std.specs.Prelude.{◌↔◌, IfSome}
 use Rattle.std.specs.Bool.{Decides}
+use Rattle.std.specs.List.{list_any}
 use Rattle.std.specs.Map.{values_of}
 use Rattle.std.specs.Ordering.{is_eq, match_ordering}
 use Rattle.std.specs.declared.alloc.Global.{Global}
@@ -24,6 +25,7 @@ use Rattle.dbus_rule_set.specs.declared.handle.RuleHandle.{RuleHandle}
 use Rattle.cli_options.specs.Selections.{Holds, OrInverted, SomeHolds}
 use Rattle.cli_options.specs.declared.selection.Question.{Question}
 use Rattle.cli_options.specs.declared.selection.Question.TheVariants as questions
+use Rattle.cli_run.specs.RuleLists.{MatchAlike}
 
 abbrev Entries : Type 0
 Entries = List (RuleHandle × Rule Global)
@@ -87,6 +89,27 @@ module _ (q : Question) (m : MessageTree) (os : OwnerSet) (P : RuleHandle × Rul
 
   pub any_met : (es : Entries) (any : Bool) → Decides any (HoldsOfAny P es) → Decides any (Met q m (owners_in os) es)
   any_met es any d = (λ t. met es (d.0 t), λ s. d.1 (met_any es s))
+
+-- ---- rules that are the same
+
+pub any_mapped : {X Y : Type 0} (p : Y → Bool) (f : X → Y) (xs : List X) → list_any (λ x. p (f x)) xs ≡ list_any p (map f xs)
+any_mapped p f [] = refl
+any_mapped p f (x ∷ xs) = ap (λ b. p (f x) || b) (any_mapped p f xs)
+
+pub same_some : (q : Question) (rules others : List (Rule Global)) (m : MessageTree) (os : List Ownership) → map rule_pairs rules ≡ map rule_pairs others → SomeHolds q rules m os → SomeHolds q others m os
+same_some q [] [] m os e h = absurd h
+same_some q [] (r ∷ others) m os e h = absurd h
+same_some q (r ∷ rules) [] m os e h = absurd cc
+same_some q (r ∷ rules) (s ∷ others) m os e h =
+    let one : rule_pairs r ≡ rule_pairs s = cc in
+    let more : map rule_pairs rules ≡ map rule_pairs others = cc in
+    elim h [
+      | inl met ↦ inl (subst (λ (l : List Pair). Holds q l m os) one met)
+      | inr met ↦ inr (same_some q rules others m os more met)
+    ]
+
+pub alike : (rules others : List (Rule Global)) → map rule_pairs rules ≡ map rule_pairs others → MatchAlike rules others
+alike rules others e = λ q m os. (λ n s. n (same_some q others rules m os (sym e) s), λ n s. n (same_some q rules others m os e s))
 
 -- ---- a rule that matches may match
 

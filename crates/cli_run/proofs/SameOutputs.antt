@@ -1,7 +1,7 @@
 -- What is made and told of parts that are the same but for what was kept: the messages among them,
 -- the tally, and what is told if nothing is explained; and of the messages the texts that commands
 -- make that are the same, and exact.
-use Rattle.std.proofs.Common.{◌≡◌, ◌↔◌, ◌⊎◌, if◌then◌else◌, codes, decimal, length, take, ℕ, zero, suc, ◌+◌, Bool, true, false, ◌||◌, ◌&&◌, List, [], ◌∷◌, ◌++◌, drop, map, None, Some, Option, refl, sym, ap, ◌∙◌, subst, arith, inl, inr}
+use Rattle.std.proofs.Common.{◌≡◌, ◌↔◌, ◌⊎◌, if◌then◌else◌, codes, decimal, length, take, ℕ, zero, suc, ◌+◌, Bool, true, false, ◌||◌, ◌&&◌, List, [], ◌∷◌, ◌++◌, drop, map, None, Some, Option, is_some, refl, sym, ap, ◌∙◌, subst, arith, inl, inr}
 use Rattle.std.proofs.lemmas.List.{take_at}
 use Rattle.std.specs.FinSet.{from_list}
 use Rattle.std.specs.declared.alloc.Global.{Global}
@@ -15,13 +15,15 @@ use Rattle.dbus_message_model.specs.Messages.{MessageTree, message_bytes}
 use Rattle.std.proofs.Math.Path.{transport}
 use Rattle.dbus_rule.specs.declared.rule.Rule.{Rule}
 use Rattle.dbus_match.specs.Matching.{Ownership}
-use Rattle.dbus_rule.specs.Rules.{sender_of, Pair}
+use Rattle.dbus_match.specs.TakenFor.{text_at}
+use Rattle.dbus_message_model.specs.declared.field_code.TheConstants as field
+use Rattle.dbus_rule.specs.Rules.{sender_of}
 use Rattle.dbus_rule.specs.RuleViews.{rule_pairs}
 use Rattle.dbus_names.specs.NameStates.{NameState, known_after as names_after, known_first}
 use Rattle.dbus_rule_set.specs.Owners.{owners_in}
 use Rattle.dbus_calls.specs.Answering.{is_ownable}
 use Rattle.dbus_calls.specs.OwnerChanges.{is_text}
-use Rattle.cli_options.specs.Selections.{AreSameCommand, AreSameSelection, Holds, OrInverted, SelectsBy, SomeHolds}
+use Rattle.cli_options.specs.Selections.{AreSameCommand, AreSameSelection, OrInverted, SelectsBy, SomeHolds, asked_rules, bus_rules}
 use Rattle.cli_options.specs.declared.selection.Question.{Question}
 use Rattle.cli_options.specs.declared.selection.Question.TheVariants as questions
 use Rattle.cli_options.specs.declared.command.Command.{Command}
@@ -47,7 +49,9 @@ use Rattle.cli_run.specs.Output.{AreAlike, IsExact, form_of, framed, is_framed, 
 use Rattle.cli_run.specs.Going.{AreTold, IsTold, IsToldIn, IsToldLast, ShowsNone, passed_count, status_at, tally_of}
 use Rattle.cli_run.specs.Shown.{AreOneEach, Shown, last_of, passed_of}
 use Rattle.cli_run.specs.declared.place.MessagePlace.{MessagePlace}
+use Rattle.cli_options.proofs.Selections.{same_bus_rules}
 use Rattle.cli_run.proofs.Outputs.{output_all_one}
+use Rattle.cli_run.proofs.RuleSets.{same_some}
 use Rattle.cli_run.proofs.SameParts.{ArePassed, AreSame, IsKeptOf, bare, packet_by, part_packet}
 
 -- ---- parts
@@ -212,32 +216,26 @@ none_refused (suc n) fault e = absurd cc
 
 -- ---- commands that are the same
 
-same_some : (q : Question) (rules others : List (Rule Global)) (m : MessageTree) (os : List Ownership) → map rule_pairs rules ≡ map rule_pairs others → SomeHolds q rules m os → SomeHolds q others m os
-same_some q [] [] m os e h = absurd h
-same_some q [] (r ∷ others) m os e h = absurd h
-same_some q (r ∷ rules) [] m os e h = absurd cc
-same_some q (r ∷ rules) (s ∷ others) m os e h =
-    let one : rule_pairs r ≡ rule_pairs s = cc in
-    let more : map rule_pairs rules ≡ map rule_pairs others = cc in
-    elim h [
-      | inl met ↦ inl (subst (λ (l : List Pair). Holds q l m os) one met)
-      | inr met ↦ inr (same_some q rules others m os more met)
-    ]
-
 inverted_both : (b : Bool) (P Q : Type 0) → (P → Q) → (Q → P) → OrInverted b P → OrInverted b Q
 inverted_both false P Q f g h = f h
 inverted_both true P Q f g h = λ q. h (g q)
 
+same_asked : (a b : Selection) (m : MessageTree) → AreSameSelection a b → map rule_pairs (asked_rules a m) ≡ map rule_pairs (asked_rules b m)
+same_asked a b m h =
+    let has = is_some (text_at field.DESTINATION m) in
+    same_bus_rules (a.as_bus && has) a.rules.items b.rules.items h.rules ∙ ap (λ c. map rule_pairs (bus_rules (c && has) b.rules.items)) h.as_bus
+
 same_selects : (a b : Selection) (os : List Ownership) (m : MessageTree) → AreSameSelection a b → SelectsBy a os m → SelectsBy b os m
 same_selects a b os m h s =
-    let there = same_some b.question a.rules.items b.rules.items m os h.rules in
-    let back = same_some b.question b.rules.items a.rules.items m os (sym h.rules) in
-    subst (λ c. OrInverted c (SomeHolds b.question b.rules.items m os)) h.inverted
-    (inverted_both a.is_inverted _ _ there back (subst (λ (q : Question). OrInverted a.is_inverted (SomeHolds q a.rules.items m os)) h.question s))
+    let asked = same_asked a b m h in
+    let there = same_some b.question (asked_rules a m) (asked_rules b m) m os asked in
+    let back = same_some b.question (asked_rules b m) (asked_rules a m) m os (sym asked) in
+    subst (λ c. OrInverted c (SomeHolds b.question (asked_rules b m) m os)) h.inverted
+    (inverted_both a.is_inverted _ _ there back (subst (λ (q : Question). OrInverted a.is_inverted (SomeHolds q (asked_rules a m) m os)) h.question s))
 
 same_picks : (a b : Selection) → AreSameSelection a b → (os : NameState) (m : MessageTree) → SelectsBy a (owners_in os.owners) m ↔ SelectsBy b (owners_in os.owners) m
 same_picks a b s os m =
-    let back : AreSameSelection b a = record { rules = sym s.rules; inverted = sym s.inverted; question = sym s.question; owners = sym s.owners; learns = sym s.learns } in
+    let back : AreSameSelection b a = record { rules = sym s.rules; inverted = sym s.inverted; question = sym s.question; owners = sym s.owners; learns = sym s.learns; as_bus = sym s.as_bus } in
     (same_selects a b (owners_in os.owners) m s, same_selects b a (owners_in os.owners) m back)
 
 same_senders : (rules others : List (Rule Global)) (name : List ℕ) → map rule_pairs rules ≡ map rule_pairs others → name_sender rules name ≡ name_sender others name

@@ -259,6 +259,7 @@ same_selection rows a b p q = record {
   question = same_question rows a.question b.question p.question q.question;
   owners = same_owners (words_of (codes "owner") rows) a.owners.items b.owners.items p.owners q.owners;
   learns = same_flag a.learns b.learns p.learns q.learns;
+  as_bus = same_flag a.as_bus b.as_bus p.as_bus q.as_bus;
 }
 
 same_order_word : (a b : Order) → order_word a ≡ order_word b → a ≡ b

@@ -20,4 +20,4 @@ returns-in_err-rules c =
     rw (p.1, p.2) (unruled_told rows c.is_given.result c.in_err-rules.field-0.0 owners c.is_given.ensures c.in_err-rules.ensures)
 
 pub returns : goal.returns
-returns c = record { rules = c.in_ok-rules.ensures; inverted = c.is_given-2.ensures; question = c.question_named.ensures; owners = c.in_ok-owners.ensures; learns = c.is_given-3.ensures }
+returns c = record { rules = c.in_ok-rules.ensures; inverted = c.is_given-2.ensures; question = c.question_named.ensures; owners = c.in_ok-owners.ensures; learns = c.is_given-3.ensures; as_bus = c.is_given-4.ensures }

@@ -12,5 +12,6 @@ returns c = record {
     question = refl;
     owners = copies_mapped ownership c.args.self.now.owners.items c.in_ok-clone-2.field-0.items c.in_ok-clone-2.ensures.cases.0;
     learns = refl;
+    as_bus = refl;
   };
 }

@@ -13,7 +13,7 @@ use Rattle.cli_run.proofs.selector.Selector.any_holds.Goals as goal
 pub returns-in-Matches : goal.returns-in-Matches
 returns-in-Matches c = λ order m viewed.
     let os = c.args.owners.now in
-    rw c.in-Matches.is (any_met questions.Matches m os (EntryMatches m os) (λ e. (λ h. h, λ h. h)) (held c.args.self.now.rules) c.any_matches.result (c.any_matches.ensures order m viewed))
+    rw c.in-Matches.is (any_met questions.Matches m os (EntryMatches m os) (λ e. (λ h. h, λ h. h)) (held c.args.rules.now) c.any_matches.result (c.any_matches.ensures order m viewed))
 
 -- the text that a view gives of a field
 text_seen : (o : Option (Bor (List ℕ))) (v : Option ValueTree) → MatchOption o (v ≡ None) (λ s. v ≡ Some (TextValue STRING s.now)) → option_map (λ t. t.now) o ≡ text_of v
@@ -27,4 +27,4 @@ returns-in-MayMatch c = λ order m viewed.
     let same = text_seen c.sender.result _ (c.sender.ensures order m viewed) in
     rw c.in-MayMatch.is (any_met questions.MayMatch m os (EntryMayMatch m known os)
     (λ e. (λ h. subst (λ k. ∥ MayMatch (rule_pairs e.1) m k (owners_in os) ∥₁) same h, λ h. subst (λ k. ∥ MayMatch (rule_pairs e.1) m k (owners_in os) ∥₁) (sym same) h))
-    (held c.args.self.now.rules) c.any_may_match.result (c.any_may_match.ensures order m viewed))
+    (held c.args.rules.now) c.any_may_match.result (c.any_may_match.ensures order m viewed))

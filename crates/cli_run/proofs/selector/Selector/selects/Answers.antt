@@ -1,13 +1,10 @@
-use Rattle.std.proofs.Common.{Bool, true, false, List, not, refl, subst}
+use Rattle.std.proofs.Common.{Bool, true, false, not, refl}
 use Rattle.std.specs.Bool.{Decides}
 use Rattle.std.specs.Map.{values_of}
-use Rattle.std.specs.declared.alloc.Global.{Global}
 use Rattle.std.proofs.lemmas.Bool.{false≢true}
-use Rattle.dbus_rule.specs.declared.rule.Rule.{Rule}
 use Rattle.dbus_rule_set.specs.Held.{held}
 use Rattle.dbus_rule_set.specs.Owners.{owners_in}
-use Rattle.cli_options.specs.Selections.{OrInverted, SomeHolds}
-use Rattle.cli_options.specs.declared.selection.Question.TheVariants as questions
+use Rattle.cli_options.specs.Selections.{OrInverted, SomeHolds, asked_rules}
 use Rattle.cli_options.proofs.Selections.{selected}
 use Rattle.cli_run.proofs.RuleSets.{selected_by, some_asked}
 use Rattle.cli_run.proofs.selector.Selector.selects.Goals as goal
@@ -21,13 +18,12 @@ pub returns-then-takes_all : goal.returns-then-takes_all
 returns-then-takes_all c = λ order m viewed.
     let os = owners_in c.args.owners.now in
     let selection = c.args.self.now.selection.now in
-    let matched = subst (λ (rs : List (Rule Global)). SomeHolds questions.Matches rs m os) c.deref.ensures.value (c.takes_all.ensures c.if-takes_all.true m os) in
-    always selection.is_inverted (SomeHolds selection.question selection.rules.items m os) (some_asked selection.question m os selection.rules.items matched)
+    always selection.is_inverted (SomeHolds selection.question (asked_rules selection m) m os) (some_asked selection.question m os (asked_rules selection m) (c.takes_all.ensures c.if-takes_all.true m os))
 
 pub returns : goal.returns
 returns c = λ order m viewed.
     let os = owners_in c.args.owners.now in
     let selection = c.args.self.now.selection.now in
-    let rules = values_of (held c.args.self.now.rules) in
+    let rules = values_of (held c.asked.result.now) in
     let q = selection.question in
-    selected_by c.any_holds.result selection.is_inverted (SomeHolds q selection.rules.items m os) (SomeHolds q rules m os) (selected selection os m) (c.any_holds.ensures order m viewed) (c.args.self.now.same_rules q m os)
+    selected_by c.any_holds.result selection.is_inverted (SomeHolds q (asked_rules selection m) m os) (SomeHolds q rules m os) (selected selection os m) (c.any_holds.ensures order m viewed) (c.asked.ensures order m viewed q m os)
