@@ -1,4 +1,5 @@
--- The limits and the window that the options of a command name.
+-- The limits and the window that the options of a command name. The limits are at most those of the
+-- D-Bus Specification, "Message Protocol" and "Marshaling (Wire Format)".
 use Rattle.std.specs.Prelude.{◌≡◌, ◌↔◌, ◌⊎◌, ◌≤◌, ◌<◌, ◌^◌, ℕ, List, Option, Some, None, codes, zero, suc, Bool, true, false, ◌||◌}
 use Rattle.std.specs.Str.Parse.{IsNumeral, digits_value, without_leading_plus}
 use Rattle.clap.specs.Words.{Row, Text, first_of, one_of}
