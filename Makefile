@@ -31,7 +31,7 @@
 # make test-completions loads the completions in bash, zsh and fish, and compares what each completes with the texts of help
 # make page        proves and builds the module of the page for browsers, and puts the page together in out/dbus-wire.html, which opens from the disk,
 #                  and in docs/index.html, which git ignores, so that to host the folder is to publish it
-# make page-quick  the same without its proofs, in minutes, in out/dbus-wire-unproved.html, which says so at its head
+# make page-quick  the same without its proofs, in minutes, in out/dbus-wire-unproved.html, which says so at its foot
 # make pictures    writes the pictures of the page in docs/, and measures its contrasts and what is seen of it at several widths
 # make test-page   compares what the page gives of the samples and cases with what dbus-wire writes: by its module in Node, of version 20 at least, and by
 #                  the page in a headless Chromium, of version 133 at least, if there is one; BROWSER names another

@@ -102,12 +102,12 @@ class Browser:
     def resize(self, width, height):
         self.ask("Emulation.setDeviceMetricsOverride", width=width, height=height, deviceScaleFactor=1, mobile=False)
 
-    def choose(self, file, seconds=MOST_SECONDS):
-        """Chooses a file as a user does, and waits until all of it is listed. Whether it was read."""
+    def choose(self, *files, seconds=MOST_SECONDS):
+        """Chooses files as a user does, and waits until all of them is listed. Whether they were read."""
         root = self.ask("DOM.getDocument")["root"]["nodeId"]
         node = self.ask("DOM.querySelector", nodeId=root, selector="#file")["nodeId"]
         self.value("find('count').textContent = find('status').textContent = ''")
-        self.ask("DOM.setFileInputFiles", nodeId=node, files=[str(file)])
+        self.ask("DOM.setFileInputFiles", nodeId=node, files=[*map(str, files)])
         is_done = "find('count').textContent.endsWith(' shown') || find('status').textContent.includes('was not read')"
         self.until(is_done, seconds)
         return self.value("find('count').textContent !== ''")

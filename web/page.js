@@ -1,13 +1,11 @@
 // Draws what the module reads, and filters it. What comes from the input is written as text, never as HTML.
 
 const ROW_HEIGHT = 26, NARROW_ROW_HEIGHT = 48;
-const MOST_LIST_HEIGHT = 8e6;
-const TURN_MILLISECONDS = 80;
+const MOST_LIST_HEIGHT = 8e6, TURN_MILLISECONDS = 80;
 const HEX_BYTES = 16, HEX_LINES = 48;
 // Of a longer line of JSON no value is tied to its bytes.
 const MOST_TIED = 200_000;
-const MOST_LIFELINES = 8, LIFELINE_GAP = 24, MOST_SAMPLED = 5000;
-const NANOSECONDS = 1_000_000_000n;
+const MOST_LIFELINES = 8, LIFELINE_GAP = 24, MOST_SAMPLED = 5000, NANOSECONDS = 1_000_000_000n;
 // As many cells as the line of a row has at least, and the width of one.
 const LEAST_CELLS = 100, CELL_WIDTH = 8.5;
 const COLUMNS = ["number", "time", "sender", "destination", "arrow", "info", "size"];
@@ -15,59 +13,69 @@ const COLUMNS = ["number", "time", "sender", "destination", "arrow", "info", "si
 const PARTS = /^ *(?<number>\d+) ((?<time>\S+:\S+) )? *(?<size>\d+) (?<sender>\S+) +> (?<destination>\S+) +(?<info>.+)/s;
 
 const find = (id) => document.getElementById(id);
-const state = { module: null, reader: null, rows: null, shown: [], active: -1, run: 0, isReading: false, lifelines: [],
-  opened: null };
+const state = { module: null, readers: [], rows: null, shown: [], active: -1, run: 0, isReading: false, lifelines: [] };
 
 // ---- Reading
 
-// A file that begins as gzip does is unpacked first.
-async function readFile(file) {
-  const [first, second] = new Uint8Array(await file.slice(0, 2).arrayBuffer());
-  const isGzip = first === 0x1f && second === 0x8b;
-  const body = isGzip ? new Response(file.stream().pipeThrough(new DecompressionStream("gzip"))) : file;
-  const notRead = (error) => tell(`${file.name} was not read: ${error.message}`);
-  await body.arrayBuffer().then((it) => readBytes(new Uint8Array(it), file.name, isGzip), notRead);
+// What reads a file, once all of it is in the module's memory. One that begins as gzip does is unpacked first.
+async function opened(file) {
+  const isGzip = `${new Uint8Array(await file.slice(0, 2).arrayBuffer())}` === "31,139";
+  const unzipped = () => new Response(file.stream().pipeThrough(new DecompressionStream("gzip"))).blob();
+  const body = isGzip ? await unzipped() : file, reader = new Reader(state.module, body.size);
+  const source = body.stream().getReader({ mode: "byob" }), next = (room) => source.read(new Uint8Array(room));
+  for (let at = 0, it = await next(new ArrayBuffer(PAGE_BYTES)); !it.done; it = await next(it.value.buffer)) {
+    reader.bytes.set(it.value, reader.text + at);
+    at += it.value.length;
+    tell(`Opening ${file.name}: ${percent(at, body.size)}`);
+  }
+  if (!reader.open()) {
+    throw new Error(`${file.name} begins as one side of a connection, but its handshake is at fault`);
+  }
+  return Object.assign(reader, { name: file.name, isGzip });
 }
 
-async function readBytes(bytes, name, isGzip = false) {
-  const run = (state.run += 1);
+// Reads a file, or two, which are the sides of a connection: the client's comes first.
+async function read(files) {
+  const run = (state.run += 1), name = files.map((it) => it.name).join(" and "), readers = [];
   state.isReading = true;
   try {
-    openInput(bytes, name);
-    state.isGzip = isGzip;
-    const { reader, rows } = state;
-    const far = (what, part, all) => tell(`${what} ${name}: ${percent(part, all)}, ${rows.count} messages`);
-    const show = (entry) => entry.isPause || state.shown.push(rows.add(entry));
-    await inTurns(run, entries(reader), show, (it) => far("Reading", it.offset + it.length, reader.length));
-    // The list is there; then its lines get what other messages tell.
-    const learn = (row) => rows.learn(row);
-    await inTurns(run, Array(rows.count).keys(), learn, (row) => far("Joining calls and replies of", row, rows.count));
+    for (const file of files) {
+      readers.push(await opened(file));
+    }
+    const place = ({ side }) => ["client", "", "server"].indexOf(side);
+    readers.sort((a, b) => place(a) - place(b));
+    if (readers.length > 2 || (readers[0].side && readers[0].side === readers[1]?.side)) {
+      throw new Error("of more than one file each has to be one side of a connection");
+    }
+    if (run === state.run) {
+      await readAll(run, name, readers);
+    }
   } catch (error) {
     state.isReading = run !== state.run;
     tell(`${name} was not read: ${error.message}`);
-    return;
-  }
-  if (run === state.run) {
-    state.isReading = false;
-    state.lifelines = lifelines();
-    tellEnd(name);
-    showDiagram();
-    await filter();
   }
 }
 
-// The bytes are let go once the module has them.
-function openInput(bytes, name) {
-  const skipped = handshakeLength(bytes);
-  if (skipped === null) {
-    throw new Error("it begins as one side of a connection, but its handshake is at fault");
-  }
-  const side = skipped === 0 ? "" : bytes[0] === 0 ? "client" : "server";
-  const reader = new Reader(state.module, bytes.subarray(skipped), () => bytes.buffer.transfer?.(0));
-  const rows = new Rows(reader);
-  Object.assign(state, { reader, name, side, skipped, rows, shown: [], active: -1, lifelines: [], opened: null });
-  find("details").replaceChildren();
+async function readAll(run, name, readers) {
+  const rows = new Rows(readers);
+  const far = (what, part, all) => tell(`${what} ${name}: ${percent(part, all)}, ${rows.count} messages`);
+  Object.assign(state, { readers, name, rows, shown: [], active: -1, lifelines: [], opened: null });
+  find("details").replaceChildren(...readers.filter((it) => it.skipped).flatMap(({ side, handshake }) => [
+    element("h2", `Handshake: what the ${side} sent`), element("pre", handshake, { tabindex: 0 }),
+  ]));
   draw();
+  const show = ({ row }) => row === null || state.shown.push(row);
+  const tellRead = (it) => far("Reading", it.offset + it.length, it.reader.length);
+  // The list is there; then its lines get what other messages tell.
+  const tellJoined = (row) => far("Joining calls and replies of", row, rows.count);
+  const isRead = await inTurns(run, rows.adding(), show, tellRead);
+  if (isRead && (await inTurns(run, rows.learning(), rows.learn, tellJoined))) {
+    state.isReading = false;
+    state.lifelines = lifelines();
+    tellEnd();
+    showDiagram();
+    await filter();
+  }
 }
 
 const percent = (part, all) => `${Math.floor((100 * part) / all)} %`;
@@ -96,18 +104,19 @@ function listed(row, said, cells = 0) {
   if (row.isWhole) {
     return state.rows.line(row.index, said, cells).slice(0, -1);
   }
-  const { number, offset } = row, at = offset + state.reader.next(offset).at;
-  return `refused at ${at}: ${state.reader.reason(offset)} in message ${number} at ${offset}`;
+  const { number, offset, reader } = row, at = offset + reader.next(offset).at;
+  return `refused at ${at}: ${reader.reason(offset)} in message ${number} at ${offset}`;
 }
 
-function tellEnd(name) {
-  const { bad, count } = state.rows;
-  const fault = state.reader.fileFault;
+function tellEnd() {
+  const { bad, count, passed } = state.rows, { readers, name } = state;
+  const sum = (what) => readers.reduce((all, it) => all + it[what], 0);
+  const fault = readers.find((it) => it.fileFault !== null)?.fileFault;
   const parts = [
-    `${name}: ${count - bad} messages, ${state.reader.length} bytes`,
-    state.skipped && `after a handshake of ${state.skipped} bytes`,
-    bad && `${bad} refused or cut off, ${state.rows.passed} bytes passed over`,
-    fault !== null && `the capture file is at fault at byte ${fault}`,
+    `${name}: ${count - bad} messages, ${sum("length")} bytes`,
+    sum("skipped") && `after a handshake of ${sum("skipped")} bytes`,
+    bad && `${bad} refused or cut off, ${passed} bytes passed over`,
+    fault !== undefined && `the capture file is at fault at byte ${fault}`,
     count === 0 && "to record some, run dbus-monitor --session --pcap > FILE, and end it by Ctrl+C",
   ];
   tell(parts.filter((it) => it).join("; "));
@@ -136,12 +145,15 @@ async function filter() {
   const run = (state.run += 1), count = countRows(), only = find("only").value;
   Object.assign(state, { shown: [], active: -1 });
   draw();
-  const isDone = await inTurns(run, Array(count).keys(), (row) => {
+  let looked = 0;
+  const isDone = await inTurns(run, state.rows?.ordered() ?? [], (row) => {
     const it = state.rows.at(row);
-    if (CHOICES[only](it) && (isWanted(row) || (only === "pairs" && it.pair >= 0 && isWanted(it.pair)))) {
+    looked += 1;
+    const isJoined = () => only === "pairs" && it.pair >= 0 && isWanted(state.rows.at(it.pair));
+    if (CHOICES[only](it) && (isWanted(it) || isJoined())) {
       state.shown.push(row);
     }
-  }, (row) => tellShown(`, ${percent(row, count)} looked at`));
+  }, () => tellShown(`, ${percent(looked, count)} looked at`));
   if (isDone && only === "slow") {
     const times = new Map(state.shown.map((it) => [it, Number(took(state.rows.at(it)))]));
     state.shown.sort((a, b) => times.get(b) - times.get(a));
@@ -169,18 +181,12 @@ function readFilters() {
 }
 
 function isWanted(row) {
-  if (state.words.length === 0 && !state.rule?.length) {
-    return true;
-  }
-  const line = textOf(row), text = state.words.length ? line.toLowerCase() : "";
-  const isMatch = () => !state.rule || !state.rows.at(row).isWhole || matchesRule(state.rule, line);
-  return state.words.every((it) => text.includes(it)) && isMatch();
+  const isMatch = !state.rule?.length || !row.isWhole || matchesRule(state.rule, state.rows, row);
+  const text = isMatch && state.words.length ? textOf(row).toLowerCase() : "";
+  return isMatch && state.words.every((it) => text.includes(it));
 }
 
-function textOf(row) {
-  const { isWhole, offset } = state.rows.at(row);
-  return isWhole ? state.rows.json(row) : state.reader.explain(row + 1, offset);
-}
+const textOf = (row) => (row.isWhole ? state.rows.json(row.index) : row.reader.explain(row.number, row.offset));
 
 // ---- The list
 
@@ -239,7 +245,7 @@ function seenOf(index) {
 // screen all are.
 function cellsOf(row) {
   if (!row.isWhole) {
-    return { number: row.number, info: listed(row) };
+    return { number: row.label, info: listed(row) };
   }
   const width = Math.max(LEAST_CELLS, Math.floor(find("list").clientWidth / CELL_WIDTH));
   // Long names leave no room for the rest.
@@ -248,7 +254,8 @@ function cellsOf(row) {
   const isNarrow = rowHeight() === NARROW_ROW_HEIGHT;
   const names = find("diagram").checked && (isNarrow || !isDrawn) ? `${parts.sender} > ${parts.destination} ` : "";
   const time = find("only").value && row.isCall ? took(row) : null;
-  return { ...parts, info: `${time === null ? "" : `${milliseconds(time)} ms  `}${names}${parts.info}` };
+  const lasted = time === null ? "" : `${milliseconds(time)} ms  `;
+  return { ...parts, number: row.label, info: `${lasted}${names}${parts.info}` };
 }
 
 function rowElement(row, place) {
@@ -266,13 +273,12 @@ function rowElement(row, place) {
 }
 
 function choose(place) {
-  if (place < 0 || place >= state.shown.length) {
-    return;
+  if (place in state.shown) {
+    state.active = place;
+    scrollTo(place);
+    draw();
+    openRow(state.shown[place]);
   }
-  state.active = place;
-  scrollTo(place);
-  draw();
-  openRow(state.shown[place]);
 }
 
 function scrollTo(place) {
@@ -296,15 +302,15 @@ function pressKey(event) {
 
 // From the details too, n and N choose the next message and the one before, b and B mark the next value or the one
 // before, and Escape goes back to the list.
-function pressAnyKey(event) {
-  if (event.key === "Escape") {
+function pressAnyKey({ key }) {
+  const way = key === key.toLowerCase() ? 1 : -1;
+  if (key === "Escape") {
     find("list").focus();
-  } else if (event.key === "n" || event.key === "N") {
-    choose(state.active + (event.key === "n" ? 1 : -1));
-  } else if ((event.key === "b" || event.key === "B") && state.opened) {
-    const { leaves, marked } = state.opened, way = event.key === "b" ? 1 : -1;
-    let leaf = marked + way;
-    while (leaves[leaf] === null) {
+  } else if (key === "n" || key === "N") {
+    choose(state.active + way);
+  } else if ((key === "b" || key === "B") && state.opened) {
+    let leaf = state.opened.marked + way;
+    while (state.opened.leaves[leaf] === null) {
       leaf += way;
     }
     mark(leaf);
@@ -324,7 +330,7 @@ async function showTable(title, rows, take, linesOf) {
   if (state.rows && (await inTurns(state.run, rows, take, () => tell("Counting …")))) {
     state.opened = null;
     find("details").replaceChildren(element("h2", title), element("pre", linesOf().join(""), { tabindex: 0 }));
-    tellEnd(state.name);
+    tellEnd();
   }
 }
 
@@ -334,18 +340,18 @@ const shownRows = () => state.shown.map((it) => state.rows.at(it));
 
 // The tables of `count` of the messages shown.
 function counts() {
-  const words = ["type", "sender", "destination", "interface", "member", "error"], tables = words.map(() => new Map());
+  const words = ["type", "sender", "destination", "interface", "member", "error"], sums = new Map();
   const take = ({ index, length }) => {
     const said = state.rows.said(index), type = Number.isInteger(said.type) ? `kind${said.type}` : said.type;
     const names = { ...said, type, member: memberOf(said), error: said.error_name };
-    words.map((it) => names[it]).forEach((name, at) => {
-      const { messages, bytes } = tables[at].get(name) ?? { messages: 0, bytes: 0 };
-      tables[at].set(name, { word: words[at], name, messages: messages + 1, bytes: bytes + length });
+    words.filter((it) => names[it] !== undefined).forEach((word) => {
+      const key = `${word} ${names[word]}`, { messages, bytes } = sums.get(key) ?? { messages: 0, bytes: 0 };
+      sums.set(key, { at: words.indexOf(word), key, messages: messages + 1, bytes: bytes + length });
     });
   };
-  const sorted = (table) => [...table.values()].sort((a, b) => b.messages - a.messages || compare(a.name, b.name));
-  const line = ({ word, name, messages, bytes }) => `${messages} messages ${bytes} bytes ${word} ${name}\n`;
-  const lines = () => tables.flatMap(sorted).filter((it) => it.name !== undefined).map(line);
+  const order = (a, b) => a.at - b.at || b.messages - a.messages || compare(a.key, b.key);
+  const line = ({ key, messages, bytes }) => `${messages} messages ${bytes} bytes ${key}\n`;
+  const lines = () => [...sums.values()].sort(order).map(line);
   return showTable("Messages shown, by name", shownRows().filter((it) => it.isWhole), take, lines);
 }
 
@@ -380,24 +386,24 @@ function members() {
 function command() {
   const quoted = (text) => `'${text.replaceAll("'", "'\\''")}'`;
   const rule = state.rule?.length ? quoted(find("rule").value) : "";
-  const goesOn = state.rows.bad ? (state.reader.isRaw ? " --resync" : " --keep-going") : "";
-  const side = state.side ? ` --handshake ${state.side}` : "";
+  const [{ isRaw, isGzip, name, side }, other] = state.readers, goesOn = isRaw ? " --resync" : " --keep-going";
+  const how = `${state.rows.bad ? goesOn : ""}${side && ` --handshake ${side}`}`;
   const words = state.words.map((it) => ` | grep -iF -e ${quoted(it)}`).join(""), only = find("only").value;
-  if (only === "pairs" || (only && (rule || words))) {
+  if (other || only === "pairs" || (only && (rule || words))) {
     return "# no command of dbus-wire selects these";
   }
   const [first, then] = only ? [`calls ${CALLS[only]}`, ""] : rule ? [`filter ${rule}`, " | dbus-wire json"] : ["json", ""];
-  const [from, to] = state.isGzip ? [`gzip -dc < ${quoted(state.name)} | `, ""] : ["", ` < ${quoted(state.name)}`];
-  return `${from}dbus-wire ${first}${goesOn}${side}${to}${then}${words}`;
+  const [from, to] = isGzip ? [`gzip -dc < ${quoted(name)} | `, ""] : ["", ` < ${quoted(name)}`];
+  return `${from}dbus-wire ${first}${how}${to}${then}${words}`;
 }
 
 // The messages shown as a pcap file, with times in nanoseconds: 0 of those that have none.
 function pcap() {
   const parts = [Uint32Array.of(0xa1b23c4d, 0x00040002, 0, 0, 0x08000000, 231)];
-  for (const { index, offset, length } of shownRows().filter((it) => it.isWhole)) {
+  for (const { index, offset, length, reader } of shownRows().filter((it) => it.isWhole)) {
     const time = state.rows.time(index) ?? 0n;
     const head = [Number(time / NANOSECONDS), Number(time % NANOSECONDS), length, length];
-    parts.push(Uint32Array.from(head), state.reader.part(offset, offset + length));
+    parts.push(Uint32Array.from(head), reader.part(offset, offset + length));
   }
   return new Blob(parts);
 }
@@ -431,8 +437,8 @@ function showDiagram() {
 
 // The names that come most, in a sample, have a line each. What has no destination goes to everyone, at the right.
 function lifelines() {
-  const peers = new Map(), step = Math.ceil(state.rows.count / MOST_SAMPLED);
-  for (let row = 0; row < state.rows.count; row += step) {
+  const peers = new Map(), { count } = state.rows;
+  for (let row = 0; row < count; row += Math.ceil(count / MOST_SAMPLED)) {
     const { sender, destination } = seenOf(row);
     [sender, destination].filter((it) => it).forEach((it) => peers.set(it, (peers.get(it) ?? 0) + 1));
   }
@@ -465,17 +471,18 @@ function arrowElement(row) {
 // ---- The details
 
 function openRow(index) {
-  const row = seenOf(index), { reader } = state, at = row.isWhole ? -1 : reader.next(row.offset).at;
-  const title = row.isWhole ? `Message ${row.number}` : `No message: number ${row.number}, ${row.kind}`;
+  const row = seenOf(index), { reader } = row, at = row.isWhole ? -1 : reader.next(row.offset).at;
+  const title = row.isWhole ? `Message ${row.label}` : `No message: number ${row.label}, ${row.kind}`;
   const what = row.isWhole ? "bytes" : "bytes passed over", captured = row.time ? `, captured ${fullTime(row.time)}` : "";
   const where = `${row.length} ${what} at offset ${row.offset}${captured}`;
-  const line = element("p", listed(row, row.said), { class: "line" }), text = textOf(index);
-  const parts = [element("h2", title), element("p", where), line, ...joined(row)];
-  parts.push(...(row.isWhole ? [copyButton("Copy as JSON", () => text)] : []));
+  const line = element("p", listed(row, row.said), { class: "line" }), text = textOf(row);
+  const parts = [element("h2", title), element("p", where), line];
+  const buttons = [row.pair >= 0 && pairButton(row), row.isWhole && copyButton("Copy as JSON", () => text)];
+  parts.push(...buttons.filter((it) => it));
   const end = row.isWhole ? row.length : Math.max(row.length, at + HEX_BYTES * 4);
   const isTied = row.isWhole && text.length < MOST_TIED;
   const leaves = isTied ? leavesOfLine(reader.items(row.offset, row.length), Boolean(row.time)) : [];
-  state.opened = { offset: row.offset, end, fault: at, leaves, marked: -1 };
+  state.opened = { reader, offset: row.offset, end, fault: at, leaves, marked: -1 };
   const said = row.isWhole ? valuesElement(text, isTied) : element("pre", text, { tabindex: 0 });
   const how = isTied ? "A value marks its bytes, and a byte its value: press one, or b and B." : "";
   parts.push(element("h3", row.isWhole ? "Values" : "Why"), said);
@@ -495,19 +502,13 @@ function took({ index, pair }) {
   return from === null || to === null ? null : to - from;
 }
 
-function joined(row) {
-  const { index, pair } = row, time = took(row);
-  if (pair < 0) {
-    return [];
-  }
-  const lasted = time === null ? "" : `, ${Number(time) / 1e6} ms`;
-  const title = `To the ${pair < index ? "call" : "reply"}, message ${pair + 1}${lasted}`;
-  return [buttonOf(title, () => {
-    const place = state.shown.indexOf(pair);
-    choose(place);
+function pairButton({ isCall, index, pair }) {
+  const time = took({ index, pair }), lasted = time === null ? "" : `, ${Number(time) / 1e6} ms`;
+  return buttonOf(`To the ${isCall ? "reply" : "call"}, message ${state.rows.at(pair).label}${lasted}`, () => {
+    choose(state.shown.indexOf(pair));
     openRow(pair);
     find("details").focus();
-  })];
+  });
 }
 
 // JSON on several lines. Numbers stay as they are written, since some are above 2^53.
@@ -556,16 +557,16 @@ function pressDetails({ target: { dataset } }) {
 
 // The bytes from some lines before the place of a fault on, or before another place, or from the first.
 function hexElement(from = state.opened.fault) {
-  const { offset, end, fault } = state.opened;
+  const { reader, offset, end, fault } = state.opened;
   const label = fault < 0 ? "bytes of the message" : `bytes, the fault is at byte ${fault}`;
   const box = element("pre", "", { tabindex: 0, "aria-label": label });
   let next = Math.max(0, Math.floor((from - 8 * HEX_BYTES) / HEX_BYTES) * HEX_BYTES);
   const extend = (more) => {
     more?.remove();
     for (const last = Math.min(end, next + HEX_LINES * HEX_BYTES); next < last; next += HEX_BYTES) {
-      box.append(...hexLine(offset, next, Math.min(end, next + HEX_BYTES), fault));
+      box.append(...hexLine(next, Math.min(end, next + HEX_BYTES)));
     }
-    if (next < end && offset + next < state.reader.length) {
+    if (next < end && offset + next < reader.length) {
       box.append(buttonOf("More bytes", extend));
     }
   };
@@ -573,8 +574,8 @@ function hexElement(from = state.opened.fault) {
   return box;
 }
 
-function hexLine(offset, start, end, fault) {
-  const bytes = state.reader.part(offset + start, offset + end);
+function hexLine(start, end) {
+  const { reader, offset, fault } = state.opened, bytes = reader.part(offset + start, offset + end);
   const cells = Array.from({ length: HEX_BYTES }, (_, at) => {
     const isAtFault = start + at === fault;
     const text = at < bytes.length ? bytes[at].toString(16).padStart(2, "0") : isAtFault ? "[]" : "  ";
@@ -594,7 +595,7 @@ function readHex() {
     tell("The pasted text is no pairs of hexadecimal digits.");
     return;
   }
-  readBytes(Uint8Array.from(digits.match(/../g), (it) => parseInt(it, 16)), "pasted bytes");
+  read([new File([Uint8Array.from(digits.match(/../g), (it) => parseInt(it, 16))], "pasted bytes")]);
 }
 
 const bytesOf = (base64) => Uint8Array.from(atob(base64), (it) => it.charCodeAt(0));
@@ -609,8 +610,9 @@ async function begin() {
     tell(`This browser does not run WebAssembly with memory of 64 bits: ${error.message}`);
     return;
   }
-  const take = ({ files }) => files[0] && readFile(files[0]);
-  const acts = { "read-hex": readHex, sample: () => readBytes(bytesOf(SAMPLE), "calls.pcap"), members, counts, save };
+  const take = ({ files }) => files[0] && read([...files]);
+  const sample = () => read([new File([bytesOf(SAMPLE)], "calls.pcap")]);
+  const acts = { "read-hex": readHex, sample, members, counts, save };
   Object.entries(acts).forEach(([id, act]) => find(id).addEventListener("click", act));
   find("file").addEventListener("change", (event) => take(event.target));
   ["words", "rule"].forEach((id) => find(id).addEventListener("input", typeFilter));

@@ -92,7 +92,7 @@ def look(browser, file, size, scheme, has_diagram):
     browser.choose(file)
     browser.value(f"find('diagram').checked = {str(has_diagram).lower()}; showDiagram()")
     browser.value("choose(state.shown.findLastIndex((it) => state.rows.at(it).isError))")
-    browser.value("mark(leavesOfLine(state.reader.items(state.opened.offset, state.opened.end), true).findLastIndex((it) => it))")
+    browser.value("mark(state.opened.leaves.findLastIndex((it) => it))")
     # What is drawn anew as sizes change is drawn.
     browser.value("new Promise((done) => requestAnimationFrame(() => requestAnimationFrame(done)))")
 

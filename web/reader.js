@@ -2,8 +2,7 @@
 // Calls the module of WebAssembly that reads captures. crates/dbus_page says what each call promises.
 
 const WHOLE = 0, PARTIAL = 1, REFUSED = 2, NO_ROOM = 3;
-const LITTLE = 108, BIG = 66;
-const PAGE_BYTES = 65536;
+const LITTLE = 108, BIG = 66, PAGE_BYTES = 65536;
 // What `--resync` goes by: how many bytes are searched behind a refused message, and looked at for each.
 const WINDOW = 1_048_576, EFFORT = 16;
 const MOST_FIELDS = 2 ** 26, MOST_BYTES = 2 ** 27, FRONT_BYTES = 16;
@@ -12,45 +11,48 @@ const UNPACKED = 0, NEXT = 32, PLACE = 48, COUNT = 80, BESIDE = 96, EVENT = 152,
 const TOLD_BYTES = 1024, PART_BYTES = 32, ITEM_BYTES = 32;
 // Words of a `PagePart`.
 const START = 0, PACKET = 1, TIME = 2, HAS_TIME = 3;
-const FIRST_TEXT_BYTES = 65536;
 // The bytes of a number by its type; and the header fields that have names have these codes.
 const WIDTHS = { y: 1, b: 4, n: 2, q: 2, i: 4, u: 4, x: 8, t: 8, d: 8, h: 4 };
 const FIRST_FIELD = 1, LAST_FIELD = 9, CODE_ITEM = 1, VALUE_ITEM = 3;
 const ENCODER = new TextEncoder(), DECODER = new TextDecoder("utf-8", { ignoreBOM: true });
 
-// One input, in the memory of an instance of its own. It is unpacked there, and texts come over what it was unpacked of.
+// One input, in the memory of an instance of its own. A file of so many bytes is put at `text`, and then opened.
 class Reader {
-  constructor(compiled, file, letGo = () => {}) {
+  constructor(compiled, size) {
     // What one read of 65,536 bytes gives of a packet is a part. A packet takes 17 bytes of the file at least.
-    const parts = Math.floor(file.length / 17) + Math.ceil(file.length / PAGE_BYTES) + 2;
-    const { length } = file;
-    this.begin(compiled, parts, length + 1, Math.max(length, FIRST_TEXT_BYTES));
-    this.bytes.set(file, this.text);
-    letGo();
-    this.unpack(parts, length);
-    // A file of packets has more than their bytes. How many bytes were looked at to go on.
-    this.isRaw = this.length === length;
-    this.looked = 0;
-  }
-
-  // Takes an instance, with room for so many parts, and bytes of messages and of a text.
-  begin(compiled, parts, data, text) {
+    this.partsRoom = Math.floor(size / 17) + Math.ceil(size / PAGE_BYTES) + 2;
     const instance = new WebAssembly.Instance(compiled);
     this.calls = instance.exports;
     this.memory = instance.exports.memory;
     // The module's own data and stack end here, and it never asks for more.
     this.told = this.memory.buffer.byteLength;
     this.parts = this.told + TOLD_BYTES;
-    this.data = this.parts + parts * PART_BYTES;
-    this.text = this.data + Math.ceil(data / 8) * 8;
-    this.reach(this.text + text);
+    this.data = this.parts + this.partsRoom * PART_BYTES;
+    this.text = this.data + aligned(size + 1);
+    this.size = size;
+    this.reach(this.text + Math.max(size, PAGE_BYTES));
+  }
+
+  // Reads the file behind the handshake of a side of a connection, if there is one. Whether that is not at fault.
+  open() {
+    const start = this.text, file = this.bytes.subarray(start, start + this.size), skipped = handshakeLength(file);
+    this.side = skipped === 0 ? "" : file[0] === 0 ? "client" : "server";
+    this.handshake = DECODER.decode(file.slice(0, skipped)).replace("\0", "");
+    this.skipped = skipped;
+    if (skipped !== null) {
+      this.unpack(start + skipped, this.size - skipped);
+    }
+    return skipped !== null;
   }
 
   // Lets the memory reach so far.
   reach(end) {
-    const missing = end - this.memory.buffer.byteLength;
-    if (missing > 0) {
-      growMemory(this.memory, Math.ceil(missing / PAGE_BYTES));
+    const pages = Math.max(0, Math.ceil((end - this.memory.buffer.byteLength) / PAGE_BYTES));
+    try {
+      this.memory.grow(BigInt(pages));
+    } catch {
+      // Older engines take a plain number.
+      this.memory.grow(pages);
     }
     this.bytes = new Uint8Array(this.memory.buffer);
     this.view = new DataView(this.memory.buffer);
@@ -61,17 +63,28 @@ class Reader {
   input = (offset, length) => slice(this.data + offset, length);
   number = (place) => Number(this.view.getBigUint64(this.told + place, true));
 
-  // Takes the messages' bytes and their parts out of the file.
-  unpack(partsRoom, length) {
-    const room = [...slice(this.data, length + 1), ...slice(this.parts, partsRoom), this.toldAt(UNPACKED)];
-    const answer = this.calls.dbus_page_unpack(...slice(this.text, length), ...room);
-    if (answer !== WHOLE) {
+  // Finds the messages' bytes, which stay in a file without packets. Texts come behind them, or else over the file.
+  unpack(start, length) {
+    const few = Math.min(length, PAGE_BYTES);
+    // A file of packets has more than their bytes.
+    this.isRaw = this.unpacked(start, few) === few;
+    if (this.isRaw) {
+      Object.assign(this, { data: start, length, partCount: 0, text: aligned(start + length) });
+      this.reach(this.text + PAGE_BYTES);
+    } else {
+      this.length = this.unpacked(start, length);
+    }
+  }
+
+  unpacked(start, length) {
+    const room = [...slice(this.data, length + 1), ...slice(this.parts, this.partsRoom), this.toldAt(UNPACKED)];
+    if (this.calls.dbus_page_unpack(...slice(start, length), ...room) !== WHOLE) {
       throw new Error("the file has more parts than there is room for");
     }
-    this.length = this.number(UNPACKED);
     this.partCount = this.number(UNPACKED + 8);
     // The fault of a pcap or pcapng file, by its place in it.
     this.fileFault = this.number(UNPACKED + 24) ? this.number(UNPACKED + 16) : null;
+    return this.number(UNPACKED);
   }
 
   partWord = (part, word) => this.view.getBigUint64(this.parts + part * PART_BYTES + word * 8, true);
@@ -186,7 +199,8 @@ class Reader {
       end += words[it];
       return isPlain ? text.slice(start, end) : DECODER.decode(bytes.subarray(start, end));
     });
-    return { event: words[0], serial: words[1], says: words[2], caller, sender, name, unique, forCaller, forOwner, byName };
+    const [said, serial, says] = words;
+    return { event: said, serial, says, caller, waiter: caller, sender, name, unique, forCaller, forOwner, byName };
   }
 
   // Where the parts of the message stand: items of its header fields, and of its body's values.
@@ -270,20 +284,15 @@ function leavesOfLine({ fields, body }, hasTime) {
   return [...first, ...known, ...placed, ...leavesOf(body)];
 }
 
+// Where the module's structs may begin from there on.
+const aligned = (address) => Math.ceil(address / 8) * 8;
+
 // A slice as the module takes it.
 const slice = (address, length) => [BigInt(address), BigInt(length)];
 
-// The pages are a number of 64 bits, but older engines take a plain one.
-function growMemory(memory, pages) {
-  try {
-    memory.grow(BigInt(pages));
-  } catch {
-    memory.grow(pages);
-  }
-}
-
 // Each message of the input, and each place at which there is none, with what is passed over there; and pauses.
 function* entries(reader) {
+  // How many bytes were looked at to go on.
   reader.looked = 0;
   for (let offset = 0, end = 0; end !== null && offset < reader.length; offset = end) {
     const { answer, length, at } = reader.next(offset);

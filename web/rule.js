@@ -1,8 +1,9 @@
 // Match rules, read from their text and asked of the line of JSON of a message. docs/MATCH-RULES.md says what they mean. No name has an owner here: `sender` is
 // compared with the sender alone.
 
-const TYPES = ["signal", "method_call", "method_return", "error"];
-const MOST_NAME_CHARACTERS = 255;
+// In the order of their codes, from 1 on.
+const TYPES = ["method_call", "method_return", "error", "signal"];
+const MOST_NAME_CHARACTERS = 255, PLAIN = new TextDecoder("latin1");
 
 const isName = (pattern) => (text) => text.length <= MOST_NAME_CHARACTERS && pattern.test(text);
 const isOneOf = (texts) => (text) => texts.includes(text);
@@ -51,22 +52,11 @@ class RuleFault extends Error {
 
 // The value that begins at a place, and where it ends.
 function valueAt(text, start) {
-  let value = "", at = start;
-  while (at < text.length && text[at] !== ",") {
-    if (text[at] === "'") {
-      const end = text.indexOf("'", at + 1);
-      if (end < 0) {
-        throw new RuleFault(text, at, "OpenQuote");
-      }
-      value += text.slice(at + 1, end);
-      at = end + 1;
-    } else {
-      at += text.startsWith("\\'", at) ? 1 : 0;
-      value += text[at];
-      at += 1;
-    }
+  const [written] = text.slice(start).match(/^('[^']*'|\\'|[^,'])*/), end = start + written.length;
+  if (text[end] === "'") {
+    throw new RuleFault(text, end, "OpenQuote");
   }
-  return [value, at];
+  return [written.replace(/'([^']*)'|\\'/g, (_, quoted) => quoted ?? "'"), end];
 }
 
 // The pair that begins at a place, after those of these keys; and where it ends.
@@ -85,7 +75,9 @@ function pairAt(text, start, names) {
   if (!key[0](value)) {
     throw new RuleFault(text, end + 1, "BadValue");
   }
-  return [{ name, value, holds: key[1] }, after];
+  // Of a path's prefix and of `eavesdrop` no message need have all bytes.
+  const bytes = /^(eavesdrop|arg\d+path)$/.test(name) ? "" : PLAIN.decode(ENCODER.encode(value));
+  return [{ name, value, holds: key[1], bytes }, after];
 }
 
 // The conditions of a rule's text.
@@ -106,27 +98,19 @@ function readRule(text) {
   return pairs;
 }
 
-// The code of each value's type by its first character, of a signature.
+// A code for each value's type, of a signature: that of a basic type is its own.
 function firstCodes(signature) {
-  const codes = [];
-  for (let at = 0, depth = 0, isNew = true; at < signature.length; at += 1) {
-    const code = signature[at];
-    if (isNew && depth === 0) {
-      codes.push(code);
-    }
-    depth += "({".includes(code) ? 1 : ")}".includes(code) ? -1 : 0;
-    isNew = code !== "a";
-  }
-  return codes;
+  const flat = signature.replace(/\([^(){}]*\)|\{[^(){}]*\}/g, "r");
+  return flat === signature ? flat.replace(/a+./g, "a") : firstCodes(flat);
 }
 
-// Whether a message of this line of JSON matches. The line has the value of some keys as it is, so most are not parsed.
-const PLAIN_KEYS = ["type", "sender", "interface", "member", "path", "destination"];
-function matchesRule(pairs, line) {
-  if (pairs.some((it) => PLAIN_KEYS.includes(it.name) && !line.includes(`"${it.value}"`))) {
+// Whether the message of a row matches. Only one that has its type and the bytes of its values is parsed.
+function matchesRule(pairs, rows, { index, reader, offset, length, type }) {
+  const bytes = () => PLAIN.decode(reader.bytes.subarray(reader.data + offset, reader.data + offset + length));
+  if (!pairs.every((it) => (it.name === "type" ? TYPES[type - 1] === it.value : bytes().includes(it.bytes)))) {
     return false;
   }
-  const said = JSON.parse(line);
+  const said = rows.said(index);
   said.types = firstCodes(said.signature ?? "");
   return pairs.every((it) => it.holds(said, it.value));
 }

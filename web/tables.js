@@ -3,34 +3,32 @@
 
 const CALL = 1, CALL_WITHOUT_REPLY = 2, REPLY = 3, DEPARTURE = 4;
 const OWNED = 1, FREE = 2, LOST = 3, ASKED_FOR_CALLER = 4, ASKED_BY_NAME = 6;
-const BUS = "org.freedesktop.DBus";
+const BUS = "org.freedesktop.DBus", ERROR_TYPE = 3;
 // What a row is, beside the number of a message's event.
 const WHOLE_ROW = 6, ERROR_ROW = 7, REFUSED_ROW = 8, PARTIAL_ROW = 9;
-const ERROR_TYPE = 3;
+// What either side of a connection sent has one of these before its numbers.
+const ARROWS = ["->", "<-"];
 const COLUMNS_OF_ROWS = { offsets: Float64Array, lengths: Uint32Array, kinds: Uint8Array, pairs: Uint32Array };
 
 // Whether a message of the sender may answer a call to the destination, which is read only if that matters.
 function mayAnswer(destinationOf, sender) {
-  if (!sender || sender === BUS) {
-    return true;
-  }
-  const destination = destinationOf();
+  const destination = !sender || sender === BUS ? null : destinationOf();
   return !destination || sender === destination || !(destination.startsWith(":") || destination === BUS);
 }
 
-// The calls that wait for a reply, at most one of each caller and serial.
+// The calls that wait for a reply, at most one of each waiter, which is the caller, and serial.
 class OpenCalls {
   callers = new Map();
 
   // The call that the event of a message answers, or null. A call that it is opens, if there is one to keep.
   take(event, call) {
-    const { caller, serial } = event, calls = this.callers.get(caller);
+    const { waiter, serial } = event, calls = this.callers.get(waiter);
     if (event.event === CALL && call) {
-      this.callers.set(caller, (calls ?? new Map()).set(serial, call));
+      this.callers.set(waiter, (calls ?? new Map()).set(serial, call));
     } else if (event.event === CALL || event.event === CALL_WITHOUT_REPLY) {
       calls?.delete(serial);
     } else if (event.event === DEPARTURE) {
-      this.callers.delete(caller);
+      this.callers.delete(waiter);
     } else if (event.event === REPLY && calls?.has(serial) && mayAnswer(calls.get(serial).destination, event.sender)) {
       const answered = calls.get(serial);
       calls.delete(serial);
@@ -97,11 +95,14 @@ class Names {
   at = (unique, row) => this.known.get(unique)?.findLast((it) => it.row <= row)?.name ?? null;
 }
 
-// A row for each entry of an input: where and what it is, and the number of its call or its reply, or 0.
+// A row for each entry of an input, or of two, which are the sides of a connection, the client's first: where and what
+// it is, and the row of its call or its reply, counted from 1, or 0.
 class Rows {
-  constructor(reader) {
-    this.reader = reader;
+  constructor(readers) {
+    this.readers = readers;
     this.count = this.bad = this.passed = 0;
+    // How many rows the first side has.
+    this.first = Infinity;
     this.calls = new OpenCalls();
     this.names = new Names();
     this.makeRoom(1024);
@@ -112,6 +113,16 @@ class Rows {
       const column = new Column(most);
       column.set(this[name] ?? []);
       this[name] = column;
+    }
+  }
+
+  // Adds a row for each entry, of one side and then of the other, and yields it; and pauses.
+  *adding() {
+    for (const reader of this.readers) {
+      this.first = reader === this.readers[1] ? this.count : Infinity;
+      for (const entry of entries(reader)) {
+        yield Object.assign(entry, { reader, row: entry.isPause ? null : this.add(entry) });
+      }
     }
   }
 
@@ -129,63 +140,70 @@ class Rows {
     return row;
   }
 
-  // Learns of calls and names from a row, and returns it. All before were learned from.
-  learn(row) {
-    const offset = this.offsets[row];
-    if (this.kinds[row] !== WHOLE_ROW) {
-      return row;
+  // The rows in the order in which to learn of them: the client's again at last, since it answers the server's calls.
+  learning = () => [...Array(this.count).keys(), ...Array(this.readers[1] ? this.first : 0).keys()];
+
+  // Learns of calls and names from a row. All before were learned from.
+  learn = (row) => {
+    const { reader, offset, length, type, isWhole } = this.at(row);
+    if (!isWhole) {
+      return;
     }
-    const event = this.reader.event(offset, this.lengths[row]);
-    // The second byte of a message is its type.
-    const isError = event.event === REPLY && this.reader.part(offset + 1, offset + 2)[0] === ERROR_TYPE;
-    this.kinds[row] = isError ? ERROR_ROW : event.event;
+    const event = reader.event(offset, length), isReply = event.event === REPLY;
+    if (this.readers[1]) {
+      // The client need not say who it is.
+      event.waiter = isReply === (row < this.first) ? event.caller : ARROWS[0];
+    }
+    this.kinds[row] = isReply && type === ERROR_TYPE ? ERROR_ROW : event.event;
     const call = this.calls.take(event, { row, destination: () => this.said(row).destination });
     if (call) {
       this.pairs[row] = call.row + 1;
       this.pairs[call.row] = row + 1;
     }
     this.names.take(event, row);
-    return row;
+  };
+
+  // The row that it answers, counted from 1, or 0.
+  answered = (row) => (this.kinds[row] === CALL ? 0 : this.pairs[row]);
+
+  // The rows in the order of the list: what the server sent is as early as may be, behind what it answers.
+  ordered() {
+    let behind = 0;
+    const place = (row) => (row < this.first ? row + 1 : (behind = Math.max(behind, this.answered(row))));
+    const rows = [...Array(this.count).keys()], places = rows.map(place);
+    return rows.sort((a, b) => places[a] - places[b] || a - b);
   }
 
   at(row) {
-    const kind = this.kinds[row];
+    const kind = this.kinds[row], offset = this.offsets[row], side = row < this.first ? 0 : 1;
+    const reader = this.readers[side];
+    const number = row + 1 - (side && this.first), label = this.readers[1] ? `${ARROWS[side]} ${number}` : number;
     return {
-      index: row, number: row + 1, offset: this.offsets[row], length: this.lengths[row], pair: this.pairs[row] - 1,
-      isWhole: kind < REFUSED_ROW, isPartial: kind === PARTIAL_ROW, isError: kind === ERROR_ROW, isCall: kind === CALL,
-      isUnwanted: kind === CALL_WITHOUT_REPLY,
+      index: row, number, label, reader, offset, length: this.lengths[row], pair: this.pairs[row] - 1,
+      // The second byte of a message is its type.
+      type: reader.bytes[reader.data + offset + 1], isCall: kind === CALL, isUnwanted: kind === CALL_WITHOUT_REPLY,
+      isWhole: kind < REFUSED_ROW, isPartial: kind === PARTIAL_ROW, isError: kind === ERROR_ROW,
     };
   }
 
-  json = (row) => this.reader.json(row + 1, this.offsets[row], this.lengths[row]);
+  json(row) {
+    const { reader, number, offset, length } = this.at(row);
+    return reader.json(number, offset, length);
+  }
+
   said = (row) => JSON.parse(this.json(row));
+
   // When it was captured, in nanoseconds, or null.
-  time = (row) => this.reader.timeAt(this.offsets[row] + this.lengths[row] - 1);
+  time(row) {
+    const { reader, offset, length } = this.at(row);
+    return reader.timeAt(offset + length - 1);
+  }
 
   // The line of `list` of a message, of at most so many cells, or 0. `said` is its JSON.
   line(row, said, width) {
-    const { number, offset, length, pair } = this.at(row), isReply = pair >= 0 && pair < row;
-    const call = isReply ? { number: pair + 1, time: this.time(pair), member: this.said(pair).member ?? "-" } : null;
+    const { reader, number, offset, length } = this.at(row), call = this.answered(row) - 1;
     const [sender, destination] = [said.sender, said.destination].map((it) => this.names.at(it, row));
-    return this.reader.line(number, offset, length, { call, sender, destination }, width);
+    const tell = () => ({ number: this.at(call).number, time: this.time(call), member: this.said(call).member ?? "-" });
+    return reader.line(number, offset, length, { call: call < 0 ? null : tell(), sender, destination }, width);
   }
-}
-
-// What is compared of an input: its messages as JSON and as lines; and of what is refused number, offset, place, reason
-// and explanation.
-function answersOf(reader, rows) {
-  const answers = { lines: "", listed: "", cut: "", refused: [], fault: reader.fileFault };
-  for (let row = 0; row < rows.count; row += 1) {
-    const it = rows.at(row);
-    if (it.isWhole) {
-      const said = rows.said(row);
-      answers.lines += rows.json(row);
-      answers.listed += rows.line(row, said, 0);
-      answers.cut += rows.line(row, said, 100);
-    } else {
-      const { number, offset } = it, at = offset + reader.next(offset).at;
-      answers.refused.push([number, offset, at, reader.reason(offset), reader.explain(number, offset)]);
-    }
-  }
-  return answers;
 }

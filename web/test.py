@@ -11,7 +11,8 @@ file. Of the page also: the cells of the first row and the last; which messages 
 what it saves of them, and what the command that it gives writes; and which calls its choices show, and its
 tables of members and of counts, by what `calls` and `count` write. It reads each second input by gzip. Of
 rules: which messages of the samples `filter` writes; and what the cases say of rules and of messages that
-match. Of calls and names: the lines of `list` of random sessions, which tell both.
+match. Of calls and names: the lines of `list` of random sessions, which tell both. Of both sides of random
+connections: the lines of each, and by `calls` of all of it which messages are a call and its reply.
 """
 
 import concurrent.futures as futures
@@ -54,11 +55,33 @@ CHOICES = ("--slower 0", "--unanswered", "--errors")
 DAMAGED = 30
 # How many sessions are random, of how many messages, out of how many; and how many Node is asked for at once.
 SESSIONS, SESSION, DRAWN, AT_ONCE = 10000, 40, 4000, 500
+# How many connections are given as their two sides, how many of them to a page, and how these begin.
+CONNECTIONS, CHOSEN = 500, 20
+HANDSHAKES = (b"\0AUTH ANONYMOUS\r\nBEGIN\r\n", b"OK 0123456789abcdef0123456789abcdef\r\n")
 MOST_REPORTED = 5
+# What is compared of an input, made of its rows: its messages as JSON and as lines; and of what is refused number,
+# offset, place, reason and explanation; and which messages are a call and its reply.
+ANSWERS = """(rows) => {
+  const answers = { lines: "", listed: "", cut: "", refused: [], fault: rows.readers[0].fileFault, pairs: [] };
+  for (const row of Array(rows.count).keys()) {
+    const { number, offset, reader, isWhole, isCall, pair } = rows.at(row);
+    if (isWhole) {
+      const said = rows.said(row);
+      answers.lines += rows.json(row);
+      answers.listed += rows.line(row, said, 0);
+      answers.cut += rows.line(row, said, 100);
+      answers.pairs.push(...(isCall && pair >= 0 ? [[row, pair]] : []));
+    } else {
+      const at = offset + reader.next(offset).at;
+      answers.refused.push([number, offset, at, reader.reason(offset), reader.explain(number, offset)]);
+    }
+  }
+  return { ...answers, ordered: rows.ordered() };
+}"""
 # What a page is asked of an input, with a rule and a word: what is shown of the first row and the last, after a mark went
 # through some values; the numbers of the messages that it shows by both, what is saved of them, and their command; those of
 # the calls that each choice shows, by the words of `calls`; and the tables of members and of counts.
-SEEN = """(async () => {
+SEEN = f"const answersOf = {ANSWERS};" + """(async () => {
   const press = (key) => find("list").dispatchEvent(new KeyboardEvent("keydown", { key, bubbles: true }));
   const seen = ["n", "End"].map((key) => {
     press(key);
@@ -69,7 +92,8 @@ SEEN = """(async () => {
   [find("rule").value, find("words").value] = ["type='method_call'", "DBus"];
   await filter();
   const calls = state.shown.map((it) => state.rows.at(it)).filter((it) => it.isWhole).map((it) => it.number);
-  const asked = { ...answersOf(state.reader, state.rows), seen, calls, saved: [...new Uint8Array(await pcap().arrayBuffer())], command: command(), chosen: {} };
+  const saved = [...new Uint8Array(await pcap().arrayBuffer())];
+  const asked = { ...answersOf(state.rows), seen, calls, saved, command: command(), chosen: {} };
   find("rule").value = find("words").value = "";
   for (const choice of [...Object.keys(CALLS), ""]) {
     find("only").value = choice;
@@ -354,14 +378,9 @@ def session_messages(program):
         if said.get("member") == "RequestName":
             values = [draws.choice(names), 0]
         types = "".join("u" if isinstance(it, int) else "s" for it in values)
-        said = {key: it for key, it in said.items() if it is not None}
         return {"order": draws.choice("lB"), **said, "signature": types, "body": values}
 
-    lines = "".join(f"{json.dumps(one())}\n" for _ in range(DRAWN)).encode()
-    data = subprocess.run([program, "encode"], input=lines, stdout=subprocess.PIPE, check=True).stdout
-    lines = subprocess.run([program, "json"], input=data, stdout=subprocess.PIPE, check=True).stdout.splitlines()
-    places = [json.loads(it)["offset"] for it in lines]
-    return [data[start:end] for start, end in itertools.pairwise([*places, len(data)])]
+    return cut_up(program, [one() for _ in range(DRAWN)])
 
 
 def sessions_differ(program, pool, answers):
@@ -379,6 +398,98 @@ def sessions_differ(program, pool, answers):
     told = f"with {replies} replies and {names} names, {len(wrong)} not"
     print(f"calls and names: {SESSIONS - len(wrong)} sessions as dbus-wire lists them, {told}")
     return len(wrong)
+
+
+def connection(draws):
+    """Messages of a client, its bus and two peers, as the bus sees them, each with whether the client sent it."""
+    bus, peers, serials, waiting = "org.freedesktop.DBus", (":1.2", ":1.3"), {}, {True: [], False: []}
+    for _ in range(SESSION):
+        is_sent = draws.random() < 0.5
+        who = ":1.1" if is_sent else draws.choice((*peers, bus))
+        serials[who] = serials.get(who, 0) + 1
+        said = {"order": draws.choice("lB"), "type": draws.choice(TYPES), "flags": draws.choice((0, 0, 0, 1)),
+                "serial": serials[who], "sender": who, "signature": "", "body": [],
+                "destination": draws.choice((*peers, bus, "org.example.A")) if is_sent else ":1.1"}
+        if said["type"] in ("method_return", "error"):
+            if not waiting[not is_sent]:
+                continue
+            call = waiting[not is_sent].pop(draws.randrange(len(waiting[not is_sent])))
+            # A reply comes from whom the call is to, in each case.
+            other = call["destination"] if call["destination"][0] == ":" else bus
+            said |= {"reply_serial": call["serial"], "destination": call["sender"]}
+            said |= {"sender": ":1.1" if is_sent else other}
+            said |= {"error_name": "org.example.Error"} if said["type"] == "error" else {}
+        else:
+            said |= {"path": "/a", "interface": "org.example.I", "member": "Get"}
+            if said["type"] == "method_call" and said["flags"] == 0:
+                waiting[is_sent].append(said)
+        yield said, is_sent
+
+
+def without_none(said):
+    return {key: it for key, it in said.items() if it is not None}
+
+
+def cut_up(program, messages):
+    """The bytes of each message."""
+    lines = "".join(f"{json.dumps(without_none(it))}\n" for it in messages).encode()
+    data = subprocess.run([program, "encode"], input=lines, stdout=subprocess.PIPE, check=True).stdout
+    lines = subprocess.run([program, "json"], input=data, stdout=subprocess.PIPE, check=True).stdout.splitlines()
+    places = [json.loads(it)["offset"] for it in lines]
+    return [data[start:end] for start, end in itertools.pairwise([*places, len(data)])]
+
+
+def side_answers(program, parts):
+    """Of a connection, as bytes that the bus sees and that were sent, and whether the client sent them: the two sides,
+    their lines, and which rows are a call and its reply by what `calls` says of all of it."""
+    run = lambda word, data: subprocess.run([program, *word], input=data, stdout=subprocess.PIPE).stdout.decode()
+    sides = [b"".join(sent for _, sent, is_sent in parts if is_sent == of) for of in (True, False)]
+    sent = [is_sent for *_, is_sent in parts]
+    rows = [sum(sent[:at]) if of else sum(sent) + at - sum(sent[:at]) for at, of in enumerate(sent)]
+    calls = map(json.loads, run(["calls", "--json"], b"".join(seen for seen, *_ in parts)).splitlines())
+    pairs = sorted([rows[it["number"] - 1], rows[it["reply"] - 1]] for it in calls if "reply" in it)
+    return sides, {"lines": "".join(run(["json"], it) for it in sides), "pairs": pairs}
+
+
+def is_in_order(answers, first):
+    """Whether the rows of a list of two sides are all there, each side's in order, and each reply behind its call."""
+    place = {row: at for at, row in enumerate(answers["ordered"])}
+    sides = [row for row in answers["ordered"] if row < first] + [row for row in answers["ordered"] if row >= first]
+    return sides == [*range(len(place))] and all(place[call] < place[reply] for call, reply in answers["pairs"])
+
+
+def connections(program, pool):
+    """Random connections: both files, what the program says of them, and how many messages the first one has."""
+    draws = random.Random(100)
+    drawn = [[*connection(draws)] for _ in range(CONNECTIONS)]
+    messages = [said for it in drawn for said, _ in it]
+    seen = iter(cut_up(program, messages))
+    sent = iter(cut_up(program, [it if it["sender"] != ":1.1" else {**it, "sender": None} for it in messages]))
+    all_parts = [[(next(seen), next(sent), is_sent) for _, is_sent in it] for it in drawn]
+    for parts, (sides, wanted) in zip(all_parts, pool.map(functools.partial(side_answers, program), all_parts)):
+        files = [start + it for start, it in zip(HANDSHAKES, sides)]
+        yield files, wanted, sum(is_sent for *_, is_sent in parts)
+
+
+def sides_differ(how, all_sides, given):
+    """How many connections, given as what either side sent, are read otherwise than the program reads them."""
+    wrong = 0
+    for (_, wanted, first), found in zip(all_sides, given, strict=True):
+        compared = {it: sorted(found[it]) if it == "pairs" else found[it] for it in wanted}
+        wrong += compared != wanted or not is_in_order(found, first)
+    pairs = sum(len(wanted["pairs"]) for _, wanted, _ in all_sides)
+    print(f"{how}: both sides of {len(given) - wrong} connections as dbus-wire reads them, with {pairs} replies, {wrong} not")
+    return wrong
+
+
+def sides_shown(chromium, folder, both):
+    """What the page gives of both files of a connection, chosen together, the server's first."""
+    folder.mkdir()
+    files = [folder / "received", folder / "sent"]
+    for file, data in zip(files, reversed(both)):
+        file.write_bytes(data)
+    assert chromium.choose(*files)
+    return json.loads(chromium.value(f"JSON.stringify(({ANSWERS})(state.rows))"))
 
 
 def is_utf8(data):
@@ -404,10 +515,13 @@ def main(program, module, page):
     all_inputs = list(inputs())
     with futures.ThreadPoolExecutor(len(os.sched_getaffinity(0))) as pool:
         wanted = list(pool.map(lambda it: written(program, it[1]), all_inputs))
-        answers = functools.partial(run_node, [*node_words(), HERE / "answers.js", module])
+        answers = functools.partial(run_node, [*node_words(), HERE / "answers.js", module, ANSWERS])
         given = answers("".join(f"{data.hex()}\n" for _, data in all_inputs))
         wrong = differs("the module in Node", all_inputs, wanted, given) + rules_differ(program, answers)
         wrong += untied(all_inputs, given) + sessions_differ(program, pool, answers)
+        all_sides = [*connections(program, pool)]
+        given = answers("".join(f"{','.join(it.hex() for it in both)}\n" for both, *_ in all_sides))
+        wrong += sides_differ("the module in Node", all_sides, given)
     browser = os.environ.get("BROWSER") or shutil.which("chromium") or shutil.which("google-chrome")
     if not browser:
         print("there is no Chromium here: the page was not tried in one")
@@ -418,7 +532,10 @@ def main(program, module, page):
             file.write_bytes(gzip.compress(data) if at % 2 else data)
         with Browser(browser, page) as chromium:
             shown = [json.loads(chromium.value(SEEN)) if chromium.choose(it) else None for it in files]
-        wrong += differs(f"the page in {pathlib.Path(browser).name}", all_inputs, wanted, shown)
+            chosen = enumerate(both for both, *_ in all_sides[:CHOSEN])
+            given = [sides_shown(chromium, pathlib.Path(folder) / f"sides{at}", both) for at, both in chosen]
+        how = f"the page in {pathlib.Path(browser).name}"
+        wrong += differs(how, all_inputs, wanted, shown) + sides_differ(how, all_sides[:CHOSEN], given)
         wrong += unseen(program, pathlib.Path(folder), all_inputs, wanted, shown)
     return 1 if wrong else 0
 
