@@ -1,7 +1,7 @@
 // Draws what the module reads, and filters it. What comes from the input is written as text, never as HTML.
 
 const ROW_HEIGHT = 26, NARROW_ROW_HEIGHT = 48;
-const MOST_LIST_HEIGHT = 8e6, TURN_MILLISECONDS = 80;
+const MOST_LIST_HEIGHT = 8e6, TURN_MILLISECONDS = 80, SLICE = 4_194_304;
 const HEX_BYTES = 16, HEX_LINES = 48;
 // Of a longer line of JSON no value is tied to its bytes.
 const MOST_TIED = 200_000;
@@ -22,11 +22,9 @@ async function opened(file) {
   const isGzip = `${new Uint8Array(await file.slice(0, 2).arrayBuffer())}` === "31,139";
   const unzipped = () => new Response(file.stream().pipeThrough(new DecompressionStream("gzip"))).blob();
   const body = isGzip ? await unzipped() : file, reader = new Reader(state.module, body.size);
-  const source = body.stream().getReader({ mode: "byob" }), next = (room) => source.read(new Uint8Array(room));
-  for (let at = 0, it = await next(new ArrayBuffer(PAGE_BYTES)); !it.done; it = await next(it.value.buffer)) {
-    reader.bytes.set(it.value, reader.text + at);
-    at += it.value.length;
+  for (let at = 0; at < body.size; at += SLICE) {
     tell(`Opening ${file.name}: ${percent(at, body.size)}`);
+    reader.bytes.set(new Uint8Array(await body.slice(at, at + SLICE).arrayBuffer()), reader.text + at);
   }
   if (!reader.open()) {
     throw new Error(`${file.name} begins as one side of a connection, but its handshake is at fault`);

@@ -7,7 +7,7 @@ const LITTLE = 108, BIG = 66, PAGE_BYTES = 65536;
 const WINDOW = 1_048_576, EFFORT = 16;
 const MOST_FIELDS = 2 ** 26, MOST_BYTES = 2 ** 27, FRONT_BYTES = 16;
 // The structs of calls, one after another, and a line's texts; and the bytes of a `PagePart`.
-const UNPACKED = 0, NEXT = 32, PLACE = 48, COUNT = 80, BESIDE = 96, EVENT = 152, EVENT_WORDS = 18, TEXTS = 224;
+const UNPACKED = 0, NEXT = 32, PLACE = 48, COUNT = 80, BESIDE = 96, EVENT = 152, TEXTS = 224;
 const TOLD_BYTES = 1024, PART_BYTES = 32, ITEM_BYTES = 32;
 // Words of a `PagePart`.
 const START = 0, PACKET = 1, TIME = 2, HAS_TIME = 3;
@@ -107,7 +107,7 @@ class Reader {
 
   // What begins at the offset of what ends there: a message of this length; or a fault, or the end, at a place.
   next(offset, end = this.length) {
-    const answer = this.calls.dbus_page_next(...this.input(offset, end - offset), this.toldAt(NEXT));
+    const answer = this.calls.dbus_page_next(BigInt(this.data + offset), BigInt(end - offset), this.toldAt(NEXT));
     return { answer, length: this.number(NEXT), at: this.number(NEXT + 8) };
   }
 
@@ -191,15 +191,15 @@ class Reader {
     const given = [...this.input(offset, length), this.toldAt(EVENT)];
     const bytes = this.writtenBytes((...room) => this.calls.dbus_page_event(...given, ...room));
     // Names are of ASCII, but for what no bus sends.
-    const text = bytes.length ? DECODER.decode(bytes) : "", isPlain = text.length === bytes.length;
-    const words = new Uint32Array(this.memory.buffer, this.told + EVENT, EVENT_WORDS);
+    const text = String.fromCharCode(...bytes), isPlain = !/[\u0080-\u00ff]/.test(text);
+    const word = (at) => this.view.getUint32(this.told + EVENT + 4 * at, true);
     let end = 0;
     const [caller, sender, name, unique, forCaller, forOwner, byName] = [4, 6, 8, 10, 12, 14, 16].map((it) => {
       const start = end;
-      end += words[it];
+      end += word(it);
       return isPlain ? text.slice(start, end) : DECODER.decode(bytes.subarray(start, end));
     });
-    const [said, serial, says] = words;
+    const [said, serial, says] = [0, 1, 2].map(word);
     return { event: said, serial, says, caller, waiter: caller, sender, name, unique, forCaller, forOwner, byName };
   }
 

@@ -121,7 +121,9 @@ class Rows {
     for (const reader of this.readers) {
       this.first = reader === this.readers[1] ? this.count : Infinity;
       for (const entry of entries(reader)) {
-        yield Object.assign(entry, { reader, row: entry.isPause ? null : this.add(entry) });
+        entry.reader = reader;
+        entry.row = entry.isPause ? null : this.add(entry);
+        yield entry;
       }
     }
   }

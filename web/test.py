@@ -81,7 +81,7 @@ ANSWERS = """(rows) => {
 # What a page is asked of an input, with a rule and a word: what is shown of the first row and the last, after a mark went
 # through some values; the numbers of the messages that it shows by both, what is saved of them, and their command; those of
 # the calls that each choice shows, by the words of `calls`; and the tables of members and of counts.
-SEEN = f"const answersOf = {ANSWERS};" + """(async () => {
+SEEN = """(async () => {
   const press = (key) => find("list").dispatchEvent(new KeyboardEvent("keydown", { key, bubbles: true }));
   const seen = ["n", "End"].map((key) => {
     press(key);
@@ -93,7 +93,7 @@ SEEN = f"const answersOf = {ANSWERS};" + """(async () => {
   await filter();
   const calls = state.shown.map((it) => state.rows.at(it)).filter((it) => it.isWhole).map((it) => it.number);
   const saved = [...new Uint8Array(await pcap().arrayBuffer())];
-  const asked = { ...answersOf(state.rows), seen, calls, saved, command: command(), chosen: {} };
+  const asked = { ...(ANSWERS)(state.rows), seen, calls, saved, command: command(), chosen: {} };
   find("rule").value = find("words").value = "";
   for (const choice of [...Object.keys(CALLS), ""]) {
     find("only").value = choice;
@@ -105,7 +105,7 @@ SEEN = f"const answersOf = {ANSWERS};" + """(async () => {
     asked.chosen[table.name] = find("details").querySelector("pre").textContent;
   }
   return JSON.stringify(asked);
-})()"""
+})()""".replace("ANSWERS", ANSWERS)
 
 
 def inputs():
@@ -478,7 +478,8 @@ def sides_differ(how, all_sides, given):
         compared = {it: sorted(found[it]) if it == "pairs" else found[it] for it in wanted}
         wrong += compared != wanted or not is_in_order(found, first)
     pairs = sum(len(wanted["pairs"]) for _, wanted, _ in all_sides)
-    print(f"{how}: both sides of {len(given) - wrong} connections as dbus-wire reads them, with {pairs} replies, {wrong} not")
+    told = f"{len(given) - wrong} connections as dbus-wire reads them, with {pairs} replies, {wrong} not"
+    print(f"{how}: both sides of {told}")
     return wrong
 
 
