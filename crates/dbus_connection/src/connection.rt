@@ -19,21 +19,30 @@ use std::alloc::AllocError;
 /// is seen in place.
 ///
 /// ```rust
-/// use dbus_connection::{Connection, Event};
+/// use dbus_auth::{Client, ClientEnd, Mechanism};
+/// use dbus_connection::{Connection, Event, Step};
+/// use dbus_value::Limits;
 /// use std::io::Write;
 ///
-/// let mut connection = Connection::client(ClientEnd::new(alloc, client), limits);
-/// // `input` has the bytes that came and were not taken. The first call needs none.
-/// let step = connection.take(&input)?;
-/// match step.event {
-///     Event::Wants(bytes) => println!(rt; "read until there are {bytes}")?,
-///     Event::Send(bytes) => rt.stdout().write_all(&bytes)?,
-///     Event::Begun(begun) => rt.stdout().write_all(&begun.send)?,
-///     Event::Message(message) => println!(rt; "serial {}", message.view.serial())?,
-///     Event::Refused(fault) => println!(rt; "refused: {fault}")?,
-///     Event::Failed | Event::Over => println!(rt; "close the connection")?,
+/// if let Ok(client) = Client::new(vec![in alloc; Mechanism::External(Some(1000))]?) {
+///     let end = ClientEnd::new(alloc, client);
+///     let mut connection = Connection::client(end, Limits::specification());
+///     // What came and was not taken, which may end anywhere: here a line, and a message.
+///     let mut input = Vec::from_slice(alloc, b"OK 0123456789abcdef0123456789abcdef\r\n")?;
+///     input.extend_from_slice(bytes)?;
+///     for _ in 0..4 {
+///         let Step { taken, event } = connection.take(&input)?;
+///         match event {
+///             Event::Wants(count) => println!(rt; "read until there are {count}")?,
+///             Event::Send(send) => rt.stdout().write_all(&send)?,
+///             Event::Begun(begun) => rt.stdout().write_all(&begun.send)?,
+///             Event::Message(message) => println!(rt; "serial {}", message.view.serial())?,
+///             Event::Refused(fault) => println!(rt; "refused: {fault}")?,
+///             Event::Failed | Event::Over => println!(rt; "close the connection")?,
+///         }
+///         input.drain(..taken);
+///     }
 /// }
-/// input.drain(..step.taken);
 /// ```
 #[derive(Drop)]
 pub struct Connection {
