@@ -1,3 +1,4 @@
 pub mod Courses
 pub mod Given
+pub mod Sent
 pub mod Starts

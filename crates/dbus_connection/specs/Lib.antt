@@ -3,3 +3,4 @@ pub mod Reading
 pub mod Answers
 pub mod Shown
 pub mod Runs
+pub mod Sending

@@ -1,6 +1,6 @@
 -- Where a connection stands, and what a call of it tells. D-Bus Specification, "Authentication
 -- Protocol" and "Message Protocol".
-use Rattle.std.specs.Prelude.{ℕ, List, [], ◌∷◌, Bool, Option}
+use Rattle.std.specs.Prelude.{ℕ, List, [], ◌∷◌, Bool, true, false, Option}
 use Rattle.dbus_auth.specs.Ends.{ClientEndState, ServerEndState}
 use Rattle.dbus_auth.specs.declared.end_step.Status.{Status}
 use Rattle.dbus_auth.specs.declared.end_step.Status.TheVariants as status
@@ -13,6 +13,11 @@ pub data Stand : Type 0 where
   Server : ServerEndState → Stand
   Messages : Stand
   Closed : Stand
+
+-- whether messages may be sent
+abbrev pub is_open : Stand → Bool
+is_open Messages = true
+is_open s = false
 
 -- what came of some bytes
 pub data Told : Type 0 where

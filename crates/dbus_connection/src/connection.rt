@@ -1,14 +1,21 @@
 //! One side of a connection.
 #![tactic(auto)]
 
-ghost use Rattle.std.specs.Prelude.{◌≡◌, ◌+◌, ◌-◌, ◌^◌, min, false, IfOk, OnErr};
+ghost use Rattle.std.specs.Prelude.{◌≡◌, ◌≢◌, ◌+◌, ◌-◌, ◌^◌, min, true, false, IfOk, IfErr, OnErr, OnOk};
 
 use crate::client_side::ClientSide;
 use crate::event::Step;
 use crate::phase::Phase;
+use crate::sending::{Asked, Outgoing, Unsent, destination_of};
+use crate::settings::Settings;
 use dbus_auth::{ClientEnd, ServerEnd};
-use dbus_value_model::Limits;
-use std::alloc::AllocError;
+use dbus_build::BuildFault;
+use dbus_compose::MessageBuilder;
+use dbus_encode::encode;
+use dbus_message_model::Message;
+use dbus_pending::{NotWaiting, Pending};
+use dbus_value_model::Order;
+use std::alloc::{AllocError, Global};
 
 /// One side of a connection, without input and output: the handshake, and then messages. Hand it
 /// the bytes that come, and send those that it gives. D-Bus Specification, "Authentication
@@ -16,17 +23,21 @@ use std::alloc::AllocError;
 ///
 /// It keeps an end of the handshake until messages begin, and no byte of a message: keep the bytes
 /// that a call does not take, and hand them in again, with those that come after them. So a message
-/// is seen in place.
+/// is seen in place. Of what is sent it keeps the last serial, and each call that waits.
 ///
 /// ```rust
 /// use dbus_auth::{Client, ClientEnd, Mechanism};
-/// use dbus_connection::{Connection, Event, Step};
+/// use dbus_calls::EventView;
+/// use dbus_connection::{Connection, Event, Settings, Step};
+/// use dbus_message::{Compose, Message};
+/// use dbus_replies::reply_of;
 /// use dbus_value::Limits;
 /// use std::io::Write;
 ///
 /// if let Ok(client) = Client::new(vec![in alloc; Mechanism::External(Some(1000))]?) {
 ///     let end = ClientEnd::new(alloc, client);
-///     let mut connection = Connection::client(end, Limits::specification());
+///     let settings = Settings { limits: Limits::specification(), calls: 128 };
+///     let mut connection = Connection::client(alloc, end, settings);
 ///     // What came and was not taken, which may end anywhere: here a line, and a message.
 ///     let mut input = Vec::from_slice(alloc, b"OK 0123456789abcdef0123456789abcdef\r\n")?;
 ///     input.extend_from_slice(bytes)?;
@@ -35,8 +46,18 @@ use std::alloc::AllocError;
 ///         match event {
 ///             Event::Wants(count) => println!(rt; "read until there are {count}")?,
 ///             Event::Send(send) => rt.stdout().write_all(&send)?,
-///             Event::Begun(begun) => rt.stdout().write_all(&begun.send)?,
-///             Event::Message(message) => println!(rt; "serial {}", message.view.serial())?,
+///             Event::Begun(begun) => {
+///                 rt.stdout().write_all(&begun.send)?;
+///                 let ping = Message::call(alloc, "/", "Ping").destination("org.example.Lab");
+///                 rt.stdout().write_all(&connection.call(ping, "Ping")?.bytes)?;
+///             }
+///             Event::Message(message) => {
+///                 let message = EventView::of(&message.view);
+///                 match reply_of(&mut connection.pending, &message) {
+///                     Some(asked) => println!(rt; "{} is answered", asked.call)?,
+///                     None => println!(rt; "serial {}", message.view().serial())?,
+///                 }
+///             }
 ///             Event::Refused(fault) => println!(rt; "refused: {fault}")?,
 ///             Event::Failed | Event::Over => println!(rt; "close the connection")?,
 ///         }
@@ -45,40 +66,52 @@ use std::alloc::AllocError;
 /// }
 /// ```
 #[derive(Drop)]
-pub struct Connection {
+pub struct Connection<T> {
+    alloc: Global,
     phase: Phase,
-    limits: Limits,
+    settings: Settings,
     taken: u64,
+    /// The serials of what is sent, and the calls that wait for a reply. `reply_of` of
+    /// `dbus_replies` takes the one that a message answers.
+    pub pending: Pending<Asked<T>>,
 }
 
-impl Connection {
+impl<T: Drop> Connection<T> {
     ghost use Rattle.dbus_auth.specs.EndViews.{client_end_state, server_end_state};
+    ghost use Rattle.dbus_compose.specs.Drafts.{drafted};
+    ghost use Rattle.dbus_message_model.specs.MessageViews.{message_tree};
+    ghost use Rattle.dbus_pending.specs.Waiting.{Stays, last};
     ghost use Rattle.dbus_connection.specs.Answers.{Answers, gone_on};
-    ghost use Rattle.dbus_connection.specs.Shown.{IsNew, answer, limits_of, stand, taken_of, told};
-    ghost use Rattle.dbus_connection.specs.Standing.{Client, Server, stands_by};
+    ghost use Rattle.dbus_connection.specs.Sending.{IsNextOf, IsSent, IsUnsent, Waits};
+    ghost use Rattle.dbus_connection.specs.declared.sending.Unsent.TheVariants.{Full};
+    ghost use Rattle.dbus_connection.specs.Shown.{IsAsBefore, IsNew, answer, phase_stand, settings_of, stand, taken_of, told};
+    ghost use Rattle.dbus_connection.specs.Standing.{Client, Server, is_open, stands_by};
 
-    /// The side of a client, by its end, which has not started; messages that come have to keep the
-    /// limits. It allocates nothing.
-    pub fn client(end: ClientEnd, limits: Limits) -> Self
+    /// The side of a client, by its end, which has not started. It allocates nothing.
+    pub fn client(alloc: Global, end: ClientEnd, settings: Settings) -> Self
         requires { (client_end_state end).started ≡ false }
-        ensures { IsNew (Client (client_end_state end)) limits result }
+        ensures { IsNew (Client (client_end_state end)) settings result }
     {
-        Connection {
-            phase: Phase::Client(ClientSide::new(end)),
-            limits,
-            taken: 0,
-        }
+        Connection::at(alloc, Phase::Client(ClientSide::new(end)), settings)
     }
 
-    /// The side of a server, by its end; messages that come have to keep the limits. It allocates
-    /// nothing.
-    pub fn server(end: ServerEnd, limits: Limits) -> Self
-        ensures { IsNew (Server (server_end_state end)) limits result }
+    /// The side of a server, by its end. It allocates nothing.
+    pub fn server(alloc: Global, end: ServerEnd, settings: Settings) -> Self
+        ensures { IsNew (Server (server_end_state end)) settings result }
+    {
+        Connection::at(alloc, Phase::Server(end), settings)
+    }
+
+    // A connection that stands there, before anything was taken or sent.
+    fn at(alloc: Global, phase: Phase, settings: Settings) -> Self
+        ensures { IsNew (phase_stand phase) settings result }
     {
         Connection {
-            phase: Phase::Server(end),
-            limits,
+            alloc,
+            phase,
+            settings,
             taken: 0,
+            pending: Pending::new(alloc, settings.calls),
         }
     }
 
@@ -92,16 +125,17 @@ impl Connection {
     /// `AllocError`: an allocation failed. Then nothing is changed: hand in the same bytes again.
     pub fn take<'a>(&mut self, bytes: &'a [u8]) -> Result<Step<'a>, AllocError>
         ensures answers { IfOk result (λ s.
-            Answers (limits_of self.old) (stand self.old) bytes.now (answer s)) }
+            Answers (settings_of self.old).limits (stand self.old) bytes.now (answer s)) }
         ensures stands { IfOk result (λ s. stand self.new ≡
             stands_by (gone_on (stand self.old) bytes.now) (told s.event)) }
         ensures taken { IfOk result (λ s.
             taken_of self.new ≡ min (2 ^ 64 - 1) (taken_of self.old + s.taken)) }
         ensures unchanged { OnErr result ((stand self.new ≡ stand self.old) ×
             (taken_of self.new ≡ taken_of self.old)) }
-        ensures limits { limits_of self.new ≡ limits_of self.old }
+        ensures settings { settings_of self.new ≡ settings_of self.old }
+        ensures pending { self.new.pending ≡ self.old.pending }
     {
-        match self.phase.take(bytes, self.limits) {
+        match self.phase.take(bytes, self.settings.limits) {
             Ok(step) => {
                 self.taken = self.taken.saturating_add(step.taken as u64);
                 Ok(step)
@@ -116,5 +150,64 @@ impl Connection {
         ensures { result ≡ taken_of self.now }
     {
         self.taken
+    }
+    /// The bytes of the draft's message, which waits for no reply: a signal, a reply, an error, or a
+    /// call that wants none. Its serial is the next one, in place of the draft's. D-Bus
+    /// Specification, "Message Format".
+    ///
+    /// Errors are those of [`Unsent`], but `Full`. Then nothing is changed.
+    pub fn send(&mut self, draft: MessageBuilder) -> Result<Outgoing, Unsent>
+        ensures sent { IfOk result (λ sent. IsSent self.old.pending (drafted draft) sent) }
+        ensures last { IfOk result (λ sent. last self.new.pending ≡ sent.serial) }
+        ensures waiting { Stays self.old.pending self.new.pending }
+        ensures refused { IfErr result (λ e. (e ≢ Full) ×
+            IsUnsent self.old.pending (drafted draft) (stand self.old) e) }
+        ensures unchanged { OnErr result (last self.new.pending ≡ last self.old.pending) }
+        ensures same { IsAsBefore self.old self.new }
+    {
+        let message = self.message_of(draft)?;
+        let bytes = encode(self.alloc, &message, Order::Little)?;
+        let serial = self.pending.serial();
+        Ok(Outgoing { serial, bytes })
+    }
+
+    /// The bytes of the draft's message as [`Connection::send`] returns them, of a call, which waits
+    /// for its reply from now on, with what its caller wants to know again.
+    ///
+    /// The draft has to want a reply: no message answers another one, which would wait on. Errors
+    /// are those of [`Unsent`]. Then nothing is changed.
+    pub fn call(&mut self, draft: MessageBuilder, call: T) -> Result<Outgoing, Unsent>
+        ensures sent { IfOk result (λ sent. IsSent self.old.pending (drafted draft) sent) }
+        ensures waits { IfOk result (λ sent.
+            Waits self.old.pending self.new.pending (drafted draft) sent.serial call) }
+        ensures refused { IfErr result (λ e.
+            IsUnsent self.old.pending (drafted draft) (stand self.old) e) }
+        ensures unchanged { OnErr result ((last self.new.pending ≡ last self.old.pending) ×
+            Stays self.old.pending self.new.pending) }
+        ensures same { IsAsBefore self.old self.new }
+    {
+        let message = self.message_of(draft)?;
+        let bytes = encode(self.alloc, &message, Order::Little)?;
+        let destination = destination_of(self.alloc, &message)?;
+        match self.pending.call(Asked { destination, call }) {
+            Ok(serial) => Ok(Outgoing { serial, bytes }),
+            Err(NotWaiting::Full(_)) => Err(Unsent::Full),
+            Err(NotWaiting::Memory(_)) => Err(Unsent::Unmade(BuildFault::Memory)),
+        }
+    }
+
+    // The draft's message, with the next serial.
+    fn message_of(&self, draft: MessageBuilder) -> Result<Message, Unsent>
+        ensures made { IfOk result (λ m.
+            IsNextOf self.now.pending (drafted draft) (message_tree m)) }
+        ensures stands { OnOk result (is_open (stand self.now) ≡ true) }
+        ensures refused { IfErr result (λ e. (e ≢ Full) ×
+            IsUnsent self.now.pending (drafted draft) (stand self.now) e) }
+    {
+        if !self.phase.is_open() {
+            return Err(Unsent::NotOpen);
+        }
+        let serial = self.pending.next_serial();
+        Ok(draft.serial(serial).build()?)
     }
 }

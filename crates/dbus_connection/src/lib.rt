@@ -7,6 +7,10 @@ mod event;
 pub mod laws;
 mod phase;
 mod reading;
+mod sending;
+mod settings;
 
 pub use connection::Connection;
 pub use event::{Begun, Event, Incoming, Step};
+pub use sending::{Asked, Outgoing, Unsent};
+pub use settings::Settings;

@@ -4,7 +4,7 @@
 ghost use Rattle.std.specs.Prelude.{◌≡◌, IfOk, OnErr, option_map};
 ghost use Rattle.dbus_connection.specs.Answers.{Answers, gone_on};
 ghost use Rattle.dbus_connection.specs.Shown.{answer, phase_stand, told};
-ghost use Rattle.dbus_connection.specs.Standing.{stands_by, told_by};
+ghost use Rattle.dbus_connection.specs.Standing.{is_open, stands_by, told_by};
 
 use crate::client_side::ClientSide;
 use crate::event::{Begun, Event, Step};
@@ -73,6 +73,13 @@ impl Phase {
                 event: Event::Over,
             }),
         }
+    }
+
+    /// Whether messages may be sent.
+    pub(crate) fn is_open(&self) -> bool
+        ensures { result ≡ is_open (phase_stand self.now) }
+    {
+        matches!(self, Phase::Messages)
     }
 
     // Where it stands once this came.

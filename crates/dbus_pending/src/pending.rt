@@ -70,7 +70,7 @@ impl<T: Drop> Pending<T> {
         ensures last { last self.new ≡ result }
         ensures others { Stays self.old self.new }
     {
-        let serial = self.next();
+        let serial = self.next_serial();
         self.last = serial;
         serial
     }
@@ -88,7 +88,7 @@ impl<T: Drop> Pending<T> {
         if self.calls.len() >= self.most as usize {
             return Err(NotWaiting::Full(call));
         }
-        let serial = self.next();
+        let serial = self.next_serial();
         match self.calls.insert(serial, call) {
             Ok(_) => {
                 self.last = serial;
@@ -119,9 +119,10 @@ impl<T: Drop> Pending<T> {
         self.calls.remove(&serial)
     }
 
-    // The serial of the next message.
+    /// The serial that the next message gets, if no call waits or is taken before: that which
+    /// [`Pending::serial`] and [`Pending::call`] then return.
     #[tactic(auto, using(crate::proofs::Covered::is_found))]
-    fn next(&self) -> u32
+    pub fn next_serial(&self) -> u32
         ensures { IsNext (waiting self.now) (last self.now) result }
     {
         if let Some(serial) = first_free(&self.calls, self.last) {
