@@ -7,12 +7,12 @@ use Rattle.dbus_header.specs.MessageOutcomes.{IsRefused, IsWhole}
 use Rattle.dbus_header.proofs.OutcomeLaws.{not_both, one_fault, one_whole, refused_for_good, whole_for_good}
 use Rattle.dbus_view.specs.Views.{IsViewOf, ViewState, Views}
 use Rattle.dbus_connection.specs.Reading.{HasOwn, IsRead}
-use Rattle.dbus_connection.specs.Runs.{AnyCut, AreCalls, BeginsAs, Call, TakesMessages, bytes_of, came, coming, taken_of}
+use Rattle.dbus_connection.specs.Runs.{AreCalls, BeginsAs, Call, TakesMessages, bytes_of, came, coming, taken_of}
 use Rattle.dbus_connection.specs.Standing.{Answer, Begins, Closed, Fails, Gives, IsOver, Messages, Refuses, Sends, Told, Wants, stands_by}
 
 module _ (limits : Limits) where
   -- what bytes are: messages, one after another, and then maybe a refusal
-  abbrev Course : List ℕ → List Told → Type 0
+  abbrev pub Course : List ℕ → List Told → Type 0
   Course bytes [] = Unit {0}
   Course bytes (Gives view fds ∷ told) = (rest : List ℕ) × (bytes ≡ view.bytes ++ rest) × IsViewOf limits view.bytes view × HasOwn view fds × Course rest told
   Course bytes (Refuses fault ∷ told) = IsRefused limits bytes fault × (told ≡ [])
@@ -21,11 +21,11 @@ module _ (limits : Limits) where
   -- ---- calls follow such a course
 
   -- nothing comes any more, and nothing is taken
-  record Rests (calls : List Call) : Type 0 where
-    came : came calls ≡ []
-    taken : taken_of calls ≡ 0
+  pub record Rests (calls : List Call) : Type 0 where
+    pub came : came calls ≡ []
+    pub taken : taken_of calls ≡ 0
 
-  rests : (calls : List Call) (bytes : List ℕ) → AreCalls limits Closed bytes calls → Rests calls
+  pub rests : (calls : List Call) (bytes : List ℕ) → AreCalls limits Closed bytes calls → Rests calls
   rests [] bytes are = record { came = refl; taken = refl }
   rests (c ∷ cs) bytes are =
       let later = rests cs (drop c.answer.taken bytes) (subst (λ (a : Answer). AreCalls limits (stands_by Closed a.told) (drop c.answer.taken bytes) cs) are.0 are.1) in
@@ -56,7 +56,7 @@ module _ (limits : Limits) where
   follow handed taken Fails bytes later goes is are = absurd is
   follow handed taken IsOver bytes later goes is are = absurd is
 
-  course : (calls : List Call) (bytes : List ℕ) → AreCalls limits Messages bytes calls → Course bytes (came calls)
+  pub course : (calls : List Call) (bytes : List ℕ) → AreCalls limits Messages bytes calls → Course bytes (came calls)
   course [] bytes are = tt
   course (c ∷ cs) bytes are = follow c.handed c.answer.taken c.answer.told bytes cs (course cs) are.0 are.1
 
@@ -77,11 +77,11 @@ module _ (limits : Limits) where
   same_view : (v w : ViewState) → v.limits ≡ w.limits → v.bytes ≡ w.bytes → v ≡ w
   same_view v w e f = ap (λ (l : Limits). record { limits = l; bytes = v.bytes }) e ∙ ap (λ (b : List ℕ). record { limits = w.limits; bytes = b }) f
 
-  longer : (x : Told) (xs ys : List Told) → BeginsAs xs ys ⊎ BeginsAs ys xs → BeginsAs (x ∷ xs) (x ∷ ys) ⊎ BeginsAs (x ∷ ys) (x ∷ xs)
+  pub longer : (x : Told) (xs ys : List Told) → BeginsAs xs ys ⊎ BeginsAs ys xs → BeginsAs (x ∷ xs) (x ∷ ys) ⊎ BeginsAs (x ∷ ys) (x ∷ xs)
   longer x xs ys (inl h) = inl (h.0, ap (λ (zs : List Told). x ∷ zs) h.1)
   longer x xs ys (inr h) = inr (h.0, ap (λ (zs : List Told). x ∷ zs) h.1)
 
-  one_course : (xs ys : List Told) (bytes : List ℕ) → Course bytes xs → Course bytes ys → BeginsAs xs ys ⊎ BeginsAs ys xs
+  pub one_course : (xs ys : List Told) (bytes : List ℕ) → Course bytes xs → Course bytes ys → BeginsAs xs ys ⊎ BeginsAs ys xs
   one_course [] ys bytes c d = inr (ys, refl)
   one_course (x ∷ xs) [] bytes c d = inl (x ∷ xs, refl)
   one_course (Gives v i ∷ xs) (Gives w j ∷ ys) bytes c d =
@@ -123,9 +123,6 @@ module _ (limits : Limits) where
   takes : (calls : List Call) (bytes : List ℕ) → AreCalls limits Messages bytes calls → bytes ≡ bytes_of (came calls) ++ drop (taken_of calls) bytes
   takes [] bytes are = refl
   takes (c ∷ cs) bytes are = taken_front c.handed c.answer.taken c.answer.told bytes cs (takes cs) are.0 are.1
-
-pub any_cut : AnyCut
-any_cut limits bytes xs ys are others = one_course limits (came xs) (came ys) bytes (course limits xs bytes are) (course limits ys bytes others)
 
 pub takes_messages : TakesMessages
 takes_messages limits bytes calls are = takes limits calls bytes are

@@ -1,5 +1,5 @@
--- Calls of a connection among messages, one after another, and what comes of them however the bytes
--- are cut. D-Bus Specification, "Message Protocol".
+-- Calls of a connection, one after another, and what comes of them however the bytes are cut. D-Bus
+-- Specification, "Authentication Protocol" and "Message Protocol".
 use Rattle.std.specs.Prelude.{◌≡◌, ◌⊎◌, ◌+◌, ℕ, List, [], ◌∷◌, ◌++◌, take, drop}
 use Rattle.dbus_value_model.specs.declared.limits.Limits.{Limits}
 use Rattle.dbus_connection.specs.Answers.{Answers, gone_on}
@@ -46,8 +46,8 @@ BeginsAs ys xs = (more : List Told) × (ys ≡ xs ++ more)
 
 -- of two ways to cut bytes, one tells what the other does, and maybe more
 abbrev pub AnyCut : Type 0
-AnyCut = (limits : Limits) (bytes : List ℕ) (xs ys : List Call)
-    → AreCalls limits Messages bytes xs → AreCalls limits Messages bytes ys
+AnyCut = (limits : Limits) (s : Stand) (bytes : List ℕ) (xs ys : List Call)
+    → AreCalls limits s bytes xs → AreCalls limits s bytes ys
     → BeginsAs (came xs) (came ys) ⊎ BeginsAs (came ys) (came xs)
 
 -- each byte that was taken is one of a message, in order

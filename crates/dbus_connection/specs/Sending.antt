@@ -40,7 +40,9 @@ module _ {T : Type 0} (before : Pending T) (given : Option (Draft Global)) where
   abbrev pub IsUnsent : Stand → Unsent → Type 0
   IsUnsent s NotOpen = is_open s ≡ false
   IsUnsent s Full = (is_open s ≡ true) × (allowed before ≤ count before)
-  IsUnsent s (Unmade fault) = (is_open s ≡ true) × ((serial : ℕ) × IsNextSerial before serial × IsComposed (option_map (with_serial serial) given) (Err fault))
+  IsUnsent s (Unmade fault) =
+      (is_open s ≡ true) × ((serial : ℕ) × IsNextSerial before serial
+      × IsComposed (option_map (with_serial serial) given) (Err fault))
 
 -- a call of the draft waits, with its serial, its DESTINATION and what its caller wants to know
 -- again
@@ -48,4 +50,5 @@ pub record Waits {T : Type 0} (old new : Pending (Asked T)) (drafted : Option (D
   pub asked : Asked T
   pub next : AsNext old new serial asked
   pub again : asked.call ≡ call
-  pub destination : (d : Draft Global) → drafted ≡ Some d → option_map string_bytes asked.destination ≡ destination_of (draft_tree d)
+  pub destination : (d : Draft Global) → drafted ≡ Some d
+      → option_map string_bytes asked.destination ≡ destination_of (draft_tree d)

@@ -4,9 +4,10 @@
 
 ghost use Rattle.dbus_connection.specs.Runs.{AnyCut, TakesMessages};
 
-/// However the bytes of messages are cut, the same comes of them: of two ways to cut them, one
-/// tells what the other does, and maybe more, since a call looks at no message before all of it is
-/// at hand. D-Bus Specification, "Message Protocol".
+/// However bytes are cut, the same comes of them, wherever a connection stands, in its handshake or
+/// past it: of two ways to cut them, one tells what the other does, and maybe more, since a call
+/// looks at no line and no message before all of it is at hand. D-Bus Specification,
+/// "Authentication Protocol" and "Message Protocol".
 pub fn any_cut()
     ensures { AnyCut }
 {}

@@ -11,5 +11,7 @@ returns-in-Ok-clause-waits g c =
       asked = record { destination = c.in_ok-destination.destination; call = c.args.call };
       next = c.in-Ok.ensures.waits;
       again = refl;
-      destination = λ d is. c.in_ok-destination.ensures ∙ goes_to c.args.self.now.pending (drafted c.args.draft) (message_tree message) d c.in_ok-message.ensures.made is;
+      destination =
+          λ d is. c.in_ok-destination.ensures
+          ∙ goes_to c.args.self.now.pending (drafted c.args.draft) (message_tree message) d c.in_ok-message.ensures.made is;
     }
