@@ -46,7 +46,8 @@ module _ {T : Type 0} (before : Pending T) (given : Option (Draft Global)) where
 
 -- a call of the draft waits, with its serial, its DESTINATION and what its caller wants to know
 -- again
-pub record Waits {T : Type 0} (old new : Pending (Asked T)) (drafted : Option (Draft Global)) (serial : ℕ) (call : T) : Type 0 where
+pub record Waits {T : Type 0} (old new : Pending (Asked T)) (drafted : Option (Draft Global))
+    (serial : ℕ) (call : T) : Type 0 where
   pub asked : Asked T
   pub next : AsNext old new serial asked
   pub again : asked.call ≡ call

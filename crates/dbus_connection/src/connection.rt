@@ -72,7 +72,7 @@ pub struct Connection<T> {
     settings: Settings,
     taken: u64,
     /// The serials of what is sent, and the calls that wait for a reply. `reply_of` of
-    /// `dbus_replies` takes the one that a message answers.
+    /// `dbus_replies` takes the one that a message answers, [`Pending::take`] one that is given up.
     pub pending: Pending<Asked<T>>,
 }
 
@@ -151,6 +151,7 @@ impl<T: Drop> Connection<T> {
     {
         self.taken
     }
+
     /// The bytes of the draft's message, which waits for no reply: a signal, a reply, an error, or a
     /// call that wants none. Its serial is the next one, in place of the draft's. D-Bus
     /// Specification, "Message Format".
@@ -174,8 +175,8 @@ impl<T: Drop> Connection<T> {
     /// The bytes of the draft's message as [`Connection::send`] returns them, of a call, which waits
     /// for its reply from now on, with what its caller wants to know again.
     ///
-    /// The draft has to want a reply: no message answers another one, which would wait on. Errors
-    /// are those of [`Unsent`]. Then nothing is changed.
+    /// A draft that wants no reply waits until [`Pending::take`] takes it, since no message answers
+    /// it. Errors are those of [`Unsent`]. Then nothing is changed.
     pub fn call(&mut self, draft: MessageBuilder, call: T) -> Result<Outgoing, Unsent>
         ensures sent { IfOk result (λ sent. IsSent self.old.pending (drafted draft) sent) }
         ensures waits { IfOk result (λ sent.
