@@ -41,6 +41,8 @@ KNOWN_TEXTS |= {code: ("BusName", rf"{WELL_KNOWN}|:[A-Za-z0-9_-]+(\.[A-Za-z0-9_-
 PATH = r"/|(/[A-Za-z0-9_]+)+"
 DEPTH, LINE_DEPTH = 64, 130
 GREATEST_SAFE = 9007199254740991
+# Of each byte or two or three with which a character begins one of these is the rest.
+RESTS = (b"", b"\x80", b"\x80\x80", b"\x80\x80\x80", b"\xa0\x80", b"\x90\x80\x80")
 
 Node = collections.namedtuple("Node", "kind value at")
 Member = collections.namedtuple("Member", "name at node")
@@ -413,12 +415,31 @@ def rules(whole, members, kind, serial, known, others):
             refuse(node.at, KNOWN_TEXTS[code][0])
 
 
-def refusal(line, number):
-    """The reason and the column of a line that is refused."""
+def is_utf8(text):
+    try:
+        text.decode()
+    except UnicodeDecodeError:
+        return False
+    return True
+
+
+def broken_utf8(line):
+    """The first byte that no UTF-8 has after those before it, or the end, of a line that is not UTF-8; else None."""
     try:
         line.decode()
+        return None
     except UnicodeDecodeError as fault:
-        return fault.start + 1, "NotUtf8"
+        start = at = fault.start
+    while at < len(line) and any(is_utf8(line[start : at + 1] + rest) for rest in RESTS):
+        at += 1
+    return at
+
+
+def refusal(line, number):
+    """The reason and the column of a line that is refused."""
+    at = broken_utf8(line)
+    if at is not None:
+        return at + 1, "NotUtf8"
     try:
         message(Reader(line).whole(), number)
     except Refused as fault:

@@ -64,7 +64,7 @@ class FromJson(unittest.TestCase):
         missing = self.refused({"type": 2})
         self.assertEqual((missing.at, missing.reason, missing.field), (0, "FieldMissing", HeaderField.REPLY_SERIAL))
         self.assertEqual(str(missing), "refused at column 1: FieldMissing(5)")
-        for line, at in (("\ud800", 0), (b'{"a\xff', 3)):
+        for line, at in (("\ud800", 1), (b'{"a\xff', 3)):
             with self.assertRaises(BadJson) as caught:
                 Message.from_json(line)
             self.assertEqual((caught.exception.at, caught.exception.reason, caught.exception.field), (at, "NotUtf8", None))

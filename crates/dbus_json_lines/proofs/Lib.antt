@@ -1,1 +1,2 @@
 mod LineFaults
+mod Utf8Breaks

@@ -1,11 +1,10 @@
 -- Where each way to refuse a line shows why.
 use Rattle.std.proofs.Common.{◌≡◌, ℕ, zero, suc, ◌+◌, ◌≤◌, List, [], ◌∷◌, ◌++◌, length, get_or, true, false, None, Some, Err, Result, refl, sym, ap, ◌∙◌, subst, arith}
 use Rattle.std.proofs.lemmas.Bool.{false≢true}
-use Rattle.std.proofs.lemmas.Str.{utf8_valid_len_le}
 use Rattle.std.specs.Str.{IsUtf8}
-use Rattle.std.specs.Str.Lossy.{utf8_valid_len}
 use Rattle.json.specs.Json.{Json}
 use Rattle.json.specs.Lex.{Lexeme, token, comma, colon, class, Mode, between, lex_byte}
+use Rattle.dbus_texts.specs.Kinds.{IsBreakIn}
 use Rattle.dbus_json_reader.specs.JsonReasons.{is_of_json}
 use Rattle.dbus_json_reader.specs.declared.reasons.JsonReason.{JsonReason}
 use Rattle.dbus_json_reader.specs.declared.reasons.JsonReason.TheVariants as reason
@@ -51,9 +50,9 @@ start_within : (text : List ℕ) (n : ℕ) → start_of text n ≤ length text
 start_within text n = below between 0 (length text) text (omega arith) n
 
 module _ (line : List ℕ) (f : LineFault) where
-  pub of_bytes : (IsUtf8 line → ⊥) → f.reason ≡ reason.NotUtf8 → f.at ≡ utf8_valid_len line → IsPlaceOf line f
+  pub of_bytes : (IsUtf8 line → ⊥) → f.reason ≡ reason.NotUtf8 → IsBreakIn IsUtf8 line f.at → IsPlaceOf line f
   of_bytes bad why at = record {
-    within = subst (λ (n : ℕ). n ≤ length line) (sym at) (utf8_valid_len_le line);
+    within = at.within;
     not_utf8 = λ _. (why, at);
     only_not_utf8 = λ _. bad;
     not_json = λ is. absurd (bad is);

@@ -1,9 +1,9 @@
 -- Where a line shows why it spells no message.
--- RFC 8259, sections 2 and 8.1.
+-- RFC 8259, sections 2 and 8.1; RFC 3629, sections 3 and 4.
 use Rattle.std.specs.Prelude.{◌≡◌, ◌≤◌, ℕ, List, length, None, Some}
 use Rattle.std.specs.Str.{IsUtf8}
-use Rattle.std.specs.Str.Lossy.{utf8_valid_len}
 use Rattle.json.specs.Json.{Json}
+use Rattle.dbus_texts.specs.Kinds.{IsBreakIn}
 use Rattle.dbus_json_reader.specs.declared.reasons.JsonReason.TheVariants as reason
 use Rattle.dbus_json_reader.specs.declared.unread.Unread.{Unread}
 use Rattle.dbus_json_reader.specs.declared.unread.Unread.TheVariants as unread
@@ -19,11 +19,11 @@ IsPlaced line unread.Memory why = why ≡ fault.Memory
 IsPlaced line (unread.Unspelled broken) why = why ≡ fault.Refused (record { reason = broken.reason; at = start_of line broken.at })
 
 -- The place is in the line, or its end. A line that is not UTF-8, and no other one, is refused for
--- that, where it stops being so; one that is UTF-8 and no JSON, and no other one, is refused for
+-- that, at the first byte that no UTF-8 has there; one that is UTF-8 and no JSON, and no other one, is refused for
 -- that; and any other one is refused where a token begins, or at its end.
 pub record IsPlaceOf (line : List ℕ) (f : LineFault) : Type 0 where
   pub within : f.at ≤ length line
-  pub not_utf8 : (IsUtf8 line → ⊥) → (f.reason ≡ reason.NotUtf8) × (f.at ≡ utf8_valid_len line)
+  pub not_utf8 : (IsUtf8 line → ⊥) → (f.reason ≡ reason.NotUtf8) × IsBreakIn IsUtf8 line f.at
   pub only_not_utf8 : f.reason ≡ reason.NotUtf8 → IsUtf8 line → ⊥
   pub not_json : IsUtf8 line → json_of line ≡ None → f.reason ≡ reason.NotJson
   pub only_not_json : f.reason ≡ reason.NotJson → IsUtf8 line × (json_of line ≡ None)

@@ -1,9 +1,9 @@
 -- Where the tokens of a text of JSON begin.
 -- RFC 8259, section 2.
-use Rattle.std.specs.Prelude.{◌≡◌, ◌++◌, suc, ℕ, List, [], ◌∷◌, get_or, length, Bool, true, false}
+use Rattle.std.specs.Prelude.{◌++◌, suc, ℕ, List, [], ◌∷◌, get_or, length, Bool, true, false}
 use Rattle.dbus_json_lines.specs.declared.places.Scan.{Scan}
 use Rattle.dbus_json_lines.specs.declared.places.Scan.TheVariants.{Between, Word, Text, Escape}
-use Rattle.json.specs.Lex.{Lexeme, token, comma, colon, Class, quote, backslash, operator, space, other, class, Mode, between, in_word, in_string, in_escape, lex_byte, lex}
+use Rattle.json.specs.Lex.{Lexeme, token, comma, colon, Class, quote, backslash, operator, space, other, class, Mode, between, in_word, in_string, in_escape, lex_byte}
 
 -- the mode after a byte of this class
 abbrev pub next_mode : Mode → Class → Mode

@@ -13,9 +13,9 @@ use thiserror::Error;
 pub struct LineFault {
     /// Why.
     pub reason: JsonReason,
-    /// The place, in bytes from the start of the line: of the byte at which it is no UTF-8, or of
-    /// the first byte of the token that shows the reason, as of a name that no colon follows; the
-    /// line's end if no token shows it.
+    /// The place, in bytes from the start of the line: of the first byte that no UTF-8 has there, or
+    /// of the first byte of the token that shows the reason, as of a name that no colon follows; the
+    /// line's end if no byte or token shows it.
     pub at: usize,
 }
 

@@ -3,8 +3,8 @@
 
 ghost use Rattle.std.specs.Prelude.{◌≡◌, ◌≤◌, ◌↔◌, Err, IfOk, IsTrue, length, option_map};
 ghost use Rattle.std.specs.Str.{IsUtf8};
-ghost use Rattle.std.specs.Str.Lossy.{utf8_valid_len};
 ghost use Rattle.json.specs.Value.{value_view};
+ghost use Rattle.dbus_texts.specs.Kinds.{IsBreakIn};
 ghost use Rattle.dbus_value_model.specs.declared.order.Order.{Order as TheOrder};
 ghost use Rattle.dbus_message_model.specs.Messages.{MessageTree};
 ghost use Rattle.dbus_message_model.specs.MessageViews.{message_tree};
@@ -18,6 +18,7 @@ use crate::places::offset_of;
 use dbus_json::Integers;
 use dbus_json_reader::{JsonReason, Unread, read_message};
 use dbus_message_model::Message;
+use dbus_texts::{TextKind, first_break};
 use dbus_value_model::{Limits, Order};
 use json::{Error, Reader, Scratch, Value};
 use std::alloc::{AllocError, Allocator};
@@ -57,20 +58,16 @@ fn json_of<'a, A: Allocator + Copy>(
     Ok(Some(json))
 }
 
-// Where a line is no UTF-8.
-fn not_utf8(line: &[u8]) -> LineFault
+// The first byte of a line that no UTF-8 has there, or its end. RFC 3629, section 4.
+fn broken_utf8(line: &[u8]) -> usize
     requires { IsUtf8 line.now → ⊥ }
-    ensures reason { result.reason ≡ JsonReason.NotUtf8 }
-    ensures place { result.at ≡ utf8_valid_len line.now }
+    ensures { IsBreakIn IsUtf8 line.now result }
 {
-    let at = match simdutf8::compat::from_utf8(line) {
-        Ok(_) => line.len(),
-        Err(fault) => fault.valid_up_to(),
+    let Err(fault) = simdutf8::compat::from_utf8(line) else {
+        return line.len();
     };
-    LineFault {
-        reason: JsonReason::NotUtf8,
-        at,
-    }
+    let at = fault.valid_up_to();
+    at + first_break(TextKind::Text, &line[at..])
 }
 
 // Where a text is no JSON.
@@ -108,11 +105,11 @@ fn in_line(line: &[u8], why: Unread) -> NoMessage
 /// scratch, and is used again.
 ///
 /// `Refused` exactly if it spells no message that is valid within the limits, with the reason and
-/// its place: `NotUtf8` at the byte where the line is no UTF-8, `NotJson` at the token that no JSON
-/// value has there, and any other at the token that shows it. Of several it is the first of: the
-/// object's form; `order`, `type`, `flags`, `serial`; the known fields in the order of their
-/// members; a name twice; `fields`; `body`; and the rules of whole messages in the order of
-/// `dbus_message::BuildFault`. `Memory` if an allocation failed. D-Bus Specification, "Message
+/// its place: `NotUtf8` at the first byte that no UTF-8 has there, `NotJson` at the token that no
+/// JSON value has there, or at the end, and any other at the token that shows it. Of several it is
+/// the first of: the object's form; `order`, `type`, `flags`, `serial`; the known fields in the
+/// order of their members; a name twice; `fields`; `body`; and the rules of whole messages in the
+/// order of `dbus_message::BuildFault`. `Memory` if an allocation failed. D-Bus Specification, "Message
 /// Format".
 ///
 /// ```rust
@@ -146,7 +143,10 @@ pub fn message_of_line<A: Allocator + Copy>(
         IsPlaceOf line.now fault }
 {
     let Ok(text) = simdutf8::basic::from_utf8(line) else {
-        return Err(NoMessage::Refused(not_utf8(line)));
+        return Err(NoMessage::Refused(LineFault {
+            reason: JsonReason::NotUtf8,
+            at: broken_utf8(line),
+        }));
     };
     let json = match json_of(alloc, text, scratch) {
         Ok(Some(json)) => json,

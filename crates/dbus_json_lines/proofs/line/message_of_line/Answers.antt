@@ -2,6 +2,7 @@ use Rattle.std.proofs.Common.{◌≡◌, Some, option_map, sym, ap, ◌∙◌, s
 use Rattle.std.specs.Str.{IsUtf8}
 use Rattle.json.specs.Json.{Json}
 use Rattle.json.specs.Value.{value_view}
+use Rattle.dbus_texts.specs.Kinds.{IsBreakIn}
 use Rattle.dbus_json_reader.specs.JsonMessages.{IsReadMessage}
 use Rattle.dbus_json_lines.specs.JsonLines.{json_of}
 use Rattle.dbus_json_lines.proofs.LineFaults.{told, same_fault, of_bytes, of_token, unspelled}
@@ -29,5 +30,5 @@ returns-clause-place g c = λ f e.
 pub returns-in_default-clause-place : goal.returns-in_default-clause-place
 returns-in_default-clause-place g c = λ f e.
     let bad : IsUtf8 c.args.line.now → ⊥ = search rules in
-    let same = same_fault c.not_utf8.result f (told _ f e) in
-    of_bytes c.args.line.now f bad (ap (λ (x : LineFault). x.reason) same ∙ c.not_utf8.ensures.reason) (ap (λ (x : LineFault). x.at) same ∙ c.not_utf8.ensures.place)
+    let same = same_fault _ f (told _ f e) in
+    of_bytes c.args.line.now f bad (ap (λ (x : LineFault). x.reason) same) (subst (IsBreakIn IsUtf8 c.args.line.now) (sym (ap (λ (x : LineFault). x.at) same)) c.broken_utf8.ensures)
