@@ -17,3 +17,5 @@ pub mod Merging
 pub mod Messages
 pub mod Placing
 mod TokenCounts
+mod Told
+mod Shown

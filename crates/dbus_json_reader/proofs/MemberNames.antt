@@ -19,7 +19,7 @@ next_or : (a b : Bool) → a ≡ false → (a || b) ≡ b
 next_or true b e = absurd (true≢false e)
 next_or false b e = refl
 
-none_or : (a b : Bool) → (a || b) ≡ false → (a ≡ false) × (b ≡ false)
+pub none_or : (a b : Bool) → (a || b) ≡ false → (a ≡ false) × (b ≡ false)
 none_or true b e = absurd (true≢false e)
 none_or false b e = (refl, e)
 

@@ -4,4 +4,5 @@ pub mod JsonMessages
 pub mod JsonNumbers
 pub mod JsonParts
 pub mod JsonReasons
+pub mod JsonRules
 pub mod JsonValues

@@ -2,8 +2,13 @@
 //! to pay for. RFC 8259; D-Bus Specification, "Type System", "Message Format" and "Header Fields".
 #![tactic(auto)]
 
-ghost use Rattle.std.specs.Prelude.{IsTrue};
+ghost use Rattle.std.specs.Prelude.{◌≡◌, ℕ, Some, IsTrue};
+ghost use Rattle.json.specs.Find.{get};
+ghost use Rattle.json.specs.Json.{Json as JsonTree};
+ghost use Rattle.json.specs.Value.{value_view};
+ghost use Rattle.dbus_json_reader.specs.JsonFaults.{IsShown, counted};
 ghost use Rattle.dbus_json_reader.specs.JsonReasons.{is_of_json};
+ghost use Rattle.dbus_json_reader.specs.JsonRules.{IsToldAt, has_fraction, integer_reason, kind_reason, order_reason, unsigned_reason};
 
 use crate::integers::{signed_in, unsigned_in};
 use crate::known::named;
@@ -22,29 +27,39 @@ use std::alloc::Allocator;
 
 // ---- numbers and texts
 
-/// Why the text of a number is none of an integer's type.
-fn no_integer(text: &[u8]) -> JsonReason
-    ensures { IsTrue (is_of_json result) }
+/// Whether the text of a number has a point or an exponent.
+fn has_fraction(text: &[u8]) -> bool
+    ensures { result ≡ has_fraction text.now }
 {
-    if text == b"-0".as_slice() || text.iter().any(|byte| matches!(*byte, b'.' | b'e' | b'E')) {
+    text.iter()
+        .any(|byte| *byte == b'.' || *byte == b'e' || *byte == b'E')
+}
+
+/// Why the text of a number is none of an integer's type; `past` if it is an integer.
+fn no_integer(text: &str, past: JsonReason) -> JsonReason
+    requires { IsTrue (is_of_json past) }
+    ensures of_json { IsTrue (is_of_json result) }
+    ensures reason { result ≡ integer_reason past text.now }
+{
+    if text == "-0" || has_fraction(text.as_bytes()) {
         return JsonReason::NotInteger;
     }
-    JsonReason::Range
+    past
 }
 
 /// Why the text of a number is no integer of a type of 64 bits that is taken. One of the type is
 /// not taken only if it may be no number.
-fn no_wide<A: Allocator>(ty: &SigType<A>, text: &[u8]) -> JsonReason
+fn no_wide<A: Allocator>(ty: &SigType<A>, text: &str) -> JsonReason
     ensures { IsTrue (is_of_json result) }
 {
     let is_integer = match ty {
-        SigType::I64 => signed_in(text).is_some(),
-        _ => unsigned_in(text).is_some(),
+        SigType::I64 => signed_in(text.as_bytes()).is_some(),
+        _ => unsigned_in(text.as_bytes()).is_some(),
     };
     if is_integer {
         JsonReason::MayBeRounded
     } else {
-        no_integer(text)
+        no_integer(text, JsonReason::Range)
     }
 }
 
@@ -58,12 +73,14 @@ fn is_decimal(text: &[u8]) -> bool {
     !digits.is_empty() && digits[0] != b'0' && digits.iter().all(|byte| byte.is_ascii_digit())
 }
 
-/// Why a value is no unsigned number that is wanted.
-pub(crate) fn no_unsigned<A: Allocator>(json: &Json<'_, A>) -> JsonReason
-    ensures { IsTrue (is_of_json result) }
+/// Why a value is no unsigned number that is wanted; `past` if it is an integer.
+pub(crate) fn no_unsigned<A: Allocator>(json: &Json<'_, A>, past: JsonReason) -> JsonReason
+    requires { IsTrue (is_of_json past) }
+    ensures of_json { IsTrue (is_of_json result) }
+    ensures reason { result ≡ unsigned_reason past (value_view json.now) }
 {
     match json {
-        Json::Number(text) => no_integer(text.as_bytes()),
+        Json::Number(text) => no_integer(text, past),
         _ => JsonReason::Form,
     }
 }
@@ -76,8 +93,8 @@ pub(crate) fn no_number<A: Allocator>(ty: &SigType<A>, json: &Json<'_, A>) -> Js
         Json::Number(text) => match ty {
             SigType::Bool => JsonReason::Form,
             SigType::Double => JsonReason::Range,
-            SigType::I64 | SigType::U64 => no_wide(ty, text.as_bytes()),
-            _ => no_integer(text.as_bytes()),
+            SigType::I64 | SigType::U64 => no_wide(ty, text),
+            _ => no_integer(text, JsonReason::Range),
         },
         Json::String(text) => match ty {
             SigType::Double => JsonReason::Digits,
@@ -110,7 +127,8 @@ pub(crate) fn no_text<A: Allocator>(json: &Json<'_, A>, kind: TextKind) -> JsonR
 
 /// Why a value names no byte order.
 pub(crate) fn no_order<A: Allocator>(json: &Json<'_, A>) -> JsonReason
-    ensures { IsTrue (is_of_json result) }
+    ensures of_json { IsTrue (is_of_json result) }
+    ensures reason { result ≡ order_reason (value_view json.now) }
 {
     match json {
         Json::String(_) => JsonReason::Order,
@@ -120,11 +138,12 @@ pub(crate) fn no_order<A: Allocator>(json: &Json<'_, A>) -> JsonReason
 
 /// Why a value names no message type.
 pub(crate) fn no_kind<A: Allocator>(json: &Json<'_, A>) -> JsonReason
-    ensures { IsTrue (is_of_json result) }
+    ensures of_json { IsTrue (is_of_json result) }
+    ensures reason { result ≡ kind_reason (value_view json.now) }
 {
     match json {
         Json::String(_) => JsonReason::Kind,
-        _ => no_unsigned(json),
+        _ => no_unsigned(json, JsonReason::Range),
     }
 }
 
@@ -132,7 +151,10 @@ pub(crate) fn no_kind<A: Allocator>(json: &Json<'_, A>) -> JsonReason
 
 /// The tokens of an object before the value of a name, the last one if there are more; none of what
 /// has no such member.
-pub(crate) fn before_value<A: Allocator>(json: &Json<'_, A>, name: &str) -> usize {
+pub(crate) fn before_value<A: Allocator>(json: &Json<'_, A>, name: &str) -> usize
+    ensures { (value : JsonTree) → get name.now (value_view json.now) ≡ Some value →
+        (at : ℕ) × IsToldAt name.now (value_view json.now) value at × (result ≡ counted at) }
+{
     let Json::Object(members) = json else {
         return 0;
     };
@@ -148,6 +170,8 @@ pub(crate) fn before_value<A: Allocator>(json: &Json<'_, A>, name: &str) -> usiz
 /// The reason, shown by the value of a name, or by the object if it has no such member.
 pub(crate) fn at_value<A: Allocator>(json: &Json<'_, A>, name: &str, reason: JsonReason) -> Unread
     requires { IsTrue (is_of_json reason) }
+    ensures { (value : JsonTree) → get name.now (value_view json.now) ≡ Some value →
+        (at : ℕ) × IsToldAt name.now (value_view json.now) value at × IsShown result reason at }
 {
     Unread::here(reason).after(before_value(json, name))
 }

@@ -2,7 +2,7 @@
 //! "Message Format".
 #![tactic(auto)]
 
-ghost use Rattle.std.specs.Prelude.{◌≡◌, ◌<◌, ◌≤◌, ◌^◌, ℕ, Some, IsTrue, IfOk, IfErr, codes};
+ghost use Rattle.std.specs.Prelude.{◌≡◌, ◌<◌, ◌≤◌, ◌^◌, ℕ, None, Some, IsTrue, IfOk, IfErr, codes};
 ghost use Rattle.json.specs.Find.{get};
 ghost use Rattle.json.specs.Json.{Json as JsonTree};
 ghost use Rattle.json.specs.Value.{value_view};
@@ -10,7 +10,9 @@ ghost use Rattle.dbus_value_model.specs.declared.order.Order.{Order as TheOrder}
 ghost use Rattle.dbus_json_reader.specs.JsonMessages.{SpellsOrder, SpellsOr};
 ghost use Rattle.dbus_json_reader.specs.JsonMembers.{SpellsKind};
 ghost use Rattle.dbus_json_reader.specs.JsonParts.{IsHead};
+ghost use Rattle.dbus_json_reader.specs.JsonFaults.{IsOneOf, IsShown};
 ghost use Rattle.dbus_json_reader.specs.JsonReasons.{is_of_json};
+ghost use Rattle.dbus_json_reader.specs.JsonRules.{IsHeadFault, ValueShows, kind_reason, order_reason, unsigned_reason};
 
 use crate::blame::{at_value, no_kind, no_order, no_unsigned};
 use crate::members::{kind, order};
@@ -49,19 +51,15 @@ pub(crate) fn unsigned_or<A: Allocator>(
         (n ≤ most) × SpellsOr default n (get name.now (value_view json.now))) }
     ensures refused { IfErr result (λ _. (n : ℕ) → n ≤ most →
         SpellsOr default n (get name.now (value_view json.now)) → ⊥) }
+    ensures shown { IfErr result (IsOneOf
+        (ValueShows name.now (unsigned_reason past) (value_view json.now))) }
 {
     let Some(value) = json.get(name) else {
         return Ok(default);
     };
     match unsigned(value, most) {
         Some(number) => Ok(number),
-        None => {
-            let reason = match no_unsigned(value) {
-                JsonReason::Range => past,
-                reason => reason,
-            };
-            Err(at_value(json, name, reason))
-        }
+        None => Err(at_value(json, name, no_unsigned(value, past))),
     }
 }
 
@@ -71,6 +69,8 @@ fn order_or_little<A: Allocator>(json: &Value<'_, A>) -> Result<Order, Unread>
         SpellsOrder order (get (codes "order") (value_view json.now))) }
     ensures refused { IfErr result (λ _. (order : TheOrder) →
         SpellsOrder order (get (codes "order") (value_view json.now)) → ⊥) }
+    ensures shown { IfErr result (IsOneOf
+        (ValueShows (codes "order") order_reason (value_view json.now))) }
 {
     let Some(value) = json.get("order") else {
         return Ok(Order::Little);
@@ -87,6 +87,11 @@ fn kind_told<A: Allocator>(json: &Value<'_, A>) -> Result<u8, Unread>
         (get (codes "type") (value_view json.now) ≡ Some type) × SpellsKind kind type) }
     ensures refused { IfErr result (λ _. (kind : ℕ) → kind < 256 → (type : JsonTree) →
         get (codes "type") (value_view json.now) ≡ Some type → SpellsKind kind type → ⊥) }
+    ensures missing { get (codes "type") (value_view json.now) ≡ None →
+        IfErr result (λ why. IsShown why JsonReason.TypeMissing 0) }
+    ensures shown { IfErr result (λ why. (type : JsonTree) →
+        get (codes "type") (value_view json.now) ≡ Some type →
+        IsOneOf (ValueShows (codes "type") kind_reason (value_view json.now)) why) }
 {
     let Some(value) = json.get("type") else {
         return Err(Unread::here(JsonReason::TypeMissing));
@@ -104,6 +109,7 @@ pub(crate) fn read_head<A: Allocator>(json: &Value<'_, A>, number: u32) -> Resul
     ensures refused { IfErr result (λ _. (order : TheOrder) (kind flags serial : ℕ) → kind < 256 →
         flags < 256 → serial < 256 ^ 4 →
         IsHead number order kind flags serial (value_view json.now) → ⊥) }
+    ensures shown { IfErr result (IsOneOf (IsHeadFault (value_view json.now))) }
 {
     let range = JsonReason::Range;
     let order = order_or_little(json)?;

@@ -15,7 +15,9 @@ ghost use Rattle.dbus_message_model.specs.Messages.{MessageTree, body_signature 
 ghost use Rattle.dbus_message_model.specs.MessageViews.{message_tree};
 ghost use Rattle.dbus_message_model.specs.PartsViews.{field_trees};
 ghost use Rattle.dbus_json_reader.specs.JsonMessages.{IsReadMessage};
+ghost use Rattle.dbus_json_reader.specs.JsonFaults.{IsOneOf};
 ghost use Rattle.dbus_json_reader.specs.JsonParts.{IsReadBody};
+ghost use Rattle.dbus_json_reader.specs.JsonRules.{IsMessageFault};
 ghost use Rattle.dbus_json_reader.specs.declared.unread.Broken.{Broken as TheBroken};
 
 use crate::blame::{before_value, no_message};
@@ -84,8 +86,10 @@ fn read_body<A: Allocator + Copy>(
 /// values. The members `number`, `offset`, `length` and `time` may hold anything. No other name
 /// may be there, and none twice. An INT64 or UINT64 is a number or a string as [`Integers`] has it.
 ///
-/// `Unspelled` exactly if it spells no valid message; `Memory` if an allocation failed. RFC 8259;
-/// D-Bus Specification, "Message Format" and "Header Fields".
+/// `Unspelled` exactly if it spells no valid message: for `Form` if it is no object; else for the
+/// first of `order`, `type`, `flags` and `serial` that is not as it has to be, at its value, or at
+/// the object if there is no `type`; else for a rule that comes after these. `Memory` if an
+/// allocation failed. RFC 8259; D-Bus Specification, "Message Format" and "Header Fields".
 pub fn read_message<A: Allocator + Copy>(
     alloc: A,
     json: &Json<'_, A>,
@@ -97,6 +101,8 @@ pub fn read_message<A: Allocator + Copy>(
         IsReadMessage integers limits number r.0 (message_tree r.1) (value_view json.now)) }
     ensures refused { (broken : TheBroken) → result ≡ Err (Unread.Unspelled broken) → (order : TheOrder) (m : MessageTree) →
         IsReadMessage integers limits number order m (value_view json.now) → ⊥ }
+    ensures shown { (broken : TheBroken) → result ≡ Err (Unread.Unspelled broken) →
+        IsOneOf (IsMessageFault (value_view json.now)) (Unread.Unspelled broken) }
 {
     let Json::Object(members) = json else {
         return Err(Unread::here(JsonReason::Form));

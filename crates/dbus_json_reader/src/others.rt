@@ -65,7 +65,7 @@ fn other_code<A: Allocator>(json: &Json<'_, A>) -> Result<u8, Unread>
         return Err(Unread::here(JsonReason::CodeMissing));
     };
     let Some(code) = unsigned(value, u64::from(u8::MAX)) else {
-        return Err(at_value(json, "code", no_unsigned(value)));
+        return Err(at_value(json, "code", no_unsigned(value, JsonReason::Range)));
     };
     let code = code as u8;
     if is_known(code) {

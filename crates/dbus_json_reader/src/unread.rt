@@ -1,7 +1,7 @@
 //! Why a value of JSON is not read.
 #![tactic(auto)]
 
-ghost use Rattle.std.specs.Prelude.{◌≡◌, IsTrue};
+ghost use Rattle.std.specs.Prelude.{◌≡◌, ◌<◌, ◌^◌, IsTrue};
 ghost use Rattle.dbus_json_reader.specs.JsonReasons.{is_of_json};
 
 use crate::reasons::JsonReason;
@@ -18,6 +18,7 @@ pub struct Broken {
     /// colon is none. It is the greatest `usize` if there are more.
     pub at: usize,
     pub ghost of_json: { IsTrue (is_of_json reason) },
+    pub ghost fits: { at < 2 ^ 64 },
 }
 
 /// Why a value of JSON is not read.
@@ -33,18 +34,23 @@ pub enum Unread {
 }
 
 impl Unread {
-    ghost use Rattle.dbus_json_reader.specs.JsonFaults.{IsUnspelled};
+    ghost use Rattle.std.specs.Prelude.{◌≡◌, ◌+◌, ℕ};
+    ghost use Rattle.dbus_json_reader.specs.JsonFaults.{IsShown, IsUnspelled, counted};
+    ghost use Rattle.dbus_json_reader.specs.declared.reasons.JsonReason.{JsonReason as TheReason};
 
     /// The first token of the value shows it.
     pub(crate) fn here(reason: JsonReason) -> Self
         requires { IsTrue (is_of_json reason) }
+        ensures { IsShown result reason 0 }
     {
         Unread::Unspelled(Broken { reason, at: 0 })
     }
 
     /// The same of a value that this one is in, after so many of its tokens.
     pub(crate) fn after(self, tokens: usize) -> Self
-        ensures { IsUnspelled result → IsUnspelled self }
+        ensures unspelled { IsUnspelled result → IsUnspelled self }
+        ensures shown { (reason : TheReason) (before at : ℕ) → tokens ≡ counted before →
+            IsShown self reason at → IsShown result reason (before + at) }
     {
         match self {
             Unread::Memory => Unread::Memory,

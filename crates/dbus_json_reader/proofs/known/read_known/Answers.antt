@@ -23,4 +23,4 @@ pub returns-in-Err-clause-refused : goal.returns-in-Err-clause-refused
 returns-in-Err-clause-refused g c = λ b e depth f h.
     let code = one_code f.code c.in-Some.code h.known c.in-Some.ensures.some.0 (sym h.named ∙ c.in-Some.ensures.some.1) in
     let type : h.type ≡ type_tree c.known_type.result = same_Some _ _ (sym h.wanted ∙ ap (λ (n : ℕ). type_wanted (want n)) code ∙ c.known_type.ensures) in
-    through c.after-in-Err.result c.in-Err.why c.after-in-Err.ensures b e c.in-Err.ensures.refused depth f.value (subst (λ (t : TypeTree). IsRead c.args.integers depth t f.value (value_view c.args.json.now)) type h.read)
+    through c.after-in-Err.result c.in-Err.why c.after-in-Err.ensures.unspelled b e c.in-Err.ensures.refused depth f.value (subst (λ (t : TypeTree). IsRead c.args.integers depth t f.value (value_view c.args.json.now)) type h.read)

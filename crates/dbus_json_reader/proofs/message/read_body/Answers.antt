@@ -21,7 +21,7 @@ returns-clause-refused g c = λ b e kind xs h.
     let types = ap type_trees_of c.deref.ensures.value in
     let spelled = ap sigs types ∙ c.in-Ok.ensures.1 ∙ c.body_signature.ensures in
     let r = body_read c.args.integers c.args.depth _ _ (value_view c.in-Some.told.now) (type_trees_of c.deref.result.now) xs (sym c.in-Some.ensures) spelled h in
-    through c.after.result c.in-Err-read_values.why c.after.ensures b e c.in-Err-read_values.ensures.refused r.0 xs r.1 r.2
+    through c.after.result c.in-Err-read_values.why c.after.ensures.unspelled b e c.in-Err-read_values.ensures.refused r.0 xs r.1 r.2
 
 pub returns-then-not-is_empty-clause-refused : goal.returns-then-not-is_empty-clause-refused
 returns-then-not-is_empty-clause-refused g c = λ b e kind xs h.

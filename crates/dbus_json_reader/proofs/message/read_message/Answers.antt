@@ -1,4 +1,4 @@
-use Rattle.std.proofs.Common.{◌≡◌, ℕ, ◌-◌, ◌^◌, ◌<◌, List, sym, ap, ◌∙◌, subst, arith}
+use Rattle.std.proofs.Common.{◌≡◌, ℕ, ◌-◌, ◌^◌, ◌<◌, List, refl, sym, ap, ◌∙◌, subst, arith}
 use Rattle.json.specs.Find.{get}
 use Rattle.json.specs.Value.{value_view, members_view}
 use Rattle.std.specs.Prelude.{codes, map}
@@ -10,10 +10,13 @@ use Rattle.dbus_message_model.specs.Messages.{FieldTree, body_signature}
 use Rattle.dbus_message_model.specs.PartsViews.{field_trees}
 use Rattle.dbus_json.specs.JsonMessages.{known_fields}
 use Rattle.dbus_json_reader.specs.JsonParts.{AreReadFields, IsReadBody}
+use Rattle.dbus_json_reader.specs.JsonRules.{IsHeadFault, IsMessageFault, no_object, head, later}
+use Rattle.dbus_json_reader.specs.declared.reasons.JsonReason.TheVariants.{Form}
 use Rattle.dbus_json_reader.proofs.KnownFields.{all_known}
 use Rattle.dbus_json_reader.proofs.Messages.{head_of, distinct_of, known_of, fields_of, fit_of, body_of, signature_kind, made, never_refused}
 use Rattle.dbus_json_reader.proofs.Placing.{field_of}
-use Rattle.dbus_json_reader.proofs.Shapes.{object_seen, failed, through}
+use Rattle.dbus_json_reader.proofs.Shapes.{object_seen, no_object as not_object, failed, through}
+use Rattle.dbus_json_reader.proofs.Shown.{has_head, one_of, shown_by, shown_later}
 use Rattle.dbus_json_reader.proofs.message.read_message.Goals as goal
 
 pub returns-in-Err-clause-refused : goal.returns-in-Err-clause-refused
@@ -44,7 +47,7 @@ returns-in-Err-with_others-clause-refused g c = λ b e order m h.
     let ks = field_trees c.in_ok-known.known.items in
     let depth : c.saturating_sub-depth.result ≡ c.args.limits.depth - 3 = omega arith in
     let read = fields_of c.args.integers c.args.limits c.args.number order m _ h (members_view l) seen ks (c.in_ok-known.ensures.ok (c.args.limits.depth - 3)) in
-    through c.after-in-Err-with_others.result c.in-Err-with_others.why c.after-in-Err-with_others.ensures b e c.in-Err-with_others.ensures.refused m.fields
+    through c.after-in-Err-with_others.result c.in-Err-with_others.why c.after-in-Err-with_others.ensures.unspelled b e c.in-Err-with_others.ensures.refused m.fields
     (subst (λ (n : ℕ). AreReadFields c.args.integers n ks (get (codes "fields") (value_view c.args.json.now)) m.fields) (sym depth) read)
 
 pub returns-in_err-body-clause-refused : goal.returns-in_err-body-clause-refused
@@ -117,3 +120,44 @@ returns-in-Err-new_within-clause-refused g c = λ b e order m h.
       only = λ fs k. c.in-Ok-with_others.ensures.only fs (subst (λ (n : ℕ). AreReadFields c.args.integers n ks told fs) (sym depth) k);
       body = body;
     }) c.in-Err-new_within.refused c.in-Err-new_within.ensures.built c.in-Err-new_within.ensures.taken (c.in-Ok-with_others.ensures.packed, c.in_ok-body.ensures.packed) order m h
+
+pub returns-in_default-clause-shown : goal.returns-in_default-clause-shown
+returns-in_default-clause-shown g c = λ b e.
+    let j = value_view c.args.json.now in
+    shown_by (IsMessageFault j) c.here.result b e (Form, 0, c.here.ensures, no_object (λ ms is. not_object c.args.json.now c.in_default.not-Object ms (sym is)) refl refl)
+
+pub returns-in-Err-clause-shown : goal.returns-in-Err-clause-shown
+returns-in-Err-clause-shown g c = λ b e.
+    let j = value_view c.args.json.now in
+    let seen = object_seen c.args.json.now c.in-Object.members c.in-Object.members.items c.in-Object.is refl in
+    shown_by (IsMessageFault j) c.in-Err.why b e (one_of (IsHeadFault j) (IsMessageFault j) c.in-Err.why (λ r n h. head (members_view c.in-Object.members.items) seen h) c.in-Err.ensures.shown)
+
+pub returns-in_err-known-clause-shown : goal.returns-in_err-known-clause-shown
+returns-in_err-known-clause-shown g c = λ b e.
+    let l = c.as_slice-members.result.now in
+    let seen = object_seen c.args.json.now c.in-Object.members l c.in-Object.is c.as_slice-members.ensures.value in
+    shown_later (IsMessageFault (value_view c.args.json.now)) b (later (members_view l) seen (has_head _ _ _ _ _ _ (omega arith) (omega arith) (omega arith) c.in-Ok.ensures.ok))
+
+pub returns-in-Some-clause-shown : goal.returns-in-Some-clause-shown
+returns-in-Some-clause-shown g c = λ b e.
+    let l = c.as_slice-members.result.now in
+    let seen = object_seen c.args.json.now c.in-Object.members l c.in-Object.is c.as_slice-members.ensures.value in
+    shown_later (IsMessageFault (value_view c.args.json.now)) b (later (members_view l) seen (has_head _ _ _ _ _ _ (omega arith) (omega arith) (omega arith) c.in-Ok.ensures.ok))
+
+pub returns-in-Err-with_others-clause-shown : goal.returns-in-Err-with_others-clause-shown
+returns-in-Err-with_others-clause-shown g c = λ b e.
+    let l = c.as_slice-members.result.now in
+    let seen = object_seen c.args.json.now c.in-Object.members l c.in-Object.is c.as_slice-members.ensures.value in
+    shown_later (IsMessageFault (value_view c.args.json.now)) b (later (members_view l) seen (has_head _ _ _ _ _ _ (omega arith) (omega arith) (omega arith) c.in-Ok.ensures.ok))
+
+pub returns-in_err-body-clause-shown : goal.returns-in_err-body-clause-shown
+returns-in_err-body-clause-shown g c = λ b e.
+    let l = c.as_slice-members.result.now in
+    let seen = object_seen c.args.json.now c.in-Object.members l c.in-Object.is c.as_slice-members.ensures.value in
+    shown_later (IsMessageFault (value_view c.args.json.now)) b (later (members_view l) seen (has_head _ _ _ _ _ _ (omega arith) (omega arith) (omega arith) c.in-Ok.ensures.ok))
+
+pub returns-in-Err-new_within-clause-shown : goal.returns-in-Err-new_within-clause-shown
+returns-in-Err-new_within-clause-shown g c = λ b e.
+    let l = c.as_slice-members.result.now in
+    let seen = object_seen c.args.json.now c.in-Object.members l c.in-Object.is c.as_slice-members.ensures.value in
+    shown_later (IsMessageFault (value_view c.args.json.now)) b (later (members_view l) seen (has_head _ _ _ _ _ _ (omega arith) (omega arith) (omega arith) c.in-Ok.ensures.ok))

@@ -1,4 +1,4 @@
-use Rattle.std.proofs.Common.{◌≡◌, false, FitsSigned, unsigned_abs, sym, ap, ◌∙◌, arith, rules}
+use Rattle.std.proofs.Common.{◌≡◌, false, FitsSigned, unsigned_abs, sym, ap, ◌∙◌, rules}
 use Rattle.std.proofs.lemmas.Int.{to_z-of_z}
 use Rattle.std.specs.Fmt.{signed_decimal}
 use Rattle.std.specs.Int.{w64}

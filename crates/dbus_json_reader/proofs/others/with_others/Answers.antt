@@ -50,7 +50,7 @@ returns-in-Err-clause-refused g c = λ b e fs h.
     let going = subst (IsMerging c.args.integers c.args.depth ks (map value_view l) c.loop-i.next gs) (json_at l i x c.loop-i-test.true c.index-items-i.is) c.loop-i.invariant.0 in
     let size : length gs ≡ c.len.result = trees_long c.loop-i.fields.items ∙ sym c.loop-i.fields.ok.0 ∙ sym c.len.ensures in
     no_field c.args.integers c.args.depth ks (map value_view l) c.loop-i.next gs (value_view x) (map value_view (drop (i + 1) l)) going
-    (λ place f one. through c.after.result c.in-Err.why c.after.ensures b e c.in-Err.ensures.refused place f (subst (λ (n : ℕ). IsOtherField c.args.integers c.args.depth n place f (value_view x)) size one)) fs
+    (λ place f one. through c.after.result c.in-Err.why c.after.ensures.unspelled b e c.in-Err.ensures.refused place f (subst (λ (n : ℕ). IsOtherField c.args.integers c.args.depth n place f (value_view x)) size one)) fs
     (read_row c.args.integers c.args.depth ks _ (value_view c.in-Some.json.now) (map value_view l) (sym c.in-Some.ensures) seen fs h)
 
 pub returns-then-place-next-clause-refused : goal.returns-then-place-next-clause-refused

@@ -59,7 +59,7 @@ read_array-returns-in-Err-clause-refused g t c = λ b e v h.
     let items = arrays_same _ _ (sym all.1 ∙ seen) in
     let less : r.less ≡ c.args.depth - 1 = omega (arith, deep) in
     let elements = subst (λ d. AreElements c.args.integers d (type_tree c.args.element.now) r.xs (items_view l)) less (subst (λ js. AreElements c.args.integers r.less (type_tree c.args.element.now) r.xs js) items all.2) in
-    no_element c.args.integers (c.args.depth - 1) (type_tree c.args.element.now) l c.loop-i.i c.loop-i.values.items c.loop-i.invariant.0 c.index-items-i.result c.loop-i-test.true c.index-items-i.is (through c.after.result c.in-Err.why c.after.ensures b e c.in-Err.ensures.refused) r.xs elements
+    no_element c.args.integers (c.args.depth - 1) (type_tree c.args.element.now) l c.loop-i.i c.loop-i.values.items c.loop-i.invariant.0 c.index-items-i.result c.loop-i-test.true c.index-items-i.is (through c.after.result c.in-Err.why c.after.ensures.unspelled b e c.in-Err.ensures.refused) r.xs elements
 
 pub read_array-loop-i-preserved : goal.read_array-loop-i-preserved
 read_array-loop-i-preserved g t c =
@@ -101,13 +101,13 @@ pub read_entry-returns-in-Err-clause-refused : goal.read_entry-returns-in-Err-cl
 read_entry-returns-in-Err-clause-refused g t c = λ b e v h.
     let r = entry_read c.args.integers _ _ _ v _ h in
     let same = pairs_same r.key r.value _ _ (sym r.is ∙ c.in-Some.ensures.some) in
-    through c.after.result c.in-Err.why c.after.ensures b e c.in-Err.ensures.refused r.x (read_as c.args.integers _ _ _ _ r.x _ _ refl refl same.0 r.reads_key)
+    through c.after.result c.in-Err.why c.after.ensures.unspelled b e c.in-Err.ensures.refused r.x (read_as c.args.integers _ _ _ _ r.x _ _ refl refl same.0 r.reads_key)
 
 pub read_entry-returns-in-Err-read_value-clause-refused : goal.read_entry-returns-in-Err-read_value-clause-refused
 read_entry-returns-in-Err-read_value-clause-refused g t c = λ b e v h.
     let r = entry_read c.args.integers _ _ _ v _ h in
     let same = pairs_same r.key r.value _ _ (sym r.is ∙ c.in-Some.ensures.some) in
-    through c.after-in-Err-read_value.result c.in-Err-read_value.why c.after-in-Err-read_value.ensures b e c.in-Err-read_value.ensures.refused r.y (read_as c.args.integers _ _ _ _ r.y _ _ refl refl same.1 r.reads_value)
+    through c.after-in-Err-read_value.result c.in-Err-read_value.why c.after-in-Err-read_value.ensures.unspelled b e c.in-Err-read_value.ensures.refused r.y (read_as c.args.integers _ _ _ _ r.y _ _ refl refl same.1 r.reads_value)
 
 pub read_entry-returns-clause-ok : goal.read_entry-returns-clause-ok
 read_entry-returns-clause-ok g t c =
@@ -139,7 +139,7 @@ read_values-returns-in-Err-clause-refused g t c = λ b e js xs is h.
     let l = c.as_slice-items.result.now in
     let seen = array_seen c.args.json.now c.in-Array.items l c.in-Array.is c.as_slice-items.ensures.value in
     let items = arrays_same _ _ (sym is ∙ seen) in
-    no_value c.args.integers _ c.args.types.now l c.loop-i.i c.loop-i.values.items c.loop-i.invariant.0 c.if-items-types.false c.index-items-i.result c.index-types-i.result c.loop-i-test.true c.index-items-i.is c.index-types-i.is (through c.after.result c.in-Err.why c.after.ensures b e c.in-Err.ensures.refused) xs (subst (λ ks. AreRead c.args.integers c.args.depth (type_trees_of c.args.types.now) xs ks) items h)
+    no_value c.args.integers _ c.args.types.now l c.loop-i.i c.loop-i.values.items c.loop-i.invariant.0 c.if-items-types.false c.index-items-i.result c.index-types-i.result c.loop-i-test.true c.index-items-i.is c.index-types-i.is (through c.after.result c.in-Err.why c.after.ensures.unspelled b e c.in-Err.ensures.refused) xs (subst (λ ks. AreRead c.args.integers c.args.depth (type_trees_of c.args.types.now) xs ks) items h)
 
 pub read_values-loop-i-preserved : goal.read_values-loop-i-preserved
 read_values-loop-i-preserved g t c =
@@ -181,7 +181,7 @@ read_variant-returns-in-Err-clause-refused g t c = λ b e v h.
     let seen = object_seen c.args.json.now c.in-Object.members c.as_slice-members.result.now c.in-Object.is c.as_slice-members.ensures.value in
     let pair = subst (λ ms. IsTyped (sig r.t) r.value ms) (objects_same _ _ (sym r.is ∙ seen)) r.pair in
     let parts = typed_same (sig r.t) c.in-Some.text.now r.value (value_view c.in-Some.value.now) _ pair c.in-Some.ensures.some in
-    through c.after.result c.in-Err.why c.after.ensures b e c.in-Err.ensures.refused r.t r.single parts.0
+    through c.after.result c.in-Err.why c.after.ensures.unspelled b e c.in-Err.ensures.refused r.t r.single parts.0
 
 pub read_variant-read_value-requires : goal.read_variant-read_value-requires
 read_variant-read_value-requires g t c κs within =
@@ -197,7 +197,7 @@ read_variant-returns-in-Err-read_value-clause-refused g t c = λ b e v h.
     let parts = typed_same (sig r.t) c.in-Some.text.now r.value (value_view c.in-Some.value.now) _ pair c.in-Some.ensures.some in
     let less : r.less ≡ c.args.depth - 1 = omega (arith, deep) in
     let type : r.t ≡ type_tree c.in-Ok.ty = one_type _ _ (parts.0 ∙ sym c.in-Ok.ensures.ok.1) in
-    through c.after-in-Err-read_value.result c.in-Err-read_value.why c.after-in-Err-read_value.ensures b e c.in-Err-read_value.ensures.refused r.x (read_as c.args.integers _ _ _ _ r.x _ _ less type parts.1 r.reads)
+    through c.after-in-Err-read_value.result c.in-Err-read_value.why c.after-in-Err-read_value.ensures.unspelled b e c.in-Err-read_value.ensures.refused r.x (read_as c.args.integers _ _ _ _ r.x _ _ less type parts.1 r.reads)
 
 pub read_variant-returns-clause-ok : goal.read_variant-returns-clause-ok
 read_variant-returns-clause-ok g t c =
