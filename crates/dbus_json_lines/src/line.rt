@@ -1,13 +1,14 @@
 //! The message that a line spells.
 #![tactic(auto)]
 
-ghost use Rattle.std.specs.Prelude.{◌≡◌, ◌≤◌, ◌↔◌, Err, IfOk, IsTrue, length, option_map};
+ghost use Rattle.std.specs.Prelude.{◌≡◌, ◌<◌, ◌≤◌, ◌↔◌, ◌^◌, Err, IfOk, IsTrue, length, option_map};
 ghost use Rattle.std.specs.Str.{IsUtf8};
 ghost use Rattle.json.specs.Value.{value_view};
 ghost use Rattle.dbus_texts.specs.Kinds.{IsBreakIn};
 ghost use Rattle.dbus_value_model.specs.declared.order.Order.{Order as TheOrder};
 ghost use Rattle.dbus_message_model.specs.Messages.{MessageTree};
 ghost use Rattle.dbus_message_model.specs.MessageViews.{message_tree};
+ghost use Rattle.dbus_json_reader.specs.declared.unread.Broken.{Broken as TheBroken};
 ghost use Rattle.dbus_json_lines.specs.JsonLines.{IsBlank, IsLineOf, json_of};
 ghost use Rattle.dbus_json_lines.specs.LineFaults.{IsPlaceOf, IsPlaced};
 ghost use Rattle.dbus_json_lines.specs.declared.fault.LineFault.{LineFault as TheFault};
@@ -87,7 +88,8 @@ fn not_json<A: Allocator + Copy>(alloc: A, text: &str) -> NoMessage
 
 // Why a line's JSON spells no message, and where that is in the line.
 fn in_line(line: &[u8], why: Unread) -> NoMessage
-    ensures { IsPlaced line.now why result }
+    ensures placed { IsPlaced line.now why result }
+    ensures few { (broken : TheBroken) → why ≡ Unread.Unspelled broken → length line.now < 2 ^ 64 }
 {
     match why {
         Unread::Memory => NoMessage::Memory,

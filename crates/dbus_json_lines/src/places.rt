@@ -1,7 +1,7 @@
 //! Where the tokens of a text begin. RFC 8259, section 2.
 #![tactic(auto)]
 
-ghost use Rattle.std.specs.Prelude.{◌≡◌, ℕ, List, []};
+ghost use Rattle.std.specs.Prelude.{◌≡◌, ◌<◌, ◌^◌, ℕ, List, [], length};
 ghost use Rattle.json.specs.Lex.{class, lex_byte};
 ghost use Rattle.dbus_json_lines.specs.Places.{mode_of, next_mode, start, start_if, start_of};
 
@@ -57,12 +57,14 @@ fn begins(scan: Scan, byte: u8) -> bool
 /// text if it has fewer tokens. Commas and colons are none.
 #[tactic(auto, unfolding(crate::specs::Places::starts_from))]
 pub(crate) fn offset_of(text: &[u8], token: usize) -> usize
-    ensures { result ≡ start_of text.now token }
+    ensures place { result ≡ start_of text.now token }
+    ensures few { length text.now < 2 ^ 64 }
 {
+    let end = text.len();
     let mut scan = Scan::Between;
     let mut left = token;
     let mut at = 0;
-    while at < text.len() {
+    while at < end {
         if begins(scan, text[at]) {
             if left == 0 {
                 return at;
@@ -72,5 +74,5 @@ pub(crate) fn offset_of(text: &[u8], token: usize) -> usize
         scan = after(scan, text[at]);
         at += 1;
     }
-    text.len()
+    end
 }

@@ -5,6 +5,7 @@ use Rattle.dbus_json_lines.proofs.places.offset_of.Given as goal
 abbrev pub invariant-loop-at : goal.invariant-loop-at
 invariant-loop-at l = record {
   within : l.at ≤ length l.text;
+  is_end : l.end ≡ length l.text;
   same : get_or (starts_from (mode_of l.scan) l.at (drop l.at l.text)) l.left (length l.text) ≡ start_of l.text l.fn.token;
 }
 
