@@ -2,7 +2,7 @@
 """reasons.py [--check]: writes the tables of reasons in code, definitions, libraries and pages. bench/reasons.txt has the
 reasons, and says where the tables are. Lines of code are as `rt fmt` has them.
 
-The manual page also has what an input looks like, out of the definitions of dbus_explain.
+The manual page also has what an input may be by its first byte, out of the definitions of dbus_explain.
 """
 
 import re
@@ -19,8 +19,8 @@ LISTS = ("docs/WIRE-FORMAT.md", "docs/MATCH-RULES.md", "man/dbus-wire.1")
 ROW = re.compile(r"^(\w+)::(\w+)(?:\((\w+)\))?(?: = (\d+))?\n((?:    .*\n)+)", re.M)
 # What a row says besides the comment of its case.
 TEXT = re.compile(r"    (told|if|at|rule|section|of|code|definition|note): (.*)\n")
-LOOKS = text_of("dbus_explain/specs/Looks.antt").partition("look_of bytes =")[2].partition("else []")[0]
-OTHER = "eight, or all if they are fewer, of printable ASCII, tabs, CR and LF"
+LOOKS = text_of("dbus_explain/specs/Looks.antt").partition("look_by b =")[2].partition("else []")[0]
+OTHER = "other printable ASCII, a tab, CR or LF"
 
 
 class Reason:
@@ -100,11 +100,10 @@ def filled(text):
 
 
 def looks():
-    """What an input looks like, by the bytes that it begins with."""
+    """What an input may be, by the byte that it begins with."""
     for condition, said in re.findall(r'if (.*) then codes "(.*)"', LOOKS):
-        fronts = re.findall(r"begins bytes \((.*?)\)(?= \|\||$)", condition)
-        fronts = [re.sub(r"codes | ∷ \[\]", "", it).replace(" ∷", "") for it in fronts]
-        yield Reason("Look", " or ".join(fronts).replace('"', "\\(dq") or OTHER, said=f"    rule: {said}\n")
+        first = " or ".join(f"{int(it, 0):02x}" for it in re.findall(r"nat_eq b (\w+)", condition))
+        yield Reason("Look", first or OTHER, said=f"    rule: {said}\n")
 
 
 def chosen(which):

@@ -54,7 +54,7 @@ def read_parts(column, folder):
     if column == "unread":
         return None
     parts = dict(read_cases(pathlib.Path(folder, "parts.txt")))
-    items, *named = column.removeprefix("whole ").split("@")
+    items, *named = column.split("@")
     found = read_bytes(items)
     for name, _, items in (it.partition(" ") for it in named):
         found += pathlib.Path(folder, name).read_bytes() if "." in name else read_bytes(parts[name])

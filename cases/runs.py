@@ -43,9 +43,8 @@ def ask_tool(case, folder):
     words = [read_parts(word, folder).decode() if word.startswith("@") else word for word in read_words(words)]
     data = read_parts(column, folder)
     wanted = ended(status, *(read_parts(it, folder) for it in columns), "unread" if data is None else "read")
-    sizes = SIZES[:1] if column.startswith("whole ") else SIZES
     # If nothing is to be read, there is a byte that could be.
-    yield from ask_run("run", b"\0" if data is None else data, words, sizes, wanted)
+    yield from ask_run("run", b"\0" if data is None else data, words, SIZES, wanted)
 
 
 def options_of(limits):

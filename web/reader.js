@@ -99,8 +99,7 @@ class Reader {
 
   // The next packet after that by which the message at the offset is refused, or null.
   nextPacket(offset) {
-    const isRefused = (part) => this.next(offset, this.partEnd(part)).answer === REFUSED, most = this.partCount - 1;
-    const part = leastOf(this.partAt(offset), most, isRefused), packet = this.partWord(part, PACKET);
+    const most = this.partCount - 1, part = this.partAt(this.frontEnd(offset) - 1), packet = this.partWord(part, PACKET);
     const end = this.partEnd(leastOf(part, most, (it) => it < most && this.partWord(it + 1, PACKET) > packet));
     return end < this.length ? end : null;
   }
@@ -110,6 +109,9 @@ class Reader {
     const answer = this.calls.dbus_page_next(BigInt(this.data + offset), BigInt(end - offset), this.toldAt(NEXT));
     return { answer, length: this.number(NEXT), at: this.number(NEXT + 8) };
   }
+
+  // Where the fewest bytes from the offset on end that are refused; or all, if none are.
+  frontEnd = (offset) => leastOf(offset, this.length, (end) => this.next(offset, end).answer === REFUSED);
 
   // Whether the byte may be a message's first one.
   isOrder = (offset) => [LITTLE, BIG].includes(this.bytes[this.data + offset]);
@@ -225,9 +227,9 @@ class Reader {
   reason = (offset) =>
     this.written((...room) => this.calls.dbus_page_reason(...this.input(offset, this.length - offset), ...room));
 
-  // Why no message begins at the offset: the lines of `dbus-wire check --explain`.
+  // Why no message begins at the offset: the lines of `dbus-wire check --explain`, by the bytes that show it.
   explain(number, offset) {
-    const given = [...this.input(offset, this.length - offset), BigInt(number), BigInt(offset)];
+    const given = [...this.input(offset, this.frontEnd(offset) - offset), BigInt(number), BigInt(offset)];
     return this.written((...room) => this.calls.dbus_page_explain(...given, ...room));
   }
 

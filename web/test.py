@@ -5,9 +5,8 @@ another. The exit status is 1 if something differs.
 
 What is compared of each input: the lines of `json --resync`, or `--keep-going` if it is a capture, with
 `--handshake` if it begins as one side of a connection; those of `list` with it, of 100 cells and of as many as
-they take; the number, offset, place and reason of each fault; its explanation, of which the bytes are left out
-if the input is a capture, since dbus-wire shows only those that it has read; and the place of the fault of a
-file. Of the page also: the cells of the first row and the last; which messages it shows by a rule and a word,
+they take; the number, offset, place and reason of each fault, and its explanation; and the place of the fault of
+a file. Of the page also: the cells of the first row and the last; which messages it shows by a rule and a word,
 what it saves of them, and what the command that it gives writes; and which calls its choices show, and its
 tables of members and of counts, by what `calls` and `count` write. It reads each second input by gzip. Of
 rules: which messages of the samples `filter` writes; and what the cases say of rules and of messages that
@@ -163,11 +162,6 @@ def is_capture(data):
     return data[:4].hex() in ("d4c3b2a1", "a1b2c3d4", "4d3cb2a1", "a1b23c4d", "0a0d0d0a")
 
 
-def without_bytes(explanation):
-    lines = explanation.splitlines()
-    return [*lines[:-2], lines[-1]] if len(lines) > 2 else lines
-
-
 def side_of(data):
     """The words by which the program reads the input, as its first byte says."""
     side = "client" if data[:1] == b"\0" else "server" if data[:1] and data[0] in b"ADEOR" else None
@@ -203,12 +197,9 @@ def calls_of(program, data, how):
     return {**numbers, "members": run("calls", "--members"), "counts": TIMES.sub("", run("count"))}
 
 
-def compared(answers, data):
+def compared(answers):
     """What of the answers is compared."""
-    if answers is None:
-        return None
-    refused = [[*it[:4], without_bytes(it[4]) if is_capture(data) else it[4]] for it in answers["refused"]]
-    return {**{it: answers[it] for it in ("lines", "listed", "cut", "fault")}, "refused": refused}
+    return answers and {it: answers[it] for it in ("lines", "listed", "cut", "fault", "refused")}
 
 
 def leaves_of(said):
@@ -249,9 +240,9 @@ def untied(all_inputs, given):
 
 def differs(kind, all_inputs, wanted, given):
     """How many inputs have other answers; the first are told."""
-    wrong = [at for at, (_, data) in enumerate(all_inputs) if compared(wanted[at], data) != compared(given[at], data)]
+    wrong = [at for at in range(len(all_inputs)) if compared(wanted[at]) != compared(given[at])]
     for at in wrong[:MOST_REPORTED]:
-        print(f"{all_inputs[at][0]}: {kind} gives {compared(given[at], all_inputs[at][1])}, dbus-wire writes {compared(wanted[at], all_inputs[at][1])}")
+        print(f"{all_inputs[at][0]}: {kind} gives {compared(given[at])}, dbus-wire writes {compared(wanted[at])}")
     print(f"{kind}: {len(all_inputs) - len(wrong)} inputs as dbus-wire has them, {len(wrong)} not")
     return len(wrong)
 

@@ -32,7 +32,7 @@ class Explanation:
     """Why bytes are no message, for a reader; as a text, its lines."""
 
     lines: str
-    """The lines that `dbus-wire check --explain` writes, each ended by a line feed."""
+    """The lines that `dbus-wire check --explain` writes, with more of the bytes behind the fault, each ended by a line feed."""
     name: str
     """The name of the place of the fault: a part of the header, or the path to a value, such as
     `body[1]["Title"].value`."""

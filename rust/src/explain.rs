@@ -33,8 +33,9 @@ pub struct StatedText {
     pub length: usize,
 }
 
-/// Why bytes are no message, for a reader: the lines that `dbus-wire check --explain` writes, which
-/// are also its text, and their parts. [`explain`] makes it.
+/// Why bytes are no message, for a reader: the lines that `dbus-wire check --explain` writes, with
+/// more of the bytes behind the fault, which are also its text, and their parts. [`explain`] makes
+/// it.
 #[derive(Clone, Debug, PartialEq, Eq)]
 pub struct Explanation {
     lines: String,

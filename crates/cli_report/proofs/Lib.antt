@@ -1,1 +1,2 @@
+pub mod FaultFronts
 pub mod GatherSteps

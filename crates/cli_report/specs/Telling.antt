@@ -1,5 +1,5 @@
--- What is told of a message that is refused. kept are the bytes that were kept from its first one
--- on.
+-- What is told of a message that is refused, by its bytes as far as they are there: by those that show
+-- its fault.
 use Rattle.std.specs.Prelude.{ℕ, List, [], ◌++◌, codes, decimal, ◌≡◌, ◌+◌, Bool, true, false, ◌⊎◌, Option, None, Some}
 use Rattle.dbus_value_model.specs.declared.fault.Reason.{Reason}
 use Rattle.dbus_value_model.specs.FaultTexts.{reason_text}
@@ -7,6 +7,8 @@ use Rattle.dbus_explain.specs.Explained.{IsExplained}
 use Rattle.dbus_explain.specs.Members.{AreMembersOf}
 use Rattle.dbus_explain.specs.declared.message.Refused.{Refused}
 use Rattle.dbus_device.specs.Device.{Wrote, Stopped}
+use Rattle.dbus_value_model.specs.declared.limits.Limits.{Limits}
+use Rattle.cli_report.specs.FaultFronts.{IsFaultFront}
 use Rattle.cli_report.specs.declared.ending.Cause.{Cause}
 use Rattle.cli_report.specs.declared.ending.Cause.TheVariants.{Memory, ReadFailed, WriteFailed, TooManyReads}
 use Rattle.cli_report.specs.declared.telling.RefusedMessage.{RefusedMessage}
@@ -37,19 +39,19 @@ line_of false refusal = refused_line (refusal.offset + refusal.fault.at) refusal
 line_of true refusal = codes "refused at " ++ (decimal (refusal.offset + refusal.fault.at) ++ (codes ": " ++ (reason_text refusal.fault.reason
     ++ (codes " in message " ++ (decimal refusal.number ++ (codes " at " ++ (decimal refusal.offset ++ (in_packet refusal.packet ++ codes "\n"))))))))
 
--- this explains it in a form
-pub record Explains (Is : Refused → List ℕ → Type 0) (refusal : RefusedMessage) (kept text : List ℕ) : Type 0 where
+-- this explains it in a form, by the bytes that show its fault
+pub record Explains (Is : Refused → List ℕ → Type 0) (limits : Limits) (refusal : RefusedMessage) (bytes text : List ℕ) : Type 0 where
   pub refused : Refused
-  pub bytes_are : refused.bytes.now ≡ kept
+  pub bytes_are : IsFaultFront limits bytes refused.bytes.now
   pub fault_is : refused.fault ≡ refusal.fault
   pub number_is : refused.number ≡ refusal.number
   pub offset_is : refused.offset ≡ refusal.offset
   pub explained : Is refused text
 
 -- its line, and then those that explain it, if that is wanted
-abbrev pub IsToldBy : (goes_on explains : Bool) → RefusedMessage → (kept text : List ℕ) → Type 0
-IsToldBy goes_on false refusal kept text = text ≡ line_of goes_on refusal
-IsToldBy goes_on true refusal kept text = (explained : List ℕ) × Explains IsExplained refusal kept explained × (text ≡ line_of goes_on refusal ++ explained)
+abbrev pub IsToldBy : (goes_on explains : Bool) → Limits → RefusedMessage → (bytes text : List ℕ) → Type 0
+IsToldBy goes_on false limits refusal bytes text = text ≡ line_of goes_on refusal
+IsToldBy goes_on true limits refusal bytes text = (explained : List ℕ) × Explains IsExplained limits refusal bytes explained × (text ≡ line_of goes_on refusal ++ explained)
 
 -- the number of its packet as a member of an object, if it is of one
 abbrev pub packet_member : Option ℕ → List ℕ
@@ -58,9 +60,9 @@ packet_member (Some number) = codes ",\"packet\":" ++ decimal number
 
 -- A line of JSON: an object of the fault and its place in the input, of the message's number and
 -- where it begins, of its packet, and of what explains it.
-pub record IsJsonRefusal (refusal : RefusedMessage) (kept text : List ℕ) : Type 0 where
+pub record IsJsonRefusal (limits : Limits) (refusal : RefusedMessage) (bytes text : List ℕ) : Type 0 where
   pub members : List ℕ
-  pub explains : Explains AreMembersOf refusal kept members
+  pub explains : Explains AreMembersOf limits refusal bytes members
   pub is : text ≡ codes "{\"refused\":\"" ++ (reason_text refusal.fault.reason ++ (codes "\",\"offset\":" ++ (decimal (refusal.offset + refusal.fault.at)
       ++ (codes ",\"message\":" ++ (decimal refusal.number ++ (codes ",\"begins\":" ++ (decimal refusal.offset ++ (packet_member refusal.packet
       ++ (codes "," ++ (members ++ codes "}\n"))))))))))

@@ -7,6 +7,7 @@
 
 mod ending;
 mod failing;
+mod fault_front;
 mod gathering;
 mod lines;
 mod output_buffer;

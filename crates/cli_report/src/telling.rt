@@ -1,14 +1,13 @@
 //! The report of a message that is refused.
-ghost use Rattle.std.specs.Prelude.{◌≡◌, ℕ, IfOk, List, OnOk, string_bytes};
-ghost use Rattle.dbus_stream.specs.RawReading.{kept};
+ghost use Rattle.std.specs.Prelude.{◌≡◌, ◌++◌, ℕ, IfOk, List, OnOk, string_bytes};
 ghost use Rattle.cli_report.specs.Explaining.{IsExplainedIn};
 ghost use Rattle.cli_report.specs.Telling.{Explains, IsJsonRefusal, IsToldBy, line_of};
 
+use crate::fault_front::fault_front;
 use crate::lines::{InPacket, PacketMember, refused_line};
 use dbus_explain::{Refused, explain_message, write_refusal_members};
 use dbus_show::{Draft, StringDraft};
-use dbus_stream::{RawReader, Source};
-use dbus_value_model::Fault;
+use dbus_value_model::{Fault, Limits};
 use std::alloc::{AllocError, Allocator};
 
 /// A message that is refused.
@@ -26,22 +25,25 @@ pub struct RefusedMessage {
 
 /// The report of a message that is refused: its line, which has its number if the run goes on after
 /// it, and the number of its packet if there is one; and, if that is wanted, the lines that explain
-/// it by the bytes that the reader keeps.
+/// it. `kept` are its bytes, as far as they were read, in two slices, as `RawReader::kept` lends
+/// them. They are explained by the first of them that show the fault under these limits, so the
+/// report is the same however many were read behind it.
 ///
 /// `AllocError`: an allocation failed.
-pub fn refusal_text<R: Source, A: Allocator + Copy>(
+pub fn refusal_text<A: Allocator + Copy>(
     alloc: A,
     goes_on: bool,
     explains: bool,
+    limits: Limits,
     refusal: RefusedMessage,
-    messages: &RawReader<R, A>,
+    kept: (&[u8], &[u8]),
 ) -> Result<String<A>, AllocError>
     ensures { IfOk result (λ text.
-        IsToldBy goes_on explains refusal (kept messages.now) (string_bytes text)) }
+        IsToldBy goes_on explains limits refusal (kept.entry.0.now ++ kept.entry.1.now) (string_bytes text)) }
 {
     let mut text = line_of(alloc, goes_on, refusal)?;
     if explains {
-        let explained = explanation(alloc, Form::Lines, refusal, messages)?;
+        let explained = explanation(alloc, Form::Lines, limits, refusal, kept)?;
         text.push_str(explained.as_str())?;
     }
     Ok(text)
@@ -70,21 +72,22 @@ fn line_of<A: Allocator + Copy>(
     format!(in alloc; "refused at {place}: {reason} in message {number} at {offset}{in_packet}\n")
 }
 
-/// The report of a message that is refused as a line of JSON, by the bytes that the reader keeps:
-/// an object, and a line feed.
+/// The report of a message that is refused as a line of JSON, by the same bytes: an object, and a
+/// line feed.
 ///
 /// It has the name of the fault as `refused`; its place in the input as `offset`; the message's
 /// number as `message`, and where it begins as `begins`; the number of its packet as `packet`, if
 /// there is one; and then the members of [`write_refusal_members`].
 ///
 /// `AllocError`: an allocation failed. RFC 8259.
-pub fn refusal_json<R: Source, A: Allocator + Copy>(
+pub fn refusal_json<A: Allocator + Copy>(
     alloc: A,
+    limits: Limits,
     refusal: RefusedMessage,
-    messages: &RawReader<R, A>,
+    kept: (&[u8], &[u8]),
 ) -> Result<String<A>, AllocError>
     ensures { IfOk result (λ text.
-        IsJsonRefusal refusal (kept messages.now) (string_bytes text)) }
+        IsJsonRefusal limits refusal (kept.entry.0.now ++ kept.entry.1.now) (string_bytes text)) }
 {
     let RefusedMessage {
         number,
@@ -95,7 +98,7 @@ pub fn refusal_json<R: Source, A: Allocator + Copy>(
     let place = offset as u128 + fault.at as u128;
     let reason = fault.reason;
     let in_packet = PacketMember(packet);
-    let members = explanation(alloc, Form::Members, refusal, messages)?;
+    let members = explanation(alloc, Form::Members, limits, refusal, kept)?;
     format!(in alloc;
         "{{\"refused\":\"{reason}\",\"offset\":{place},\"message\":{number},\"begins\":{offset}{in_packet},{members}}}\n"
     )
@@ -110,38 +113,41 @@ enum Form {
     Members,
 }
 
-// What explains a message that is refused, by the bytes that the reader keeps.
-fn explanation<R: Source, A: Allocator + Copy>(
+// What explains a message that is refused, by its bytes in two slices.
+fn explanation<A: Allocator + Copy>(
     alloc: A,
     form: Form,
+    limits: Limits,
     refusal: RefusedMessage,
-    messages: &RawReader<R, A>,
+    kept: (&[u8], &[u8]),
 ) -> Result<String<A>, AllocError>
     ensures { IfOk result (λ text.
-        Explains (IsExplainedIn form) refusal (kept messages.now) (string_bytes text)) }
+        Explains (IsExplainedIn form) limits refusal (kept.entry.0.now ++ kept.entry.1.now)
+        (string_bytes text)) }
 {
-    let (held, part) = messages.kept();
+    let (held, part) = kept;
     if held.is_empty() {
-        return explained_by(alloc, form, refusal, part);
+        return explained_by(alloc, form, limits, refusal, part);
     }
     let mut joined = Vec::new(alloc);
     joined.extend_from_slice(held)?;
     joined.extend_from_slice(part)?;
-    explained_by(alloc, form, refusal, joined.as_slice())
+    explained_by(alloc, form, limits, refusal, joined.as_slice())
 }
 
-// What explains a message that is refused, by its bytes.
+// What explains a message that is refused, by those of its bytes that show the fault.
 fn explained_by<A: Allocator + Copy>(
     alloc: A,
     form: Form,
+    limits: Limits,
     refusal: RefusedMessage,
     bytes: &[u8],
 ) -> Result<String<A>, AllocError>
     ensures { IfOk result (λ text.
-        Explains (IsExplainedIn form) refusal bytes.now (string_bytes text)) }
+        Explains (IsExplainedIn form) limits refusal bytes.now (string_bytes text)) }
 {
     let refused = Refused {
-        bytes,
+        bytes: fault_front(bytes, limits),
         fault: refusal.fault,
         number: refusal.number,
         offset: refusal.offset,

@@ -37,7 +37,7 @@ placed_above packets m n offset [] messages less p = subst (λ (l : List Placed)
 placed_above packets m n offset (Whole item ∷ parts) [] less p = absurd p
 placed_above packets m n offset (Whole item ∷ parts) (x ∷ messages) less p =
     (number_above m n item packets offset x less p.0, placed_above packets m (n + 1) (offset + item.size) parts messages (omega (arith, less)) p.1)
-placed_above packets m n offset (PassedOver kept fault by size ∷ parts) messages less p = placed_above packets m (n + 1) (offset + size) parts messages (omega (arith, less)) p
+placed_above packets m n offset (PassedOver front fault by size ∷ parts) messages less p = placed_above packets m (n + 1) (offset + size) parts messages (omega (arith, less)) p
 
 pub placed_rise : (packets : Option Packets) (n offset : ℕ) (parts : List Part) (messages : List Placed) → ArePlaced packets n offset parts messages → AreRising (numbered messages)
 unfolding IsStrictlySortedBy
@@ -47,7 +47,7 @@ placed_rise packets n offset (Whole item ∷ parts) (x ∷ messages) p = (
   subst (λ (k : ℕ). AllByRecursion (λ y. nat_cmp k y.place.number ≡ Less) (numbered messages)) (sym p.0.number_is) (placed_above packets n (n + 1) (offset + item.size) parts messages (omega arith) p.1),
   placed_rise packets (n + 1) (offset + item.size) parts messages p.1,
 )
-placed_rise packets n offset (PassedOver kept fault by size ∷ parts) messages p = placed_rise packets (n + 1) (offset + size) parts messages p
+placed_rise packets n offset (PassedOver front fault by size ∷ parts) messages p = placed_rise packets (n + 1) (offset + size) parts messages p
 
 -- and so do they with names
 named_above : (n : ℕ) (os : NameState) (items : List Placed) → AllByRecursion (λ y. nat_cmp n y.place.number ≡ Less) (numbered items) → AllByRecursion (λ y. nat_cmp n y.place.number ≡ Less) (named os items)

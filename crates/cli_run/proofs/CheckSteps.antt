@@ -164,6 +164,6 @@ module _ {R W E : Type 0} (r : Reading R) (w : Writing W) (e : Writing E) (setti
     line_not WriteFailed (n, half) end failed told =
         let s = subst (λ (l : List ℕ). Stopped w.held w.failures w.old l n w.new) (sym all_is) half in
         let due = inr (t.cut, t.last, ap (λ (x : Tally). text ++ closing_line settings.as_json true settings.keeps_going x x.passed counted.fault) t.tally_is) in
-        stops Untold end failed told (within Untold all (inl (t.kept, counted.fault, text, t.tells, due)) t.read_failed
+        stops Untold end failed told (within Untold all (inl (counted.fault, text, t.tells, due)) t.read_failed
         (record { written = take n all; appended = s.appended; front = (drop n all, sym (take-append-drop n all)); some = is_some; failed = s.failed }) (λ none. absurd (is_some none)) (wrote_nothing e.held e.failures e.old))
     line_not cause never end failed told = absurd never

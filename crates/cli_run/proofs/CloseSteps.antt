@@ -42,7 +42,7 @@ module _ {R A S : Type 0} {takes : S → S → List Placed → (told : List ℕ)
             came = came;
             end_is = c.1;
           },
-          λ faultless. reads_only (Reads run new) (WantToSee run.settings.limits h.through.parts h.through.kept) (h.needed faultless),
+          λ faultless. reads_only (Reads run new) (WantToSee run.settings.limits h.through.parts h.through.rest) (h.needed faultless),
         )
     closes (Err (ByCause Memory)) c =
         let passed = ap (λ (x : Tally). x.passed) h.through.tally_is in
@@ -56,7 +56,7 @@ module _ {R A S : Type 0} {takes : S → S → List Placed → (told : List ℕ)
           wanted = h.wanted;
           unfilled = λ never. absurd never;
           more = h.text;
-          all = inr (inl (h.through.kept, fault, h.through.tells, h.through.cut, h.through.last, subst (λ (n : ℕ). HasLastLine run.is_check run.settings.keeps_going n fault) passed c.1));
+          all = inr (inl (fault, h.through.tells, h.through.cut, h.through.last, subst (λ (n : ℕ). HasLastLine run.is_check run.settings.keeps_going n fault) passed c.1));
           caused = h.through.read_failed;
           came = subst (λ (s : S). leaves run.s0 s all (h.told ++ h.text) (ByCause Memory)) (sym c.0) (laws.rests run.s0 s1 all (h.told ++ h.text) h.came rests).0;
         }
@@ -73,7 +73,7 @@ module _ {R A S : Type 0} {takes : S → S → List Placed → (told : List ℕ)
           wanted = h.wanted;
           unfilled = λ never. absurd never;
           more = h.text ++ line;
-          all = inl (h.through.kept, fault, h.text, h.through.tells, inr (h.through.cut, h.through.last, ap (λ (x : Tally). h.text ++ closing_line run.settings.as_json run.is_check run.settings.keeps_going x x.passed fault) h.through.tally_is));
+          all = inl (fault, h.text, h.through.tells, inr (h.through.cut, h.through.last, ap (λ (x : Tally). h.text ++ closing_line run.settings.as_json run.is_check run.settings.keeps_going x x.passed fault) h.through.tally_is));
           caused = h.through.read_failed;
           came = subst (λ (l : List ℕ). leaves run.s0 s2 all l Untold) (append_assoc h.told h.text line) came;
         }

@@ -87,12 +87,12 @@ check_faults w mid new read.Device a = a.2
 check_faults w mid new read.TooManyReads a = (a.2, a.3)
 
 -- nothing is told of the fault but its line
-told_last : (packets : Option Packets) (settings : Settings) (n offset : ℕ) (kept : List ℕ) (fault : Option Fault) (packet : Option ℕ) → settings.as_json ≡ false → settings.explains ≡ false → settings.keeps_going ≡ false
-    → IsFaultIn packets settings.limits offset kept fault packet → IsToldLast packets settings n offset kept fault (fault_line offset fault packet)
-told_last packets settings n offset kept None packet in_words explains halts there = refl
-told_last packets settings n offset kept (Some fault) packet in_words explains halts there =
+told_last : (packets : Option Packets) (settings : Settings) (n offset : ℕ) (rest : List ℕ) (fault : Option Fault) (packet : Option ℕ) → settings.as_json ≡ false → settings.explains ≡ false → settings.keeps_going ≡ false
+    → IsFaultIn packets settings.limits offset rest fault packet → IsToldLast packets settings n offset rest fault (fault_line offset fault packet)
+told_last packets settings n offset rest None packet in_words explains halts there = refl
+told_last packets settings n offset rest (Some fault) packet in_words explains halts there =
     let refusal : RefusedMessage = record { number = n; offset = offset; fault = fault; packet = packet } in
-    (packet, there, transport (λ i. IsToldIn (sym in_words i) (sym halts i) (sym explains i) refusal kept (line_of false refusal)) refl)
+    (packet, there, transport (λ i. IsToldIn (sym in_words i) (sym halts i) (sym explains i) settings.limits refusal rest (line_of false refusal)) refl)
 
 -- of a new reader, which keeps nothing
 module _ {R : Type 0} (left : R → Option (List ℕ)) (calls failures : R → ℕ) (packets : R → Option Packets) (packet : R → Option Packet) (old new : CheckReader R)
@@ -172,7 +172,6 @@ module _ {R : Type 0} (left : R → Option (List ℕ)) (calls failures : R → �
           covers = covers a.items a.rest a.read;
           cut = None;
           tally_is = wholes_tally [] a.items counted.count counted.size _ refl (omega (arith, a.count_is)) (omega (arith, size));
-          kept = a.rest;
           tells = record {
             outcome = a.outcome;
             outcome_is = a.outcome_is;

@@ -71,7 +71,7 @@ far_as {t} {settings} to reads f g = record {
 pub ends_as : {t : Taken} {settings : Settings} {most : ℕ} {is_check : Bool} {F G : List Placed → Bool → Type 0} {N M : (size : ℕ) → Type 0} {P Q : List Placed → (told : List ℕ) → Type 0} {end : ExitStatus} → ((l : List Placed) (b : Bool) → F l b → G l b) → ((size : ℕ) → N size → M size)
     → ((parts : List Part) (items : List Placed) (told : List ℕ) → ArePlaced t.packets 1 0 parts items → P items told → Q items told) → Goes t settings most is_check F N P end → Goes t settings most is_check G M Q end
 ends_as {t} {settings} to reads f g = elim g [
-  | inl (through, seen) ↦ inl (goes_as to f through, λ faultless. reads_as (WantToSee settings.limits through.through.parts through.through.kept) reads (seen faultless))
+  | inl (through, seen) ↦ inl (goes_as to f through, λ faultless. reads_as (WantToSee settings.limits through.through.parts through.through.rest) reads (seen faultless))
   | inr far ↦ inr (far_as to reads f far)
 ]
 
@@ -99,7 +99,7 @@ taken_by g = elim g [ inl (through, seen) ↦ (through.messages, _, through.came
 
 -- it went through, if it wants all messages
 pub through_by : {t : Taken} {settings : Settings} {most : ℕ} {is_check : Bool} {F : List Placed → Bool → Type 0} {N : (size : ℕ) → Type 0} {P : List Placed → (told : List ℕ) → Type 0} {end : ExitStatus} → ((l : List Placed) (b : Bool) → F l b → WantsAll l b)
-    → Goes t settings most is_check F N P end → (g : GoesThrough t settings most is_check F P end) × ReadsToSee settings g.fault g.through.parts g.through.kept N
+    → Goes t settings most is_check F N P end → (g : GoesThrough t settings most is_check F P end) × ReadsToSee settings g.fault g.through.parts g.through.rest N
 through_by all g = elim g [ inl through ↦ through | inr far ↦ absurd (false≢true (sym (all far.messages true far.enough.1))) ]
 
 -- what the first writer got, if nothing was gathered before

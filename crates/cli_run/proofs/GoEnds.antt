@@ -7,11 +7,11 @@ use Rattle.std.proofs.Math.Seq.{drop-append_seam}
 use Rattle.std.specs.Option.{is_none}
 use Rattle.std.specs.Io.KnownBytes.{IsAtEnd}
 use Rattle.std.proofs.KnownBytes.{Consumes-trans}
-use Rattle.std.proofs.lemmas.Bool.{false≢true}
+use Rattle.std.proofs.lemmas.Bool.{cases_lt, false≢true}
 use Rattle.dbus_value_model.specs.declared.fault.Fault.{Fault}
 use Rattle.dbus_value_model.specs.declared.limits.Limits.{Limits}
 use Rattle.dbus_header.specs.MessageOutcomes.{IsPartial, IsRefused}
-use Rattle.dbus_header.proofs.OutcomeLaws.{nothing_partial}
+use Rattle.dbus_header.proofs.OutcomeLaws.{nothing_partial, refused_for_good}
 use Rattle.dbus_device.specs.Device.{one_more}
 use Rattle.dbus_device.specs.Packets.{Packets}
 use Rattle.dbus_device.specs.declared.packet.Packet.{Packet}
@@ -39,9 +39,11 @@ use Rattle.dbus_stream.proofs.FaultPackets.{refused_later}
 use Rattle.dbus_stream.proofs.SizeSteps.{size_once, sizes_tell}
 use Rattle.cli_options.specs.declared.resync.Resync.{Resync}
 use Rattle.cli_options.specs.declared.resync.Resync.TheVariants.{Off, Within as Sought}
+use Rattle.cli_report.specs.FaultFronts.{IsFaultFront}
+use Rattle.cli_report.proofs.FaultFronts.{IsShut, front_more}
 use Rattle.cli_run.specs.Going.{IsAllOf, IsSought, cause_of, AreTold, IsTold, IsToldRefused, cut_tally, passed_count, passed_sizes, tally_with}
 use Rattle.cli_run.specs.Inputs.{AreInPacket, BeginNowhere, BeginWithParts, By, GoesPast, InPacket, IsCutOff, IsCutUnpassed, IsFaultOf, IsInOther, IsLast, IsPart, IsPassedBy, IsLarger, IsTellable, IsUnpassed, Part, PassedOver, PastWindow, Placed, ResumeIn, Resumed, Seek, Stated, WantsMoreBy, is_there, is_to_end, looked_for, looked_in, reach_end, seek_of, sizes_of}
-use Rattle.cli_run.specs.Needed.{ahead_by}
+use Rattle.cli_run.specs.Needed.{WantToSee, ahead_by}
 use Rattle.cli_run.specs.Onward.{HasKnownPackets, HasRead, stop_of}
 use Rattle.cli_run.specs.PassingOn.{BySize, PassesBy, PassesInPacket, PassesLarger, PassesOn, ToNext, ToPacket, Way, way_of}
 use Rattle.cli_run.specs.Refusals.{IsRefusedIn, number_of}
@@ -54,15 +56,12 @@ use Rattle.cli_run.specs.declared.tally.Tally.{Tally}
 use Rattle.cli_run.specs.declared.visitor.RunStop.{RunStop}
 use Rattle.cli_run.specs.declared.visitor.RunStop.TheVariants.{Cause as ByCause, Untold}
 use Rattle.cli_run.proofs.NeededSteps.{reads_if, reads_looking, reads_sized, reads_then, wanted_more, wanted_past}
-use Rattle.cli_run.proofs.PartLaws.{StayNowhere, is_fault_of, larger_more, looked-both, nowhere_more, part_some, parts_more, placed_past, sizes-both, passed-both, passed_sizes-both}
+use Rattle.cli_run.proofs.FrontSteps.{HaveSameFronts, fronts_more, fronts_own, in_packet_both, refused_as, told_as, unshown_front}
+use Rattle.cli_run.proofs.KnownPackets.{same_number}
+use Rattle.cli_run.proofs.PartLaws.{StayNowhere, larger_more, looked-both, nowhere_more, part_some, parts_more, placed_past, sizes-both, passed-both, passed_sizes-both}
 use Rattle.cli_run.proofs.ReadSteps.{read_none, read_on}
 use Rattle.cli_run.proofs.Ways.{way_cut, way_next, way_packet, way_size}
 use Rattle.cli_run.proofs.GoSteps.{fresh, Begun, Fills, HasCovered, HasEnded, HasGone, HasReached, MoreWanted, ReadsFor, Unshown, Wants, reads_on, read_parts, refused_is, none_is, covers_read, covers, packets_of, Took, Within, Through, Stopped, More, stops_plain, all_called}
-
--- the number of a packet, as both have it
-same_number : (p : Option Packet) → number_of p ≡ packed_number p
-same_number None = refl
-same_number (Some packet) = refl
 
 -- one of two that are not both
 or_last : (a : Bool) → a || false ≡ true → a ≡ true
@@ -90,9 +89,8 @@ module _ {R A S : Type 0} {takes : S → S → List Placed → (told : List ℕ)
           covers = covers run mid g.parts (kept mid) g.told g.covered;
           cut = None;
           tally_is = g.tally_is;
-          kept = kept mid;
           tells = record { outcome = h.outcome; outcome_is = h.outcome_is; fault_is = no_fault; told = refl };
-          last = subst (λ o. IsLast (packets_of run) None run.settings run.settings.limits (sizes_of g.parts) (looked_in g.parts) (kept mid) (kept mid) o (IsAtEnd (run.left (source_of mid)))) (sym ended) (refl, at_end);
+          last = subst (λ o. IsLast (packets_of run) None run.settings run.settings.limits (sizes_of g.parts) (looked_in g.parts) (kept mid) o (IsAtEnd (run.left (source_of mid)))) (sym ended) at_end;
           read_failed = g.failed;
         };
         messages = items;
@@ -105,7 +103,7 @@ module _ {R A S : Type 0} {takes : S → S → List Placed → (told : List ℕ)
 
   -- ---- the fault is told
 
-  module _ {fault : Fault} (faulty : counted.fault ≡ Some fault) (packet : Option ℕ) (packet_is : packet ≡ number_of (run.packet (source_of mid))) where
+  module _ {fault : Fault} (faulty : counted.fault ≡ Some fault) (packet : Option ℕ) (packet_is : packet ≡ number_of (run.packet (source_of mid))) (front : List ℕ) (is_front : IsFaultFront run.settings.limits (kept mid) front) where
     -- this is told of it
     abbrev Due : List ℕ → Type 0
     Due text = IsTold run.settings (record { number = counted.count + 1; offset = counted.size; fault = fault; packet = packet }) (kept mid) text
@@ -130,22 +128,9 @@ module _ {R A S : Type 0} {takes : S → S → List Placed → (told : List ℕ)
     stopped_last : stopped_of mid ≡ Some (read.Format fault)
     stopped_last = h.stopped ∙ ap stop_of faulty
 
-    -- all was read up to the rest
-    abbrev through : (new : RawReader R A) (cut : Option (Option ℕ)) (ended : Tally) (text rest : List ℕ) (outcome : CutOutcome) → ended ≡ tally_with cut h.gone.parts rest → Due text → IsOutcome run.settings.limits (kept mid) outcome
-        → Some fault ≡ fault_at_end (kept mid) outcome → HasCovered run new h.gone.parts rest h.gone.told
-        → IsLast (packets_of run) cut run.settings run.settings.limits (sizes_of h.gone.parts) (looked_in h.gone.parts) (kept mid) rest outcome (IsAtEnd (run.left (source_of new)))
-        → run.failures (source_of new) ≡ run.failures (source_of mid) → Through run new ended (Some fault) h.gone.told text
-    through new cut ended text rest outcome tally_is told outcome_is fault_is covered last same = record {
-      parts = h.gone.parts;
-      rest = rest;
-      covers = covers run new h.gone.parts rest h.gone.told covered;
-      cut = cut;
-      tally_is = tally_is;
-      kept = kept mid;
-      tells = record { outcome = outcome; outcome_is = outcome_is; fault_is = fault_is; told = told_at (length h.gone.parts + 1) text refl told };
-      last = last;
-      read_failed = same ∙ h.gone.failed;
-    }
+    -- the same of the rest, of which the message may have more bytes
+    told_rest : (rest text : List ℕ) → HaveSameFronts run.settings.limits (kept mid) rest → Due text → IsToldRefused (packets_of run) run.settings (length h.gone.parts + 1) (sizes_of h.gone.parts) rest fault text
+    told_rest rest text fronts told = told_as (packets_of run) run.settings (length h.gone.parts + 1) (sizes_of h.gone.parts) (kept mid) rest fault text fronts (told_at (length h.gone.parts + 1) text refl told)
 
     -- the message that is refused, and how it is passed over
     abbrev refusal : RefusedMessage
@@ -179,48 +164,38 @@ module _ {R A S : Type 0} {takes : S → S → List Placed → (told : List ℕ)
     refused_by by is = subst (λ (p : Option ℕ). IsRefusedIn (packets_of run) run.settings.limits (sizes_of h.gone.parts) (kept mid) p) is refused_at
 
     -- why it was not passed over then
-    cut_unsized : (at_end : Type 0) (r : Resync) → run.settings.resync ≡ r → IsUnsized → IsCutUnpassed (packets_of run) (seek_by r) run.settings.limits (sizes_of h.gone.parts) (kept mid) (kept mid) at_end
+    cut_unsized : (at_end : Type 0) (r : Resync) → run.settings.resync ≡ r → IsUnsized → IsCutUnpassed (packets_of run) (seek_by r) run.settings.limits (sizes_of h.gone.parts) (kept mid) at_end
     cut_unsized at_end Off is unsized = tt
     cut_unsized at_end (Sought w) is unsized = (packet, refused_at, λ none. absurd (way_cut packet (is_truncated fault.reason) w (subst (λ (r : Resync). way_of refusal r ≡ BySize) is unsized.0) none))
 
-    unsized_is : (at_end : Type 0) → IsUnsized → is_truncated fault.reason ≡ false → IsUnpassed (packets_of run) seek run.settings.limits (sizes_of h.gone.parts) (kept mid) (kept mid) at_end
+    unsized_is : (at_end : Type 0) → IsUnsized → is_truncated fault.reason ≡ false → IsUnpassed (packets_of run) seek run.settings.limits (sizes_of h.gone.parts) (kept mid) at_end
     unsized_is at_end unsized whole =
         let by = way_size packet (is_truncated fault.reason) run.settings.resync unsized.0 whole in
-        subst (λ (r : Resync). IsUnpassed (packets_of run) (seek_by r) run.settings.limits (sizes_of h.gone.parts) (kept mid) (kept mid) at_end) (sym by.1)
+        subst (λ (r : Resync). IsUnpassed (packets_of run) (seek_by r) run.settings.limits (sizes_of h.gone.parts) (kept mid) at_end) (sym by.1)
         (refused_by None by.0, subst (λ (l : Limits). StatesNone l (kept mid)) limits_are (unsized.1 fault (stopped_last, whole)))
 
     -- why nothing follows if nothing was passed over
     last_is : (outcome : CutOutcome) → Some fault ≡ fault_at_end (kept mid) outcome → (((f : Fault) → outcome ≡ Refused f → ⊥) → IsAtEnd (run.left (source_of mid))) → (run.settings.keeps_going ≡ true → IsUnsized)
-        → IsLast (packets_of run) None run.settings run.settings.limits (sizes_of h.gone.parts) (looked_in h.gone.parts) (kept mid) (kept mid) outcome (IsAtEnd (run.left (source_of mid)))
-    last_is (Refused other) e at_end none =
-        let same : fault ≡ other = cc in (
-          ([], sym (append-nil (kept mid))),
-          λ _. refl,
-          λ goes whole.
-              subst (λ (f : Fault). IsUnpassed (packets_of run) (seek_of run.settings.resync (sizes_of h.gone.parts) (looked_in h.gone.parts + f.at)) run.settings.limits (sizes_of h.gone.parts) (kept mid) (kept mid) (IsAtEnd (run.left (source_of mid)))) same
-              (unsized_is (IsAtEnd (run.left (source_of mid))) (none goes) (subst (λ (f : Fault). is_truncated f.reason ≡ false) (sym same) whole)),
-        )
+        → IsLast (packets_of run) None run.settings run.settings.limits (sizes_of h.gone.parts) (looked_in h.gone.parts) (kept mid) outcome (IsAtEnd (run.left (source_of mid)))
+    last_is (Refused other) e at_end none = λ goes whole.
+        let same : fault ≡ other = cc in
+        subst (λ (f : Fault). IsUnpassed (packets_of run) (seek_of run.settings.resync (sizes_of h.gone.parts) (looked_in h.gone.parts + f.at)) run.settings.limits (sizes_of h.gone.parts) (kept mid) (IsAtEnd (run.left (source_of mid)))) same
+        (unsized_is (IsAtEnd (run.left (source_of mid))) (none goes) (subst (λ (f : Fault). is_truncated f.reason ≡ false) (sym same) whole))
     last_is Unfinished e at_end none =
         let same : fault ≡ truncated (kept mid) = cc in
         let at : fault.at ≡ length (kept mid) = ap (λ (f : Fault). f.at) same in (
-          refl,
           at_end (λ f is. absurd cc),
           λ goes.
-              subst (λ (n : ℕ). IsCutUnpassed (packets_of run) (seek_of run.settings.resync (sizes_of h.gone.parts) (looked_in h.gone.parts + n)) run.settings.limits (sizes_of h.gone.parts) (kept mid) (kept mid) (IsAtEnd (run.left (source_of mid)))) at
+              subst (λ (n : ℕ). IsCutUnpassed (packets_of run) (seek_of run.settings.resync (sizes_of h.gone.parts) (looked_in h.gone.parts + n)) run.settings.limits (sizes_of h.gone.parts) (kept mid) (IsAtEnd (run.left (source_of mid)))) at
               (cut_unsized (IsAtEnd (run.left (source_of mid))) run.settings.resync refl (none goes)),
         )
     last_is Ended e at_end none = absurd cc
 
-    -- nothing was passed over, if the run is not to go on, or could not
-    abbrev through_there : (text : List ℕ) → Due text → (run.settings.keeps_going ≡ true → IsUnsized) → Through run mid tally (Some fault) h.gone.told text
-    through_there text told none =
-        through mid None tally text (kept mid) h.outcome h.gone.tally_is told h.outcome_is fault_last h.gone.covered (last_is h.outcome fault_last (λ not. h.gone.covered.at_end (h.ended not)) none) refl
-
     -- the fault shows
-    tellable : (outcome : CutOutcome) → Some fault ≡ fault_at_end (kept mid) outcome → (((f : Fault) → outcome ≡ Refused f → ⊥) → IsAtEnd (run.left (source_of mid)))
-        → IsTellable (kept mid) (kept mid) outcome (IsAtEnd (run.left (source_of mid)))
-    tellable (Refused other) e at_end = refl
-    tellable outcome e at_end = (refl, at_end (λ f is. absurd cc))
+    tellable : (outcome : CutOutcome) → Some fault ≡ fault_at_end (kept mid) outcome → (((f : Fault) → outcome ≡ Refused f → ⊥) → IsAtEnd (run.left (source_of mid))) → IsTellable outcome (IsAtEnd (run.left (source_of mid)))
+    tellable (Refused other) e at_end = tt
+    tellable Unfinished e at_end = at_end (λ f is. absurd cc)
+    tellable Ended e at_end = absurd cc
 
     pub not_told : settled s1 → (s2 : S) (stop : RunStop) → Tells takes leaves Due s1 s2 (Err stop) → Within run takes leaves full mid stop s2
     not_told rests s2 (ByCause Memory) same =
@@ -234,7 +209,6 @@ module _ {R A S : Type 0} {takes : S → S → List Placed → (told : List ℕ)
       covers = covers run mid h.gone.parts (kept mid) h.gone.told h.gone.covered;
       more = half.0;
       all = inl (
-        kept mid,
         Some fault,
         half.0,
         record { outcome = h.outcome; outcome_is = h.outcome_is; fault_is = fault_last; told = told_at (length h.gone.parts + 1) half.0 refl half.1 },
@@ -266,6 +240,14 @@ module _ {R A S : Type 0} {takes : S → S → List Placed → (told : List ℕ)
     either Unfinished o e ended = let same : fault ≡ truncated (kept mid) = cc in inr (ended (λ f is. absurd cc), (o.0, o.1, same))
     either (Refused other) o e ended = let same : other ≡ fault = cc in inl (subst (λ (f : Fault). IsRefused run.settings.limits (kept mid) f) same o)
 
+    -- it is refused, or nothing comes after it
+    shut : (more : List ℕ) → (is_ended mid ≡ true → more ≡ []) → IsShut run.settings.limits (kept mid) more
+    shut more none = elim (either h.outcome h.outcome_is fault_last h.ended) [ inl refused ↦ inl (fault, refused) | inr cut ↦ inr (none cut.0) ]
+
+    -- the packet of its fault, by the bytes that show that
+    front_by : (by : Option ℕ) → packet ≡ by → IsRefusedIn (packets_of run) run.settings.limits (sizes_of h.gone.parts) front by
+    front_by by is = refused_as run.settings.limits (kept mid) front (fronts_own run.settings.limits (kept mid) front is_front) (packets_of run) (sizes_of h.gone.parts) by (refused_by by is)
+
     -- a read is made to pass it over only if so many bytes came: no more than its size, or fewer than
     -- twice as many as are looked ahead at
     abbrev Before : By → (size came : ℕ) → Type 0
@@ -275,10 +257,13 @@ module _ {R A S : Type 0} {takes : S → S → List Placed → (told : List ℕ)
     -- so they are wanted for it
     wanted_for : (by : By) (size came : ℕ) → Unshown run h.gone.parts (kept mid) came
         ⊎ (came < sizes_of h.gone.parts + 2 * ahead_by by)
-        → Wants run (h.gone.parts ++ PassedOver (kept mid) fault by size ∷ []) came
+        → Wants run (h.gone.parts ++ PassedOver front fault by size ∷ []) came
     wanted_for by size came w =
-        wanted_past run.settings.limits 0 h.gone.parts (kept mid) fault by size came
-        (sizes_of h.gone.parts) (omega arith) w
+        wanted_past run.settings.limits 0 h.gone.parts front fault by size came
+        (sizes_of h.gone.parts) (omega arith) (elim w [
+          | inl unshown ↦ inl (unshown_front run.settings.limits (sizes_of h.gone.parts) (kept mid) front came is_front unshown)
+          | inr few ↦ inr few
+        ])
 
     -- or none came of what follows it
     unshown_none : (new : RawReader R A) (parts : List Part) (came : ℕ) → came ≤ sizes_of parts
@@ -302,8 +287,8 @@ module _ {R A S : Type 0} {takes : S → S → List Placed → (told : List ℕ)
       record IsPassedOver (rest : List ℕ) : Type 0 where
         by : By
         size : ℕ
-        part : IsPart run.settings.limits rest (PassedOver (kept mid) fault by size)
-        passed : IsPassedBy (packets_of run) seek run.settings.limits (sizes_of h.gone.parts) (kept mid) by size
+        part : IsPart run.settings.limits rest (PassedOver front fault by size)
+        passed : IsPassedBy (packets_of run) seek run.settings.limits (sizes_of h.gone.parts) front by size
         kept_is : kept new ≡ drop size rest
         done_is : done_of new ≡ done_of mid + size
         looked_is : looked_of new ≡ looked_for by fault.at (sizes_of h.gone.parts) (looked_in h.gone.parts)
@@ -313,7 +298,7 @@ module _ {R A S : Type 0} {takes : S → S → List Placed → (told : List ℕ)
 
       -- not all of it came
       abbrev IsPast : List ℕ → Type 0
-      IsPast rest = IsRefused run.settings.limits (kept mid) fault × GoesPast (packets_of run) seek run.settings.limits (sizes_of h.gone.parts) (kept mid) rest packet
+      IsPast rest = IsRefused run.settings.limits (kept mid) fault × GoesPast (packets_of run) seek run.settings.limits (sizes_of h.gone.parts) rest packet
 
       -- it was looked for where messages begin again
       abbrev IsSeeking : Type 0
@@ -344,6 +329,17 @@ module _ {R A S : Type 0} {takes : S → S → List Placed → (told : List ℕ)
         reads : HasReadTo rest
         came_to : CameTo rest res
 
+      -- more bytes of it came, or nothing
+      module _ (more : List ℕ) (none : is_ended mid ≡ true → more ≡ []) where
+        fronts_to : HaveSameFronts run.settings.limits (kept mid) (kept mid ++ more)
+        fronts_to = fronts_more run.settings.limits (kept mid) more (shut more none)
+
+        front_to : IsFaultFront run.settings.limits (kept mid ++ more) front
+        front_to = fronts_to.0 front is_front
+
+      refused_to : (more : List ℕ) → IsRefused run.settings.limits (kept mid) fault → IsRefused run.settings.limits (kept mid ++ more) fault
+      refused_to more refused = refused_for_good run.settings.limits (kept mid) more fault refused
+
       -- by the size that it states: no byte of it was dropped before
       module _ (sized : way ≡ BySize) where
         whole_other : (other : Fault) → IsRefusal (stopped_of mid) other → is_truncated fault.reason ≡ false
@@ -358,7 +354,7 @@ module _ {R A S : Type 0} {takes : S → S → List Placed → (told : List ℕ)
         past_plain rest other refused wants =
             let plain = way_plain other refused in (
               met other refused,
-              subst (λ (p : Option ℕ). GoesPast (packets_of run) seek run.settings.limits (sizes_of h.gone.parts) (kept mid) rest p) (sym plain.0)
+              subst (λ (p : Option ℕ). GoesPast (packets_of run) seek run.settings.limits (sizes_of h.gone.parts) rest p) (sym plain.0)
                   (subst (λ (r : Resync). WantsMoreBy (seek_by r) run.settings.limits rest) (sym plain.1) (subst (λ (l : Limits). WantsMore l rest) limits_are wants)),
             )
 
@@ -370,8 +366,8 @@ module _ {R A S : Type 0} {takes : S → S → List Placed → (told : List ℕ)
             record {
               by = Stated;
               size = p.size;
-              part = ((more, refl), met other refused, (subst (λ (l : Limits). StatesSize l (kept mid ++ more) p.size) limits_are p.states, p.there));
-              passed = (ap seek_by plain.1, refused_by None plain.0);
+              part = (front_to more (λ end. (r.settled end).0), refused_to more (met other refused), (subst (λ (l : Limits). StatesSize l (kept mid ++ more) p.size) limits_are p.states, p.there));
+              passed = (ap seek_by plain.1, front_by None plain.0);
               kept_is = p.kept;
               done_is = omega (arith, done);
               looked_is = looked ∙ h.gone.looked;
@@ -412,19 +408,23 @@ module _ {R A S : Type 0} {takes : S → S → List Placed → (told : List ℕ)
         way_seeks : (packet ≡ None) × (run.settings.resync ≡ Sought window)
         way_seeks = way_next packet (is_truncated fault.reason) run.settings.resync window seeks
 
-        -- whether the input ends in the window
-        wide_or_end : (w : List ℕ) → (ahead_of window ≤ length w) ⊎ (is_ended new ≡ true) → (to_end : Bool) × (to_end ≡ false → window ≤ length w) × (to_end ≡ true → is_ended new ≡ true)
-        wide_or_end w all = elim all [
-          | inl wide ↦ (false, (λ _. omega (arith, wide, le-max_left window 16)), λ e. absurd (false≢true e))
-          | inr end ↦ (true, (λ e. absurd (false≢true (sym e))), λ _. end)
-        ]
-
-        -- for what it was refused
+        -- for what it was refused, and whether the input ends in the window
         fault_by : (more : List ℕ) → (is_ended mid ≡ true → more ≡ []) → (is_ended mid ≡ true → is_ended new ≡ true) → (ahead_of window ≤ length (kept mid ++ more)) ⊎ (is_ended new ≡ true)
-            → (end : Bool) × ((n : ℕ) → IsFaultOf run.settings.limits (kept mid) (kept mid ++ more) fault (Resumed window (effort window) n end)) × (end ≡ false → window ≤ length (kept mid ++ more)) × (end ≡ true → is_ended new ≡ true)
+            → (end : Bool) × ((n : ℕ) → IsFaultOf run.settings.limits (kept mid ++ more) fault (Resumed window (effort window) n end)) × (end ≡ false → window ≤ length (kept mid ++ more)) × (end ≡ true → is_ended new ≡ true)
         fault_by more none still all = elim (either h.outcome h.outcome_is fault_last h.ended) [
-          | inl refused ↦ (let w = wide_or_end (kept mid ++ more) all in (w.0, λ n. is_fault_of run.settings.limits (kept mid ++ more) (kept mid) fault (Resumed window (effort window) n w.0) refused, w.1, w.2))
-          | inr cut ↦ (true, λ n. inr (sym (append-nil (kept mid)) ∙ ap (λ (l : List ℕ). kept mid ++ l) (sym (none cut.0)), cut.1), (λ e. absurd (false≢true (sym e))), λ _. still cut.0)
+          | inl refused ↦ elim (cases_lt (length (kept mid ++ more)) window) [
+            | inl short ↦ (
+              true,
+              λ n. inl (refused_to more refused, short),
+              (λ e. absurd (false≢true (sym e))),
+              λ _. elim all [ inl wide ↦ absurd (omega (arith, wide, short, le-max_left window 16)) | inr end ↦ end ],
+            )
+            | inr wide ↦ (false, λ n. refused_to more refused, (λ _. wide), λ e. absurd (false≢true e))
+          ]
+          | inr cut ↦ (
+              let all_there : kept mid ≡ kept mid ++ more = sym (append-nil (kept mid)) ∙ ap (λ (l : List ℕ). kept mid ++ l) (sym (none cut.0)) in
+              (true, λ n. inr (subst (λ (l : List ℕ). IsCutShort run.settings.limits l fault) all_there cut.1), (λ e. absurd (false≢true (sym e))), λ _. still cut.0)
+              )
         ]
 
         -- what counts as looked at
@@ -455,8 +455,8 @@ module _ {R A S : Type 0} {takes : S → S → List Placed → (told : List ℕ)
             record {
               by = Resumed window (effort window) n f.0;
               size = size;
-              part = ((more, refl), f.1 n, (resumes_is more (record { found = At size; looked = n }) g.0.is_found, f.2));
-              passed = (ap seek_by way_seeks.1, refused_by None way_seeks.0);
+              part = (front_to more (λ end. (r.settled end).0), f.1 n, (resumes_is more (record { found = At size; looked = n }) g.0.is_found, f.2));
+              passed = (ap seek_by way_seeks.1, front_by None way_seeks.0);
               kept_is = g.1.kept;
               done_is = g.1.done;
               looked_is = counts_is n g.0.counts;
@@ -500,13 +500,21 @@ module _ {R A S : Type 0} {takes : S → S → List Placed → (told : List ℕ)
           abbrev all_there : List ℕ
           all_there = kept mid ++ r.bytes
 
+          -- what is behind the fault of what was kept, and then this
+          from_front : (f : List ℕ) (end : ℕ) → IsFaultFront run.settings.limits (kept mid) f → AreInPacket (packets_of run) number (sizes_of h.gone.parts + length (kept mid)) end → AreInPacket (packets_of run) number (sizes_of h.gone.parts + length f) end
+          from_front f end p more =
+              let there = transport (λ i. AreInPacket (packets_of run) number (h.gone.done i + length f) (h.gone.done i + length (kept mid))) (h.behind fault faulty number (same_number (run.packet (source_of mid)) ∙ is) f p) in
+              in_packet_both (packets_of run) number (sizes_of h.gone.parts + length f) (sizes_of h.gone.parts + length (kept mid)) end there more
+
           to_end : DropsAll run.left run.calls run.packet mid new r → (res : Result Passed ReadFault) → PassesInPacket run.packets run.packet mid new res → IsPast all_there × (done_of new ≡ done_of mid + length all_there)
           to_end d res p =
               let done = d.done in
               let long : done_of new ≡ done_of mid + length all_there = omega (arith, done, length-append (kept mid) r.bytes) in
               let place : done_of new ≡ sizes_of h.gone.parts + length all_there = omega (arith, long, h.gone.done) in
               let past = transport (λ i. AreInPacket (packets_of run) number (read_there i) (place i)) (in_known (packets_of run) known number is res p).0 in
-              ((refused_packed, subst (λ (p : Option ℕ). GoesPast (packets_of run) seek run.settings.limits (sizes_of h.gone.parts) (kept mid) all_there p) (sym by) past), long)
+              let of_rest = λ (f : List ℕ) (p : IsFaultFront run.settings.limits all_there f).
+              from_front f (sizes_of h.gone.parts + length all_there) ((fronts_more run.settings.limits (kept mid) r.bytes (inl (fault, refused_packed))).1 f p) past in
+              ((refused_packed, subst (λ (p : Option ℕ). GoesPast (packets_of run) seek run.settings.limits (sizes_of h.gone.parts) all_there p) (sym by) of_rest), long)
 
           came_by_packet : (res : Result Passed ReadFault) → PassesInPacket run.packets run.packet mid new res → PacketAnswers run.left run.calls run.packet mid new number r res → CameTo all_there res
           came_by_packet (Ok Over) p g =
@@ -524,10 +532,14 @@ module _ {R A S : Type 0} {takes : S → S → List Placed → (told : List ℕ)
               record {
                 by = InPacket number;
                 size = size;
-                part = ((r.bytes, refl), refused_packed, (omega (arith, both), omega (arith, both, all, two, joined, some)));
+                part = (
+                  front_to r.bytes (λ end. (r.settled end).0),
+                  refused_to r.bytes refused_packed,
+                  (omega (arith, both, ap length is_front.prefix.1, length-append front is_front.prefix.0), omega (arith, both, all, two, joined, some)),
+                );
                 passed = (
-                  refused_by (Some number) by,
-                  transport (λ i. AreInPacket (packets_of run) number (read_there i) (place i)) inside.0,
+                  front_by (Some number) by,
+                  from_front front (sizes_of h.gone.parts + size) is_front (transport (λ i. AreInPacket (packets_of run) number (read_there i) (place i)) inside.0),
                   subst (λ (n : ℕ). IsInOther (packets_of run) number n) place (inside.1 refl),
                 );
                 kept_is = g.kept ∙ (sym (drop-append_seam (kept mid ++ r.before) r.last) ∙ ap (λ (l : List ℕ). drop size l) (sym rest));
@@ -589,6 +601,15 @@ module _ {R A S : Type 0} {takes : S → S → List Placed → (told : List ℕ)
         none : is_ended far ≡ true → more ≡ []
         none end = (r.settled end).0
 
+        -- it is refused, also with all that was read of it
+        part_read : IsFaultFront run.settings.limits all_read front × IsRefused run.settings.limits all_read fault
+        part_read =
+            let refused_kept = met other refused in
+            let joined = sym (append_assoc (kept mid) ahead.bytes more) in (
+              subst (λ (l : List ℕ). IsFaultFront run.settings.limits l front) joined (front_more run.settings.limits (kept mid) (ahead.bytes ++ more) front (inl (fault, refused_kept)) is_front),
+              subst (λ (l : List ℕ). IsRefused run.settings.limits l fault) joined (refused_for_good run.settings.limits (kept mid) (ahead.bytes ++ more) fault refused_kept),
+            )
+
         nowhere_all : StayNowhere run.settings.limits window (effort window) nowhere.searched all_read
         nowhere_all = nowhere_more run.settings.limits window (effort window) found_none more (is_ended far ≡ true) none nowhere
 
@@ -599,7 +620,7 @@ module _ {R A S : Type 0} {takes : S → S → List Placed → (told : List ℕ)
         past_larger wants =
             let by = way_seeks far window seeks in (
               met other refused,
-              subst (λ (p : Option ℕ). GoesPast (packets_of run) seek run.settings.limits (sizes_of h.gone.parts) (kept mid) all_read p) (sym by.0)
+              subst (λ (p : Option ℕ). GoesPast (packets_of run) seek run.settings.limits (sizes_of h.gone.parts) all_read p) (sym by.0)
                   (subst (λ (r : Resync). WantsMoreBy (seek_by r) run.settings.limits all_read) (sym by.1) (nowhere_all.0, larger_all, subst (λ (l : Limits). WantsMore l all_read) limits_far wants)),
             )
 
@@ -628,8 +649,8 @@ module _ {R A S : Type 0} {takes : S → S → List Placed → (told : List ℕ)
             record {
               by = PastWindow window (effort window) nowhere.searched.looked;
               size = p.size;
-              part = ((ahead.bytes ++ more, append_assoc (kept mid) ahead.bytes more), met other refused, (nowhere_all.0, ap (λ (s : Searched). s.looked) nowhere_all.1, states, omega (arith, same, larger_all.2), p.there));
-              passed = (ap seek_by by.1, refused_by None by.0);
+              part = (part_read.0, part_read.1, (nowhere_all.0, ap (λ (s : Searched). s.looked) nowhere_all.1, states, omega (arith, same, larger_all.2), p.there));
+              passed = (ap seek_by by.1, front_by None by.0);
               kept_is = p.kept;
               done_is = omega (arith, done, stays.done);
               looked_is = looked ∙ counts;
@@ -689,7 +710,7 @@ module _ {R A S : Type 0} {takes : S → S → List Placed → (told : List ℕ)
       grows known passing input =
           let o = some_onward known (Ok Over) (λ e. cc) passing input in
           let c = o.came_to in
-          let some = part_some run.settings.limits o.rest (kept mid) fault c.by c.size c.part in
+          let some = part_some run.settings.limits o.rest front fault c.by c.size c.part in
           (c.stopped_is, omega (arith, c.done_is, some))
 
       -- and so has what is there of one
@@ -704,18 +725,39 @@ module _ {R A S : Type 0} {takes : S → S → List Placed → (told : List ℕ)
       still_open : full s2 ≡ false
       still_open = laws.still s1 s2 text took ∙ h.unfilled
 
-      pub halts : run.settings.keeps_going ≡ false → HasEnded run takes full mid tally (Some fault) s2
-      halts halt = record {
+      -- it ended so
+      ended_so : (new : RawReader R A) (cut : Option (Option ℕ)) (ended : Tally) (rest : List ℕ) (outcome : CutOutcome) → ended ≡ tally_with cut h.gone.parts rest → HaveSameFronts run.settings.limits (kept mid) rest
+          → IsOutcome run.settings.limits rest outcome → Some fault ≡ fault_at_end rest outcome → HasCovered run new h.gone.parts rest h.gone.told
+          → IsLast (packets_of run) cut run.settings run.settings.limits (sizes_of h.gone.parts) (looked_in h.gone.parts) rest outcome (IsAtEnd (run.left (source_of new))) → run.failures (source_of new) ≡ run.failures (source_of mid)
+          → ((run.settings.keeps_going ≡ true → Some fault ≡ None) → ReadsFor run (WantToSee run.settings.limits h.gone.parts rest) run.old new) → HasEnded run takes full new ended (Some fault) s2
+      ended_so new cut ended rest outcome tally_is fronts outcome_is fault_is covered last same needed = record {
         told = h.gone.told;
         text = text;
-        through = through_there text told (λ goes. absurd (false≢true (sym halt ∙ goes)));
+        through = record {
+          parts = h.gone.parts;
+          rest = rest;
+          covers = covers run new h.gone.parts rest h.gone.told covered;
+          cut = cut;
+          tally_is = tally_is;
+          tells = record { outcome = outcome; outcome_is = outcome_is; fault_is = fault_is; told = told_rest rest text fronts told };
+          last = last;
+          read_failed = same ∙ h.gone.failed;
+        };
         messages = items;
         placed = h.gone.placed;
         wanted = h.gone.wanted;
         unfilled = still_open;
         came = came_told;
-        needed = λ _. h.gone.needed;
+        needed = needed;
       }
+
+      -- nothing was passed over, since the run is not to go on, or could not
+      ended_there : (run.settings.keeps_going ≡ true → IsUnsized) → HasEnded run takes full mid tally (Some fault) s2
+      ended_there none =
+          ended_so mid None tally (kept mid) h.outcome h.gone.tally_is (λ f p. p, λ f p. p) h.outcome_is fault_last h.gone.covered (last_is h.outcome fault_last (λ not. h.gone.covered.at_end (h.ended not)) none) refl (λ _. h.gone.needed)
+
+      pub halts : run.settings.keeps_going ≡ false → HasEnded run takes full mid tally (Some fault) s2
+      halts halt = ended_there (λ goes. absurd (false≢true (sym halt ∙ goes)))
 
       module _ (new : RawReader R A) (known : HasKnownPackets run.packets run.packet mid (packets_of run)) where
         -- what was read to pass over it
@@ -735,8 +777,30 @@ module _ {R A S : Type 0} {takes : S → S → List Placed → (told : List ℕ)
               tells = c.tells;
             }
 
-        cut_off : (res : Result Passed ReadFault) (o : HasOnward new res) → IsPast new o.rest → IsCutOff (packets_of run) seek run.settings.limits (sizes_of h.gone.parts) (kept mid) o.rest packet
-        cut_off res o past = record { front = (o.reads.bytes, sym o.reads.messages); refused_in = refused_at; past = past.1 }
+        -- it is of the rest then
+        fronts_rest : (res : Result Passed ReadFault) (o : HasOnward new res) → HaveSameFronts run.settings.limits (kept mid) o.rest
+        fronts_rest res o = subst (λ (l : List ℕ). HaveSameFronts run.settings.limits (kept mid) l) o.reads.messages (fronts_to new o.reads.bytes (λ end. (o.reads.settled end).0))
+
+        refused_rest : (res : Result Passed ReadFault) (o : HasOnward new res) → IsRefused run.settings.limits (kept mid) fault → IsRefused run.settings.limits o.rest fault
+        refused_rest res o refused = subst (λ (l : List ℕ). IsRefused run.settings.limits l fault) o.reads.messages (refused_to new o.reads.bytes refused)
+
+        rest_by : (res : Result Passed ReadFault) (o : HasOnward new res) (by : Option ℕ) → packet ≡ by → IsRefusedIn (packets_of run) run.settings.limits (sizes_of h.gone.parts) o.rest by
+        rest_by res o by is = refused_as run.settings.limits (kept mid) o.rest (fronts_rest res o) (packets_of run) (sizes_of h.gone.parts) by (refused_by by is)
+
+        rest_is : (res : Result Passed ReadFault) (o : HasOnward new res) → is_ended mid ≡ true → kept mid ≡ o.rest
+        rest_is res o end = sym (append-nil (kept mid)) ∙ (ap (λ (l : List ℕ). kept mid ++ l) (sym (o.reads.settled end).0) ∙ o.reads.messages)
+
+        outcome_rest : (res : Result Passed ReadFault) (o : HasOnward new res) (outcome : CutOutcome) → IsOutcome run.settings.limits (kept mid) outcome → Some fault ≡ fault_at_end (kept mid) outcome → (((f : Fault) → outcome ≡ Refused f → ⊥) → is_ended mid ≡ true)
+            → IsOutcome run.settings.limits o.rest outcome × (Some fault ≡ fault_at_end o.rest outcome)
+        outcome_rest res o Ended is e ended = absurd cc
+        outcome_rest res o Unfinished is e ended =
+            let same = rest_is res o (ended (λ f never. absurd cc)) in
+            transport (λ i. IsOutcome run.settings.limits (same i) Unfinished × (Some fault ≡ fault_at_end (same i) Unfinished)) (is, e)
+        outcome_rest res o (Refused other) is e ended =
+            (subst (λ (l : List ℕ). IsRefused run.settings.limits l other) o.reads.messages (refused_for_good run.settings.limits (kept mid) o.reads.bytes other is), e)
+
+        cut_off : (res : Result Passed ReadFault) (o : HasOnward new res) → IsPast new o.rest → IsCutOff (packets_of run) seek run.settings.limits (sizes_of h.gone.parts) o.rest packet
+        cut_off res o past = (rest_by res o packet refl, past.1)
 
         -- the input ends within it, or with it
         pub ends_short : (ended_by : Tally) (end : ℕ) (is_cut : Bool) → is_cut ≡ is_none packet → end ≡ done_of new → ended_by ≡ cut_tally tally (end - tally.size) is_cut → (goes : run.settings.keeps_going ≡ true)
@@ -747,32 +811,18 @@ module _ {R A S : Type 0} {takes : S → S → List Placed → (told : List ℕ)
             let covered = short_covered (Ok CutOff) o in
             let size = ap (λ (t : Tally). t.size) h.gone.tally_is in
             let count : end - tally.size ≡ length o.rest = omega (arith, there, c.2, h.gone.done, size) in
-            record {
-              told = h.gone.told;
-              text = text;
-              through = through new (Some packet) ended_by text o.rest (Refused fault) (cut ∙ (λ i. cut_tally (h.gone.tally_is i) (count i) (by i))) told c.0.0 refl covered
-                  (cut_off (Ok CutOff) o c.0, covered.at_end c.1, goes) same;
-              messages = items;
-              placed = h.gone.placed;
-              wanted = h.gone.wanted;
-              unfilled = still_open;
-              came = came_told;
-              needed = λ faultless. absurd (let none = faultless goes in cc);
-            }
+            ended_so new (Some packet) ended_by o.rest (Refused fault) (cut ∙ (λ i. cut_tally (h.gone.tally_is i) (count i) (by i))) (fronts_rest (Ok CutOff) o) (refused_rest (Ok CutOff) o c.0.0) refl covered (cut_off (Ok CutOff) o c.0, covered.at_end c.1, goes) same
+            (λ faultless. absurd (let none = faultless goes in cc))
 
         -- it states no size
-        last_unsized : (goes : run.settings.keeps_going ≡ true) (o : HasOnward new (Ok Not)) → StatesNoSize new o.rest → IsLast (packets_of run) None run.settings run.settings.limits (sizes_of h.gone.parts) (looked_in h.gone.parts) (kept mid) o.rest (Refused fault) (IsAtEnd (run.left (source_of new)))
-        last_unsized goes o c = (
-          (o.reads.bytes, sym o.reads.messages),
-          (λ halt. absurd (false≢true (sym halt ∙ goes))),
-          λ _ whole.
-              subst (λ (r : Resync). IsUnpassed (packets_of run) (seek_by r) run.settings.limits (sizes_of h.gone.parts) (kept mid) o.rest (IsAtEnd (run.left (source_of new)))) (sym c.2) (refused_by None c.1, c.3),
-        )
+        last_unsized : (o : HasOnward new (Ok Not)) → StatesNoSize new o.rest → IsLast (packets_of run) None run.settings run.settings.limits (sizes_of h.gone.parts) (looked_in h.gone.parts) o.rest (Refused fault) (IsAtEnd (run.left (source_of new)))
+        last_unsized o c = λ _ whole.
+            subst (λ (r : Resync). IsUnpassed (packets_of run) (seek_by r) run.settings.limits (sizes_of h.gone.parts) o.rest (IsAtEnd (run.left (source_of new)))) (sym c.2) (rest_by (Ok Not) o None c.1, c.3)
 
         -- or messages begin again nowhere
-        last_lost : (o : HasOnward new (Ok Not)) → IsLost new o.rest → (outcome : CutOutcome) → Some fault ≡ fault_at_end (kept mid) outcome → (((f : Fault) → outcome ≡ Refused f → ⊥) → is_ended mid ≡ true) → (goes : run.settings.keeps_going ≡ true)
-            → IsLast (packets_of run) None run.settings run.settings.limits (sizes_of h.gone.parts) (looked_in h.gone.parts) (kept mid) o.rest outcome (IsAtEnd (run.left (source_of new)))
-        last_lost o c outcome e ended goes = by_outcome outcome e ended
+        last_lost : (o : HasOnward new (Ok Not)) → IsLost new o.rest → (outcome : CutOutcome) → Some fault ≡ fault_at_end o.rest outcome → (((f : Fault) → outcome ≡ Refused f → ⊥) → is_ended mid ≡ true)
+            → IsLast (packets_of run) None run.settings run.settings.limits (sizes_of h.gone.parts) (looked_in h.gone.parts) o.rest outcome (IsAtEnd (run.left (source_of new)))
+        last_lost o c outcome e ended = by_outcome outcome e ended
           where
             at_end : is_ended new ≡ true → IsAtEnd (run.left (source_of new))
             at_end = (short_covered (Ok Not) o).at_end
@@ -780,80 +830,54 @@ module _ {R A S : Type 0} {takes : S → S → List Placed → (told : List ℕ)
             nowhere : BeginNowhere run.settings.limits c.0 (effort c.0) o.rest (IsAtEnd (run.left (source_of new)))
             nowhere = record { searched = c.3.searched; nowhere = c.3.nowhere; resumes = c.3.resumes; all = λ short. at_end (c.3.all short) }
 
-            by_outcome : (outcome : CutOutcome) → Some fault ≡ fault_at_end (kept mid) outcome → (((f : Fault) → outcome ≡ Refused f → ⊥) → is_ended mid ≡ true) → IsLast (packets_of run) None run.settings run.settings.limits (sizes_of h.gone.parts) (looked_in h.gone.parts) (kept mid) o.rest outcome (IsAtEnd (run.left (source_of new)))
+            by_outcome : (outcome : CutOutcome) → Some fault ≡ fault_at_end o.rest outcome → (((f : Fault) → outcome ≡ Refused f → ⊥) → is_ended mid ≡ true) → IsLast (packets_of run) None run.settings run.settings.limits (sizes_of h.gone.parts) (looked_in h.gone.parts) o.rest outcome (IsAtEnd (run.left (source_of new)))
             by_outcome Ended e ended = absurd cc
             by_outcome Unfinished e ended =
-                let same : fault ≡ truncated (kept mid) = cc in
-                let at : fault.at ≡ length (kept mid) = ap (λ (f : Fault). f.at) same in
+                let same : fault ≡ truncated o.rest = cc in
+                let at : fault.at ≡ length o.rest = ap (λ (f : Fault). f.at) same in
                 let none = o.reads.settled (ended (λ f is. absurd cc)) in (
-                  sym o.reads.messages ∙ (ap (λ (l : List ℕ). kept mid ++ l) none.0 ∙ append-nil (kept mid)),
                   at_end none.1,
-                  λ _. transport (λ i. IsCutUnpassed (packets_of run) (seek_of (sym c.2 i) (sizes_of h.gone.parts) (looked_in h.gone.parts + at i)) run.settings.limits (sizes_of h.gone.parts) (kept mid) o.rest (IsAtEnd (run.left (source_of new)))) (packet, refused_at, λ _. nowhere),
+                  λ _. transport (λ i. IsCutUnpassed (packets_of run) (seek_of (sym c.2 i) (sizes_of h.gone.parts) (looked_in h.gone.parts + at i)) run.settings.limits (sizes_of h.gone.parts) o.rest (IsAtEnd (run.left (source_of new)))) (packet, rest_by (Ok Not) o packet refl, λ _. nowhere),
                 )
-            by_outcome (Refused other) e ended = (
-              (o.reads.bytes, sym o.reads.messages),
-              (λ halt. absurd (false≢true (sym halt ∙ goes))),
-              λ _ whole.
-                  let same : fault ≡ other = cc in
-                  transport (λ i. IsUnpassed (packets_of run) (seek_of (sym c.2 i) (sizes_of h.gone.parts) (looked_in h.gone.parts + (same i).at)) run.settings.limits (sizes_of h.gone.parts) (kept mid) o.rest (IsAtEnd (run.left (source_of new))))
-                  (refused_by None c.1, nowhere, c.4 (subst (λ (f : Fault). is_truncated f.reason ≡ false) (sym same) whole)),
-            )
+            by_outcome (Refused other) e ended = λ _ whole.
+                let same : fault ≡ other = cc in
+                transport (λ i. IsUnpassed (packets_of run) (seek_of (sym c.2 i) (sizes_of h.gone.parts) (looked_in h.gone.parts + (same i).at)) run.settings.limits (sizes_of h.gone.parts) o.rest (IsAtEnd (run.left (source_of new))))
+                (rest_by (Ok Not) o None c.1, nowhere, c.4 (subst (λ (f : Fault). is_truncated f.reason ≡ false) (sym same) whole))
 
-        stays_by : (goes : run.settings.keeps_going ≡ true) (o : HasOnward new (Ok Not)) (outcome : CutOutcome) → IsOutcome run.settings.limits (kept mid) outcome → Some fault ≡ fault_at_end (kept mid) outcome
-            → IsLast (packets_of run) None run.settings run.settings.limits (sizes_of h.gone.parts) (looked_in h.gone.parts) (kept mid) o.rest outcome (IsAtEnd (run.left (source_of new))) → run.failures (source_of new) ≡ run.failures (source_of mid) → HasEnded run takes full new tally (Some fault) s2
-        stays_by goes o outcome outcome_is fault_is last same = record {
-          told = h.gone.told;
-          text = text;
-          through = through new None tally text o.rest outcome h.gone.tally_is told outcome_is fault_is (short_covered (Ok Not) o) last same;
-          messages = items;
-          placed = h.gone.placed;
-          wanted = h.gone.wanted;
-          unfilled = still_open;
-          came = came_told;
-          needed = λ faultless. absurd (let none = faultless goes in cc);
-        }
+        stays_by : (goes : run.settings.keeps_going ≡ true) (o : HasOnward new (Ok Not)) (outcome : CutOutcome) → IsOutcome run.settings.limits o.rest outcome → Some fault ≡ fault_at_end o.rest outcome
+            → IsLast (packets_of run) None run.settings run.settings.limits (sizes_of h.gone.parts) (looked_in h.gone.parts) o.rest outcome (IsAtEnd (run.left (source_of new))) → run.failures (source_of new) ≡ run.failures (source_of mid) → HasEnded run takes full new tally (Some fault) s2
+        stays_by goes o outcome outcome_is fault_is last same =
+            ended_so new None tally o.rest outcome h.gone.tally_is (fronts_rest (Ok Not) o) outcome_is fault_is (short_covered (Ok Not) o) last same (λ faultless. absurd (let none = faultless goes in cc))
 
         stays_after : (goes : run.settings.keeps_going ≡ true) → HasOnward new (Ok Not) → run.failures (source_of new) ≡ run.failures (source_of mid) → HasEnded run takes full new tally (Some fault) s2
         stays_after goes o same = elim o.came_to [
-          | inl unsized ↦ stays_by goes o (Refused fault) unsized.0 refl (last_unsized goes o unsized) same
-          | inr lost ↦ stays_by goes o h.outcome h.outcome_is fault_last (last_lost o lost h.outcome fault_last h.ended goes) same
+          | inl unsized ↦ stays_by goes o (Refused fault) (refused_rest (Ok Not) o unsized.0) refl (last_unsized o unsized) same
+          | inr lost ↦ (
+              let all = outcome_rest (Ok Not) o h.outcome h.outcome_is fault_last h.ended in
+              stays_by goes o h.outcome all.0 all.1 (last_lost o lost h.outcome all.1 h.ended) same
+              )
         ]
 
         pub stays : run.settings.keeps_going ≡ true → PassedBy new (Ok Not) → IsInput new (Ok Not) → run.failures (source_of new) ≡ run.failures (source_of mid) → HasEnded run takes full new tally (Some fault) s2
         stays goes passing input same = elim (onward new known (Ok Not) passing input) [
           | inl o ↦ stays_after goes o same
-          | inr none ↦ transport (λ i. HasEnded run takes full (sym none.1 i) tally (Some fault) s2) (record {
-            told = h.gone.told;
-            text = text;
-            through = through_there text told (λ goes. none.2);
-            messages = items;
-            placed = h.gone.placed;
-            wanted = h.gone.wanted;
-            unfilled = still_open;
-            came = came_told;
-            needed = λ _. h.gone.needed;
-          })
+          | inr none ↦ transport (λ i. HasEnded run takes full (sym none.1 i) tally (Some fault) s2) (ended_there (λ goes. none.2))
         ]
 
         module _ (rests : settled s2) where
-          -- what is told of it then
-          last_told : IsToldRefused (packets_of run) run.settings (length h.gone.parts + 1) (sizes_of h.gone.parts) (kept mid) fault text
-          last_told = told_at (length h.gone.parts + 1) text refl told
-
           sought : (goes : run.settings.keeps_going ≡ true) (res : Result Passed ReadFault) (o : HasOnward new res) → IsSeeking new → IsSought (Took run new) run.settings (most_reads_of run.old) run.is_check h.gone.parts o.rest text
-          sought goes res o c = (
-            kept mid,
-            (o.reads.bytes, sym o.reads.messages),
-            fault,
-            record { outcome = h.outcome; outcome_is = h.outcome_is; fault_is = fault_last; told = last_told },
-            goes,
-            c.0,
-            c.2,
-          )
+          sought goes res o c =
+              let all = outcome_rest res o h.outcome h.outcome_is fault_last h.ended in (
+                fault,
+                record { outcome = h.outcome; outcome_is = all.0; fault_is = all.1; told = told_rest o.rest text (fronts_rest res o) told },
+                goes,
+                c.0,
+                c.2,
+              )
 
           all_of : (goes : run.settings.keeps_going ≡ true) (res : Result Passed ReadFault) (o : HasOnward new res) → IsPast new o.rest ⊎ IsSeeking new → IsAllOf (Took run new) run.settings (most_reads_of run.old) run.is_check h.gone.parts o.rest text
           all_of goes res o c = elim c [
-            | inl past ↦ inr (inl (kept mid, fault, past.0, packet, cut_off res o past, goes, last_told))
+            | inl past ↦ inr (inl (fault, refused_rest res o past.0, packet, cut_off res o past, goes, told_rest o.rest text (fronts_rest res o) told))
             | inr seeking ↦ inr (inr (sought goes res o seeking))
           ]
 
@@ -904,14 +928,15 @@ module _ {R A S : Type 0} {takes : S → S → List Placed → (told : List ℕ)
             let done = c.done_is in
             let parts = h.gone.parts in
             let is = h.gone.tally_is in
-            let part = PassedOver (kept mid) fault c.by n in
+            let part = PassedOver front fault c.by n in
             let w : kept mid ++ o.reads.bytes ≡ o.rest = o.reads.messages in
             let begin : BeginWithParts run.settings.limits o.rest (part ∷ []) (kept new) = (c.part, sym c.kept_is) in
             let begin_there = subst (λ (l : List ℕ). BeginWithParts run.settings.limits l (part ∷ []) (kept new)) (sym w) begin in
             let number : 1 + length parts ≡ length parts + 1 = omega arith in
             let offset : sizes_of parts ≡ 0 + sizes_of parts = omega arith in
-            let told_next = subst (λ (o : ℕ). IsToldRefused (packets_of run) run.settings (1 + length parts) o (kept mid) fault text) offset (told_at (1 + length parts) text number told) in
-            let passed_next = subst (λ (o : ℕ). IsPassedBy (packets_of run) (seek_of run.settings.resync o (looked_in parts + fault.at)) run.settings.limits o (kept mid) c.by n) offset c.passed in
+            let told_front = told_as (packets_of run) run.settings (1 + length parts) (sizes_of parts) (kept mid) front fault text (fronts_own run.settings.limits (kept mid) front is_front) (told_at (1 + length parts) text number told) in
+            let told_next = subst (λ (o : ℕ). IsToldRefused (packets_of run) run.settings (1 + length parts) o front fault text) offset told_front in
+            let passed_next = subst (λ (o : ℕ). IsPassedBy (packets_of run) (seek_of run.settings.resync o (looked_in parts + fault.at)) run.settings.limits o front c.by n) offset c.passed in
             let ended : reach_end (part ∷ []) ≡ true → is_ended new ≡ true = λ e. c.ends (or_last (is_to_end c.by) e) in
             let told_is : AreTold (packets_of run) run.settings (1 + length parts) (0 + sizes_of parts) (looked_in parts) (part ∷ []) text = (text, [], sym (append-nil text), (goes, passed_next, told_next), refl) in
             let count_is : tally.count + 1 ≡ length (parts ++ part ∷ []) = omega (arith, ap (λ (t : Tally). t.count) is, length-append parts (part ∷ [])) in
@@ -928,7 +953,7 @@ module _ {R A S : Type 0} {takes : S → S → List Placed → (told : List ℕ)
               looked = c.looked_is ∙ (ap (λ (n : ℕ). looked_for c.by fault.at n (looked_in parts)) offset ∙ sym (looked-both parts (part ∷ []) 0 0));
               failed = same ∙ h.gone.failed;
               messages = items;
-              placed = placed_past (packets_of run) 1 0 parts (kept mid) fault c.by n items h.gone.placed;
+              placed = placed_past (packets_of run) 1 0 parts front fault c.by n items h.gone.placed;
               came = came_told;
               wanted = h.gone.wanted;
               unfilled = λ enough. absurd (false≢true (sym still_open ∙ enough));

@@ -23,7 +23,8 @@ use Rattle.dbus_stream.specs.declared.raw_reader.RawReader.{RawReader}
 use Rattle.cli_options.specs.declared.settings.Settings.{Settings}
 use Rattle.cli_report.specs.Devices.{Reading, reading, taken, Taken}
 use Rattle.cli_run.specs.Going.{Covers, EndsWhole, IsMore, IsStopOf, IsThrough, StopsWithin, AreTold, passed_count, passed_sizes, tally_of}
-use Rattle.cli_run.specs.Inputs.{ArePlaced, BeginWithParts, Part, Placed, Whole, looked_in, reach_end, sizes_of, wholes}
+use Rattle.cli_report.specs.FaultFronts.{IsFaultFront}
+use Rattle.cli_run.specs.Inputs.{AreInPacket, ArePlaced, BeginWithParts, Part, Placed, Whole, looked_in, reach_end, sizes_of, wholes}
 use Rattle.cli_run.specs.Needed.{IsUnshown, ReadsIf, WantMore, WantToSee}
 use Rattle.cli_run.specs.Onward.{HasKnownPackets, HasRead, HandsEnough, HandsRawOn, HandsSomeOn, IsTrueEnd, RawHandsOn, stop_of}
 use Rattle.cli_run.specs.Refusals.{IsRefusedIn, number_of}
@@ -34,7 +35,7 @@ use Rattle.cli_run.specs.declared.counted.Counted.{Counted}
 use Rattle.cli_run.specs.declared.tally.Tally.{Tally}
 use Rattle.cli_run.specs.declared.visitor.RunStop.{RunStop}
 use Rattle.cli_run.specs.declared.visitor.RunStop.TheVariants.{Cause as ByCause}
-use Rattle.cli_run.proofs.KnownPackets.{refused_there}
+use Rattle.cli_run.proofs.KnownPackets.{behind_there, refused_there}
 use Rattle.cli_run.proofs.NeededSteps.{less_wanted, reads_then, unshown_on, wanted_more}
 use Rattle.cli_run.proofs.Wanted.{ends_whole, filled_next, wanted_next}
 use Rattle.cli_run.proofs.PartLaws.{reach-both, reach_wholes, parts_length, parts_more, parts_both, parts_of, few_parts, few_passed, few_passed_sizes, looked-both, looked-wholes, sizes-both, passed-both, passed_sizes-both, sizes-wholes, passed-wholes, passed_sizes-wholes, placed_both, told_both, told_of}
@@ -187,6 +188,10 @@ module _ {R A S : Type 0} (run : Begun R A S) where
   abbrev pub MoreWanted : RawReader R A → List Part → (came : ℕ) → Type 0
   MoreWanted new parts came = WantToSee run.settings.limits parts (kept new) came
 
+  -- what comes behind the bytes of a message that show its fault is of this packet
+  abbrev pub IsAllBehind : List ℕ → (number offset : ℕ) → Type 0
+  IsAllBehind w number offset = (front : List ℕ) → IsFaultFront run.settings.limits w front → AreInPacket packets_of number (offset + length front) (offset + length w)
+
   module _ (takes : S → S → List Placed → (told : List ℕ) → Type 0) (full : S → Bool) where
     -- these messages were wanted, of the run
     abbrev pub Fills : List Placed → Bool → Type 0
@@ -249,6 +254,7 @@ module _ {R A S : Type 0} (run : Begun R A S) where
       pub ended : ((f : Fault) → outcome ≡ Refused f → ⊥) → is_ended new ≡ true
       -- the fault is of the packet of the bytes that were read last
       pub refused_in : (fault : Fault) → counted.fault ≡ Some fault → IsRefusedIn packets_of run.settings.limits (done_of new) (kept new) (number_of (run.packet (source_of new)))
+      pub behind : (fault : Fault) → counted.fault ≡ Some fault → (number : ℕ) → number_of (run.packet (source_of new)) ≡ Some number → IsAllBehind (kept new) number (done_of new)
 
     -- nothing follows, and all is told but the last line
     pub record HasEnded (new : RawReader R A) (tally : Tally) (fault : Option Fault) (s : S) : Type 0 where
@@ -260,7 +266,7 @@ module _ {R A S : Type 0} (run : Begun R A S) where
       pub wanted : AreWanted Fills [] messages
       pub unfilled : full s ≡ false
       pub came : takes run.s0 s messages (told ++ text)
-      pub needed : (run.settings.keeps_going ≡ true → fault ≡ None) → ReadsFor (WantToSee run.settings.limits through.parts through.kept) run.old new
+      pub needed : (run.settings.keeps_going ≡ true → fault ≡ None) → ReadsFor (WantToSee run.settings.limits through.parts through.rest) run.old new
 
     -- or no more is wanted after the parts
     pub record HasEnough (new : RawReader R A) (tally : Tally) (s : S) : Type 0 where
@@ -448,6 +454,9 @@ module _ {R A S : Type 0} {takes : S → S → List Placed → (told : List ℕ)
           refused_in = λ fault e.
               subst (λ (l : List ℕ). IsRefusedIn (packets_of run) limits (done_of new) l (number_of (run.packet (source_of new)))) (sym a.kept)
               (refused_there run.packets run.packet limits new.reader a.all.rest a.all.read_all a.all.shows_last fault (packets_of run) known_new a.all.outcome a.all.outcome_is (sym e ∙ a.all.fault_is));
+          behind = λ fault e number is.
+              subst (λ (l : List ℕ). IsAllBehind run l number (done_of new)) (sym a.kept)
+              (behind_there run.packets run.packet limits new.reader a.all.rest a.all.read_all a.all.shows_last fault (packets_of run) known_new a.all.outcome a.all.outcome_is (sym e ∙ a.all.fault_is) number is);
         }
 
     -- up to a fault

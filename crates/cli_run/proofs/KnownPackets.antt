@@ -1,5 +1,5 @@
 -- What a reader knows of the packets of its input.
-use Rattle.std.proofs.Common.{◌≡◌, ◌≢◌, ℕ, ◌+◌, ◌-◌, ◌<◌, Bool, is_some, List, [], ◌∷◌, Option, None, Some, length, take, refl, sym, ap, ◌∙◌, subst, arith, length-append}
+use Rattle.std.proofs.Common.{◌≡◌, ◌≢◌, ℕ, ◌+◌, ◌-◌, ◌<◌, ◌≤◌, Bool, is_some, List, [], ◌∷◌, Option, None, Some, length, take, refl, sym, ap, ◌∙◌, subst, arith, length-append}
 use Rattle.dbus_device.specs.Packets.{Packets, PacketsAfter}
 use Rattle.dbus_device.specs.declared.packet.Packet.{Packet}
 use Rattle.dbus_value_model.specs.declared.fault.Fault.{Fault}
@@ -9,6 +9,7 @@ use Rattle.dbus_validate.specs.declared.validating.Validated.{Validated}
 use Rattle.dbus_stream.specs.CheckReading.{CheckReader, lengths}
 use Rattle.dbus_stream.specs.Cut.{CutOutcome, Ended, Unfinished, Refused, IsOutcome}
 use Rattle.dbus_stream.specs.CutEnds.{fault_at_end}
+use Rattle.dbus_stream.specs.Packed.{number_of as packed_number}
 use Rattle.dbus_stream.specs.Packets.{HasPackets, ShowsIn}
 use Rattle.dbus_stream.specs.Packets as input
 use Rattle.dbus_stream.specs.RawReading.{IsNewReader, KeepsPackets, Lends, ReadsNothing, done_of, source_of}
@@ -19,7 +20,9 @@ use Rattle.dbus_stream.specs.declared.reader.Reader.{Reader}
 use Rattle.dbus_stream.proofs.FaultPackets.{ends_in, refused_in}
 use Rattle.dbus_stream.proofs.PacketSteps.{of_message, still}
 use Rattle.dbus_stream.proofs.RawSteps.{begins}
-use Rattle.cli_run.specs.Inputs.{IsPacketBefore, IsTimeBefore, time_of}
+use Rattle.cli_report.specs.FaultFronts.{IsFaultFront}
+use Rattle.cli_report.proofs.FaultFronts.{front_after}
+use Rattle.cli_run.specs.Inputs.{AreInPacket, IsPacketBefore, IsTimeBefore, time_of}
 use Rattle.cli_run.specs.Onward.{HasKnownPackets, HasPacketsIf}
 use Rattle.cli_run.specs.Refusals.{IsRefusedIn, number_of}
 
@@ -70,6 +73,26 @@ some_bytes : (w : List ℕ) → w ≢ [] → 0 < length w
 some_bytes [] some = absurd (some refl)
 some_bytes (x ∷ xs) some = omega arith
 
+-- the number of a packet, as both have it
+pub same_number : (p : Option Packet) → number_of p ≡ packed_number p
+same_number None = refl
+same_number (Some packet) = refl
+
+-- the last byte of those that show the fault is of its packet, and so are those behind them
+module _ (limits : Limits) (all : Packets) (offset : ℕ) (w front : List ℕ) (packet : Option Packet) (p : IsFaultFront limits w front) (s : ShowsIn all limits offset w packet) where
+  after : s.before < length front
+  after = front_after limits w front s.before p s.some s.unshown
+
+  shown_byte : all (offset + length front - 1) ≡ packet
+  shown_byte =
+      let place : offset + length front - 1 ≡ offset + (length front - 1) = omega (arith, after) in
+      ap all place ∙ s.in_packet (length front - 1) (omega (arith, after)) (omega (arith, after, ap length p.prefix.1, length-append front p.prefix.0))
+
+  behind_byte : (i : ℕ) → offset + length front ≤ i → i < offset + length w → all i ≡ packet
+  behind_byte i from before =
+      let place : i ≡ offset + (i - offset) = omega (arith, from) in
+      ap all place ∙ s.in_packet (i - offset) (omega (arith, after, from)) (omega (arith, from, before))
+
 module _ {R T B A : Type 0} {b : Ghosts B} (packets : R → Option Packets) (packet : R → Option Packet) (limits : Limits) (r : Reader R T B A b) (w : List ℕ) (read : reading.read_of r ≡ reading.done_of r + length w)
     (shows : IsPartial limits (take (length w - reading.last_of r) w)) (fault : Fault) where
   -- the reader keeps w, which shows the fault, or the input ends there
@@ -82,7 +105,15 @@ module _ {R T B A : Type 0} {b : Ghosts B} (packets : R → Option Packets) (pac
   pub refused_there : (known : Option Packets) → HasPacketsIf packets packet r known → (outcome : CutOutcome) → IsOutcome limits w outcome → Some fault ≡ fault_at_end w outcome
       → IsRefusedIn known limits (reading.done_of r) w (number_of (packet (reading.source_of r)))
   refused_there None has outcome is e = tt
-  refused_there (Some all) has outcome is e = (packet (reading.source_of r), fault_in all has outcome is e, refl)
+  refused_there (Some all) has outcome is e = λ front p. ap number_of (sym (shown_byte limits all (reading.done_of r) w front (packet (reading.source_of r)) p (fault_in all has outcome is e)))
+
+  -- and the bytes behind the fault are of its packet
+  pub behind_there : (known : Option Packets) → HasPacketsIf packets packet r known → (outcome : CutOutcome) → IsOutcome limits w outcome → Some fault ≡ fault_at_end w outcome
+      → (number : ℕ) → number_of (packet (reading.source_of r)) ≡ Some number → (front : List ℕ) → IsFaultFront limits w front → AreInPacket known number (reading.done_of r + length front) (reading.done_of r + length w)
+  behind_there None has outcome is e number there front p = tt
+  behind_there (Some all) has outcome is e number there front p = λ i from before.
+      ap packed_number (behind_byte limits all (reading.done_of r) w front (packet (reading.source_of r)) p (fault_in all has outcome is e) i from before)
+      ∙ (sym (same_number (packet (reading.source_of r))) ∙ there)
 
 -- a reader that reads no message of which more is made than its length
 module _ {R : Type 0} (packets : R → Option Packets) (packet : R → Option Packet) where

@@ -3,6 +3,7 @@ pub mod NeededSteps
 pub mod RuleSets
 pub mod OutputSteps
 pub mod PartLaws
+pub mod FrontSteps
 pub mod Outputs
 pub mod KnownPackets
 pub mod ReadSteps

@@ -147,7 +147,7 @@ module _ (limits : Limits) where
   less_wanted offset [] came less = omega (arith, less)
   less_wanted offset (Whole item ∷ parts) came less =
       less_wanted (offset + item.size) parts came (omega (arith, less))
-  less_wanted offset (PassedOver kept fault by size ∷ parts) came less =
+  less_wanted offset (PassedOver front fault by size ∷ parts) came less =
       inr (inr (less_wanted (offset + size) parts came (omega (arith, less))))
 
   -- so it is if more parts follow
@@ -156,7 +156,7 @@ module _ (limits : Limits) where
   wanted_more offset [] more came w = less_wanted offset more came (omega (arith, w))
   wanted_more offset (Whole item ∷ parts) more came w =
       wanted_more (offset + item.size) parts more came w
-  wanted_more offset (PassedOver kept fault by size ∷ parts) more came w = elim w [
+  wanted_more offset (PassedOver front fault by size ∷ parts) more came w = elim w [
     | inl unshown ↦ inl unshown
     | inr on ↦ inr (elim on [
       | inl ahead ↦ inl ahead
@@ -165,20 +165,20 @@ module _ (limits : Limits) where
   ]
 
   -- for the last one, which is refused
-  pub wanted_past : (offset : ℕ) (parts : List Part) (kept : List ℕ) (fault : Fault) (by : By)
+  pub wanted_past : (offset : ℕ) (parts : List Part) (front : List ℕ) (fault : Fault) (by : By)
       (size came at : ℕ) → at ≡ offset + sizes_of parts
-      → IsUnshown limits at kept came ⊎ (came < at + 2 * ahead_by by)
-      → WantMore limits offset (parts ++ PassedOver kept fault by size ∷ []) came
-  wanted_past offset [] kept fault by size came at is w =
+      → IsUnshown limits at front came ⊎ (came < at + 2 * ahead_by by)
+      → WantMore limits offset (parts ++ PassedOver front fault by size ∷ []) came
+  wanted_past offset [] front fault by size came at is w =
       let there : at ≡ offset = omega (arith, is) in
       elim w [
-        | inl unshown ↦ inl (subst (λ (n : ℕ). IsUnshown limits n kept came) there unshown)
+        | inl unshown ↦ inl (subst (λ (n : ℕ). IsUnshown limits n front came) there unshown)
         | inr ahead ↦ inr (inl (omega (arith, ahead, there)))
       ]
-  wanted_past offset (Whole item ∷ parts) kept fault by size came at is w =
-      wanted_past (offset + item.size) parts kept fault by size came at (omega (arith, is)) w
-  wanted_past offset (PassedOver first f b n ∷ parts) kept fault by size came at is w =
-      inr (inr (wanted_past (offset + n) parts kept fault by size came at (omega (arith, is)) w))
+  wanted_past offset (Whole item ∷ parts) front fault by size came at is w =
+      wanted_past (offset + item.size) parts front fault by size came at (omega (arith, is)) w
+  wanted_past offset (PassedOver first f b n ∷ parts) front fault by size came at is w =
+      inr (inr (wanted_past (offset + n) parts front fault by size came at (omega (arith, is)) w))
 
   -- the messages have more than the first bytes that show no fault; or there are none
   pub unshown_on : (at : ℕ) (kept bytes : List ℕ) (items : List CutMessage) (rest : List ℕ)

@@ -148,7 +148,7 @@ output_all_one packets others command os n offset (Whole item ∷ parts) (m ∷ 
     let first : h.0 ≡ k.0 = output_one command os m.item.order m.item.message m.place l.place h.0 k.0 exact (p.0.number_is ∙ sym q.0.number_is) (framed_alike (form_of command) packets others alike n offset item m l p.0 q.0) h.3 one in
     let suffix : h.1 ≡ k.1 = output_all_one packets others command (owners_after command os m.item.message) (n + 1) (offset + item.size) parts items also h.1 k.1 exact alike p.1 q.1 h.4 more in
     h.2 ∙ ((λ i. first i ++ suffix i) ∙ sym k.2)
-output_all_one packets others command os n offset (PassedOver kept fault by size ∷ parts) items also a b exact alike p q h k =
+output_all_one packets others command os n offset (PassedOver front fault by size ∷ parts) items also a b exact alike p q h k =
     output_all_one packets others command os (n + 1) (offset + size) parts items also a b exact alike p q h k
 
 -- and so is the header before them
@@ -159,7 +159,7 @@ header_one form packets others begun n offset (Whole item ∷ parts) [] also ali
 header_one form packets others begun n offset (Whole item ∷ parts) (m ∷ items) [] alike p q = absurd q
 header_one form packets others begun n offset (Whole item ∷ parts) (m ∷ items) (l ∷ also) alike p q =
     ap (λ b. header_if (b && not begun)) (frame_one form m.place l.place (framed_alike form packets others alike n offset item m l p.0 q.0))
-header_one form packets others begun n offset (PassedOver kept fault by size ∷ parts) items also alike p q = header_one form packets others begun (n + 1) (offset + size) parts items also alike p q
+header_one form packets others begun n offset (PassedOver front fault by size ∷ parts) items also alike p q = header_one form packets others begun (n + 1) (offset + size) parts items also alike p q
 
 pub one_output : OneOutput
 one_output packets others command items fault packet x y exact alike h k =

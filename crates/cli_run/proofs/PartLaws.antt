@@ -25,7 +25,7 @@ use Rattle.cli_options.specs.declared.resync.Resync.{Resync}
 use Rattle.cli_options.specs.declared.resync.Resync.TheVariants.{Within}
 use Rattle.cli_options.specs.declared.settings.Settings.{Settings}
 use Rattle.cli_run.specs.Inputs.{ArePlaced, IsPlaced, IsPacketBefore, IsTimeBefore, Part, Whole, PassedOver, Placed, size_of, sizes_of, time_of, wholes, By, Stated, InPacket, Resumed, PastWindow, BeginNowhere, IsLarger, HasSize, IsFaultOf, IsLast, IsPart, IsPassedBy, BeginWithParts, ResumeIn, SoughtIn, is_to_end, looked_after, looked_behind, looked_for, looked_in, reach_end, seek_of}
-use Rattle.cli_report.specs.Gathering.{IsPrefixTo}
+use Rattle.cli_report.proofs.FaultFronts.{front_more, front_refused}
 use Rattle.cli_run.specs.Laws.{LooksAtFew}
 use Rattle.cli_run.specs.Output.{check_line, fault_line}
 use Rattle.cli_run.specs.Going.{AreTold, closing_line, passed_count, passed_sizes}
@@ -49,12 +49,12 @@ at_same n k e = cc
 
 module _ (limits : Limits) where
   -- it is refused, or the input ends within it
-  pub either_fault : (bytes kept : List ℕ) (fault : Fault) (by : By) → IsFaultOf limits kept bytes fault by → IsRefused limits kept fault ⊎ ((kept ≡ bytes) × IsCutShort limits kept fault)
-  either_fault bytes kept fault Stated f = inl f
-  either_fault bytes kept fault (InPacket number) f = inl f
-  either_fault bytes kept fault (Resumed window effort looked false) f = inl f
-  either_fault bytes kept fault (Resumed window effort looked true) f = f
-  either_fault bytes kept fault (PastWindow window effort looked) f = inl f
+  pub either_fault : (bytes : List ℕ) (fault : Fault) (by : By) → IsFaultOf limits bytes fault by → IsRefused limits bytes fault ⊎ IsCutShort limits bytes fault
+  either_fault bytes fault Stated f = inl f
+  either_fault bytes fault (InPacket number) f = inl f
+  either_fault bytes fault (Resumed window effort looked false) f = inl f
+  either_fault bytes fault (Resumed window effort looked true) f = elim f [ inl refused ↦ inl refused.0 | inr cut ↦ inr cut ]
+  either_fault bytes fault (PastWindow window effort looked) f = inl f
 
   -- messages begin again among the bytes
   -- there, or where the size leads
@@ -117,73 +117,75 @@ module _ (limits : Limits) where
     | inr wide ↦ small (l.0, size_front limits rest more l.0 (omega (arith, wide, le-max_right window 16)) l.1, l.2)
   ]
 
-  size_inside : (bytes kept : List ℕ) (by : By) (size : ℕ) → HasSize limits kept bytes by size → size ≤ length bytes
-  size_inside bytes kept Stated size h = h.1
-  size_inside bytes kept (InPacket number) size h = omega (arith, h.1)
-  size_inside bytes kept (Resumed window effort looked to_end) size h = resumes_inside window effort looked bytes size h.0
-  size_inside bytes kept (PastWindow window effort looked) size h = h.4
+  size_inside : (bytes front : List ℕ) (by : By) (size : ℕ) → HasSize limits front bytes by size → size ≤ length bytes
+  size_inside bytes front Stated size h = h.1
+  size_inside bytes front (InPacket number) size h = omega (arith, h.1)
+  size_inside bytes front (Resumed window effort looked to_end) size h = resumes_inside window effort looked bytes size h.0
+  size_inside bytes front (PastWindow window effort looked) size h = h.4
 
-  size_more : (bytes more kept : List ℕ) (by : By) (size : ℕ) → is_to_end by ≡ false → HasSize limits kept bytes by size → HasSize limits kept (bytes ++ more) by size
-  size_more bytes more kept Stated size open_ h = ((one_size limits bytes more size size h.0).0, omega (arith, h.1, length-append bytes more))
-  size_more bytes more kept (InPacket number) size open_ h = (h.0, omega (arith, h.1, length-append bytes more))
-  size_more bytes more kept (Resumed window effort looked to_end) size open_ h =
+  size_more : (bytes more front : List ℕ) (by : By) (size : ℕ) → is_to_end by ≡ false → HasSize limits front bytes by size → HasSize limits front (bytes ++ more) by size
+  size_more bytes more front Stated size open_ h = ((one_size limits bytes more size size h.0).0, omega (arith, h.1, length-append bytes more))
+  size_more bytes more front (InPacket number) size open_ h = (h.0, omega (arith, h.1, length-append bytes more))
+  size_more bytes more front (Resumed window effort looked to_end) size open_ h =
       let wide = h.1 open_ in (
         subst (λ (l : List ℕ). Resumes limits window effort l (record { found = At size; looked = looked })) (sym (window_more window bytes more wide)) h.0,
         λ _. omega (arith, wide, length-append bytes more),
       )
-  size_more bytes more kept (PastWindow window effort looked) size open_ h =
+  size_more bytes more front (PastWindow window effort looked) size open_ h =
       let none = nowhere_there window effort bytes more (omega (arith, h.3, h.4)) (Unit {0}) h.0 in
       (none.0, ap (λ (s : Searched). s.looked) none.1 ∙ h.1, (one_size limits bytes more size size h.2).0, h.3, omega (arith, h.4, length-append bytes more))
 
-  fault_more : (bytes more kept : List ℕ) (fault : Fault) (by : By) → is_to_end by ≡ false → IsFaultOf limits kept bytes fault by → IsRefused limits kept fault
-  fault_more bytes more kept fault Stated open_ f = f
-  fault_more bytes more kept fault (InPacket number) open_ f = f
-  fault_more bytes more kept fault (Resumed window effort looked false) open_ f = f
-  fault_more bytes more kept fault (Resumed window effort looked true) open_ f = absurd (false≢true (sym open_))
-  fault_more bytes more kept fault (PastWindow window effort looked) open_ f = f
+  -- it is refused, if the input need not end there
+  fault_open : (bytes : List ℕ) (fault : Fault) (by : By) → is_to_end by ≡ false → IsFaultOf limits bytes fault by → IsRefused limits bytes fault
+  fault_open bytes fault Stated open_ f = f
+  fault_open bytes fault (InPacket number) open_ f = f
+  fault_open bytes fault (Resumed window effort looked false) open_ f = f
+  fault_open bytes fault (Resumed window effort looked true) open_ f = absurd (false≢true (sym open_))
+  fault_open bytes fault (PastWindow window effort looked) open_ f = f
 
-  pub is_fault_of : (bytes kept : List ℕ) (fault : Fault) (by : By) → IsRefused limits kept fault → IsFaultOf limits kept bytes fault by
-  is_fault_of bytes kept fault Stated f = f
-  is_fault_of bytes kept fault (InPacket number) f = f
-  is_fault_of bytes kept fault (Resumed window effort looked false) f = f
-  is_fault_of bytes kept fault (Resumed window effort looked true) f = inl f
-  is_fault_of bytes kept fault (PastWindow window effort looked) f = f
+  is_fault_of : (bytes : List ℕ) (fault : Fault) (by : By) → is_to_end by ≡ false → IsRefused limits bytes fault → IsFaultOf limits bytes fault by
+  is_fault_of bytes fault Stated open_ f = f
+  is_fault_of bytes fault (InPacket number) open_ f = f
+  is_fault_of bytes fault (Resumed window effort looked false) open_ f = f
+  is_fault_of bytes fault (Resumed window effort looked true) open_ f = absurd (false≢true (sym open_))
+  is_fault_of bytes fault (PastWindow window effort looked) open_ f = f
 
   -- what is refused, or what the input ends within, begins with no message
-  pub none_begins : (bytes kept : List ℕ) (fault : Fault) (by : By) → IsPrefixTo kept bytes → IsFaultOf limits kept bytes fault by → BeginsWithNone limits bytes
-  none_begins bytes kept fault by front f = λ order m n whole. elim (either_fault bytes kept fault by f) [
-    | inl refused ↦ not_both limits bytes order m n fault whole (subst (λ (l : List ℕ). IsRefused limits l fault) (sym front.1) (refused_for_good limits kept front.0 fault refused))
-    | inr cut ↦ (one_outcome limits bytes).1 order m n whole (subst (λ (l : List ℕ). IsPartial limits l) cut.0 cut.1.1)
+  pub none_begins : (bytes : List ℕ) (fault : Fault) (by : By) → IsFaultOf limits bytes fault by → BeginsWithNone limits bytes
+  none_begins bytes fault by f = λ order m n whole. elim (either_fault bytes fault by f) [
+    | inl refused ↦ not_both limits bytes order m n fault whole refused
+    | inr cut ↦ (one_outcome limits bytes).1 order m n whole cut.1
   ]
 
   -- what is refused has bytes
-  pub part_some : (bytes kept : List ℕ) (fault : Fault) (by : By) (size : ℕ) → IsPart limits bytes (PassedOver kept fault by size) → 0 < size
-  part_some bytes kept fault Stated size p = let long = size_some limits bytes size p.2.0 in omega (arith, long)
-  part_some bytes kept fault (InPacket number) size p = omega (arith, p.2.0, refused_later limits 0 kept fault (nothing_partial limits) p.1)
-  part_some bytes kept fault (Resumed window effort looked to_end) size p = resumes_later window effort looked bytes size (none_begins bytes kept fault (Resumed window effort looked to_end) p.0 p.1) p.2.0
-  part_some bytes kept fault (PastWindow window effort looked) size p = let long = size_some limits bytes size p.2.2 in omega (arith, long)
+  pub part_some : (bytes front : List ℕ) (fault : Fault) (by : By) (size : ℕ) → IsPart limits bytes (PassedOver front fault by size) → 0 < size
+  part_some bytes front fault Stated size p = let long = size_some limits bytes size p.2.0 in omega (arith, long)
+  part_some bytes front fault (InPacket number) size p = omega (arith, p.2.0, refused_later limits 0 front fault (nothing_partial limits) (front_refused limits bytes front fault p.0 p.1))
+  part_some bytes front fault (Resumed window effort looked to_end) size p = resumes_later window effort looked bytes size (none_begins bytes fault (Resumed window effort looked to_end) p.1) p.2.0
+  part_some bytes front fault (PastWindow window effort looked) size p = let long = size_some limits bytes size p.2.2 in omega (arith, long)
 
   part_inside : (bytes : List ℕ) (part : Part) → IsPart limits bytes part → size_of part ≤ length bytes
   part_inside bytes (Whole item) p = (whole_inside limits bytes item.order item.message item.size p).1
-  part_inside bytes (PassedOver kept fault by size) p = size_inside bytes kept by size p.2
+  part_inside bytes (PassedOver front fault by size) p = size_inside bytes front by size p.2
 
   part_more : (bytes more : List ℕ) (part : Part) → reach_end (part ∷ []) ≡ false → IsPart limits bytes part → IsPart limits (bytes ++ more) part
   part_more bytes more (Whole item) open_ p = whole_for_good limits bytes more item.order item.message item.size p
-  part_more bytes more (PassedOver kept fault by size) open_ p =
-      let far = (or_none (is_to_end by) false open_).0 in (
-        (p.0.0 ++ more, ap (λ l. l ++ more) p.0.1 ∙ append_assoc kept p.0.0 more),
-        is_fault_of (bytes ++ more) kept fault by (fault_more bytes more kept fault by far p.1),
-        size_more bytes more kept by size far p.2,
+  part_more bytes more (PassedOver front fault by size) open_ p =
+      let far = (or_none (is_to_end by) false open_).0 in
+      let refused = fault_open bytes fault by far p.1 in (
+        front_more limits bytes more front (inl (fault, refused)) p.0,
+        is_fault_of (bytes ++ more) fault by far (refused_for_good limits bytes more fault refused),
+        size_more bytes more front by size far p.2,
       )
 
   -- each of the parts
   reach_first : (part : Part) (parts : List Part) → reach_end (part ∷ parts) ≡ false → (reach_end (part ∷ []) ≡ false) × (reach_end parts ≡ false)
   reach_first (Whole item) parts e = (refl, e)
-  reach_first (PassedOver kept fault Stated size) parts e = (refl, e)
-  reach_first (PassedOver kept fault (InPacket number) size) parts e = (refl, e)
-  reach_first (PassedOver kept fault (Resumed window effort looked false) size) parts e = (refl, e)
-  reach_first (PassedOver kept fault (Resumed window effort looked true) size) parts e = absurd (false≢true (sym e))
-  reach_first (PassedOver kept fault (PastWindow window effort looked) size) parts e = (refl, e)
+  reach_first (PassedOver front fault Stated size) parts e = (refl, e)
+  reach_first (PassedOver front fault (InPacket number) size) parts e = (refl, e)
+  reach_first (PassedOver front fault (Resumed window effort looked false) size) parts e = (refl, e)
+  reach_first (PassedOver front fault (Resumed window effort looked true) size) parts e = absurd (false≢true (sym e))
+  reach_first (PassedOver front fault (PastWindow window effort looked) size) parts e = (refl, e)
 
   parts_open : (bytes : List ℕ) (parts : List Part) (rest more : List ℕ) → reach_end parts ≡ false → BeginWithParts limits bytes parts rest → BeginWithParts limits (bytes ++ more) parts (rest ++ more)
   parts_open bytes [] rest more open_ b = ap (λ l. l ++ more) b
@@ -217,7 +219,7 @@ module _ (limits : Limits) where
 
   some_bytes : (bytes : List ℕ) (part : Part) → IsPart limits bytes part → 0 < size_of part
   some_bytes bytes (Whole item) p = (whole_inside limits bytes item.order item.message item.size p).0
-  some_bytes bytes (PassedOver kept fault by size) p = part_some bytes kept fault by size p
+  some_bytes bytes (PassedOver front fault by size) p = part_some bytes front fault by size p
 
   -- no more parts than bytes
   pub few_parts : (bytes : List ℕ) (parts : List Part) (rest : List ℕ) → BeginWithParts limits bytes parts rest → length parts ≤ sizes_of parts
@@ -240,14 +242,14 @@ or_assoc false b c = refl
 pub reach-both : (parts more : List Part) → reach_end (parts ++ more) ≡ reach_end parts || reach_end more
 reach-both [] more = refl
 reach-both (Whole item ∷ parts) more = reach-both parts more
-reach-both (PassedOver kept fault by size ∷ parts) more = ap (λ (b : Bool). is_to_end by || b) (reach-both parts more) ∙ or_assoc (is_to_end by) (reach_end parts) (reach_end more)
+reach-both (PassedOver front fault by size ∷ parts) more = ap (λ (b : Bool). is_to_end by || b) (reach-both parts more) ∙ or_assoc (is_to_end by) (reach_end parts) (reach_end more)
 
 -- the rest ends a run that is not to go on
 pub is_last : (packets : Option Packets) (settings : Settings) (limits : Limits) (offset looked : ℕ) (rest : List ℕ) (outcome : CutOutcome) (at_end : Type 0) → settings.keeps_going ≡ false → (((f : Fault) → outcome ≡ Refused f → ⊥) → at_end)
-    → IsLast packets None settings limits offset looked rest rest outcome at_end
-is_last packets settings limits offset looked rest (Refused fault) at_end halts all = (([], sym (append-nil rest)), λ _. refl, λ on. absurd (false≢true (sym halts ∙ on)))
-is_last packets settings limits offset looked rest Ended at_end halts all = (refl, all (λ f e. absurd (let both = e in cc)))
-is_last packets settings limits offset looked rest Unfinished at_end halts all = (refl, all (λ f e. absurd (let both = e in cc)), λ on. absurd (false≢true (sym halts ∙ on)))
+    → IsLast packets None settings limits offset looked rest outcome at_end
+is_last packets settings limits offset looked rest (Refused fault) at_end halts all = λ on. absurd (false≢true (sym halts ∙ on))
+is_last packets settings limits offset looked rest Ended at_end halts all = all (λ f e. absurd (let both = e in cc))
+is_last packets settings limits offset looked rest Unfinished at_end halts all = (all (λ f e. absurd (let both = e in cc)), λ on. absurd (false≢true (sym halts ∙ on)))
 
 -- ---- counts
 
@@ -258,12 +260,12 @@ sizes-both (part ∷ parts) more = omega (arith, sizes-both parts more)
 pub passed-both : (parts more : List Part) → passed_count (parts ++ more) ≡ passed_count parts + passed_count more
 passed-both [] more = omega arith
 passed-both (Whole item ∷ parts) more = passed-both parts more
-passed-both (PassedOver kept fault by size ∷ parts) more = omega (arith, passed-both parts more)
+passed-both (PassedOver front fault by size ∷ parts) more = omega (arith, passed-both parts more)
 
 pub passed_sizes-both : (parts more : List Part) → passed_sizes (parts ++ more) ≡ passed_sizes parts + passed_sizes more
 passed_sizes-both [] more = omega arith
 passed_sizes-both (Whole item ∷ parts) more = passed_sizes-both parts more
-passed_sizes-both (PassedOver kept fault by size ∷ parts) more = omega (arith, passed_sizes-both parts more)
+passed_sizes-both (PassedOver front fault by size ∷ parts) more = omega (arith, passed_sizes-both parts more)
 
 pub sizes-wholes : (items : List CutMessage) → sizes_of (wholes items) ≡ sizes items
 sizes-wholes [] = refl
@@ -281,12 +283,12 @@ passed_sizes-wholes (item ∷ items) = passed_sizes-wholes items
 pub few_passed : (parts : List Part) → passed_count parts ≤ length parts
 few_passed [] = omega arith
 few_passed (Whole item ∷ parts) = omega (arith, few_passed parts)
-few_passed (PassedOver kept fault by size ∷ parts) = omega (arith, few_passed parts)
+few_passed (PassedOver front fault by size ∷ parts) = omega (arith, few_passed parts)
 
 pub few_passed_sizes : (parts : List Part) → passed_sizes parts ≤ sizes_of parts
 few_passed_sizes [] = omega arith
 few_passed_sizes (Whole item ∷ parts) = omega (arith, few_passed_sizes parts)
-few_passed_sizes (PassedOver kept fault by size ∷ parts) = omega (arith, few_passed_sizes parts)
+few_passed_sizes (PassedOver front fault by size ∷ parts) = omega (arith, few_passed_sizes parts)
 
 -- ---- texts
 
@@ -329,20 +331,20 @@ module _ (packets : Option Packets) (settings : Settings) (window : ℕ) (is : s
       let same : window ≡ other = cc in
       subst (λ (w : ℕ). counted w offset looked more ≤ 16 * (offset + window)) same (few_counted window offset looked more few)
 
-  few_for : (by : By) (fault : Fault) (offset looked size : ℕ) (kept : List ℕ) → IsPassedBy packets (seek_of settings.resync offset (looked + fault.at)) settings.limits offset kept by size → looked ≤ 16 * (offset + window)
+  few_for : (by : By) (fault : Fault) (offset looked size : ℕ) (front : List ℕ) → IsPassedBy packets (seek_of settings.resync offset (looked + fault.at)) settings.limits offset front by size → looked ≤ 16 * (offset + window)
       → looked_for by fault.at offset looked ≤ 16 * (offset + window)
-  few_for Stated fault offset looked size kept passed few = few
-  few_for (InPacket number) fault offset looked size kept passed few = few
-  few_for (Resumed other effort more to_end) fault offset looked size kept passed few = few_sought (looked + fault.at) other effort offset looked (fault.at + more) passed.0 few
-  few_for (PastWindow other effort more) fault offset looked size kept passed few = few_sought (looked + fault.at) other effort offset looked (fault.at + more) passed.0 few
+  few_for Stated fault offset looked size front passed few = few
+  few_for (InPacket number) fault offset looked size front passed few = few
+  few_for (Resumed other effort more to_end) fault offset looked size front passed few = few_sought (looked + fault.at) other effort offset looked (fault.at + more) passed.0 few
+  few_for (PastWindow other effort more) fault offset looked size front passed few = few_sought (looked + fault.at) other effort offset looked (fault.at + more) passed.0 few
 
   few_behind : (parts : List Part) (n offset looked : ℕ) (told : List ℕ) → AreTold packets settings n offset looked parts told → looked ≤ 16 * (offset + window) → looked_behind parts offset looked ≤ 16 * (offset + sizes_of parts + window)
   few_behind [] n offset looked told t few = omega (arith, few)
   few_behind (Whole item ∷ parts) n offset looked told t few =
       let rest = few_behind parts (n + 1) (offset + item.size) looked t.1 t.4 (omega (arith, few)) in
       omega (arith, rest)
-  few_behind (PassedOver kept fault by size ∷ parts) n offset looked told t few =
-      let now = few_for by fault offset looked size kept t.3.1 few in
+  few_behind (PassedOver front fault by size ∷ parts) n offset looked told t few =
+      let now = few_for by fault offset looked size front t.3.1 few in
       let rest = few_behind parts (n + 1) (offset + size) (looked_for by fault.at offset looked) t.1 t.4 (omega (arith, now)) in
       omega (arith, rest)
 
@@ -386,7 +388,7 @@ some_placed packets n offset (Whole item ∷ parts) =
       record { place = place; item = item } ∷ more.0,
       (record { item_is = refl; number_is = refl; offset_is = refl; time_is = is_time packets (offset + item.size); packet_is = is_packet packets (offset + item.size) }, more.1),
     )
-some_placed packets n offset (PassedOver kept fault by size ∷ parts) = some_placed packets (n + 1) (offset + size) parts
+some_placed packets n offset (PassedOver front fault by size ∷ parts) = some_placed packets (n + 1) (offset + size) parts
 
 module _ (packets : Option Packets) where
   moved : (n m offset at : ℕ) (parts : List Part) (messages : List Placed) → n ≡ m → offset ≡ at → ArePlaced packets n offset parts messages → ArePlaced packets m at parts messages
@@ -400,7 +402,7 @@ module _ (packets : Option Packets) where
   placed_both n offset (Whole item ∷ parts) more [] b p q = absurd p
   placed_both n offset (Whole item ∷ parts) more (m ∷ a) b p q =
       (p.0, placed_both (n + 1) (offset + item.size) parts more a b p.1 (moved (n + suc (length parts)) (n + 1 + length parts) (offset + (item.size + sizes_of parts)) (offset + item.size + sizes_of parts) more b (omega arith) (omega arith) q))
-  placed_both n offset (PassedOver kept fault by size ∷ parts) more a b p q =
+  placed_both n offset (PassedOver front fault by size ∷ parts) more a b p q =
       placed_both (n + 1) (offset + size) parts more a b p (moved (n + suc (length parts)) (n + 1 + length parts) (offset + (size + sizes_of parts)) (offset + size + sizes_of parts) more b (omega arith) (omega arith) q)
 
   -- one message more
@@ -417,8 +419,8 @@ module _ (packets : Option Packets) where
       (p.0, placed_last (n + 1) (offset + x.size) items item messages m p.1 (transport (λ i. IsPlaced packets (number i) (place i) item m) q))
 
   -- one more is passed over
-  pub placed_past : (n offset : ℕ) (parts : List Part) (kept : List ℕ) (fault : Fault) (by : By) (size : ℕ) (messages : List Placed) → ArePlaced packets n offset parts messages
-      → ArePlaced packets n offset (parts ++ PassedOver kept fault by size ∷ []) messages
-  placed_past n offset parts kept fault by size messages p =
-      subst (λ (l : List Placed). ArePlaced packets n offset (parts ++ PassedOver kept fault by size ∷ []) l) (append-nil messages)
-      (placed_both n offset parts (PassedOver kept fault by size ∷ []) messages [] p refl)
+  pub placed_past : (n offset : ℕ) (parts : List Part) (front : List ℕ) (fault : Fault) (by : By) (size : ℕ) (messages : List Placed) → ArePlaced packets n offset parts messages
+      → ArePlaced packets n offset (parts ++ PassedOver front fault by size ∷ []) messages
+  placed_past n offset parts front fault by size messages p =
+      subst (λ (l : List Placed). ArePlaced packets n offset (parts ++ PassedOver front fault by size ∷ []) l) (append-nil messages)
+      (placed_both n offset parts (PassedOver front fault by size ∷ []) messages [] p refl)

@@ -102,34 +102,34 @@ are_messages packets asked n offset looked bytes (Whole item ∷ parts) rest tol
       none_told = t.2 ∙ (λ i. t.3 i ++ more.none_told i);
       none_passed = more.none_passed;
     }
-are_messages packets asked n offset looked bytes (PassedOver kept fault by size ∷ parts) rest told b t = absurd (false≢true t.3.0)
+are_messages packets asked n offset looked bytes (PassedOver front fault by size ∷ parts) rest told b t = absurd (false≢true t.3.0)
 
 -- then another command has no last line
 no_closing : (is_check : Bool) (tally : Tally) (fault : Option Fault) → is_check ≡ false → tally.passed ≡ 0 → closing_line false is_check false tally tally.passed fault ≡ []
 no_closing is_check tally None other none = λ i. closing_line false (other i) false tally (none i) None
 no_closing is_check tally (Some fault) other none = λ i. closing_line false (other i) false tally (none i) (Some fault)
 
--- all that was kept is the rest
-rest_is : (packets : Option Packets) (cut : Option (Option ℕ)) (asked : Settings) (limits : Limits) (offset looked : ℕ) (kept rest : List ℕ) (outcome : CutOutcome) (at_end : Type 0) → IsLast packets cut (plain asked) limits offset looked kept rest outcome at_end
-    → (rest ≡ kept) × (((f : Fault) → outcome ≡ Refused f → ⊥) → at_end) × (cut ≡ None)
-rest_is packets None asked limits offset looked kept rest (Refused fault) at_end last = (last.1 refl, λ none. absurd (none fault refl), refl)
-rest_is packets None asked limits offset looked kept rest Unfinished at_end last = (last.0, λ _. last.1, refl)
-rest_is packets None asked limits offset looked kept rest Ended at_end last = (last.0, λ _. last.1, refl)
-rest_is packets (Some by) asked limits offset looked kept rest (Refused fault) at_end last = absurd (false≢true last.2)
-rest_is packets (Some by) asked limits offset looked kept rest Unfinished at_end last = absurd last
-rest_is packets (Some by) asked limits offset looked kept rest Ended at_end last = absurd last
+-- without a fault that bytes show all was read, and nothing is passed over at the end
+last_plain : (packets : Option Packets) (cut : Option (Option ℕ)) (asked : Settings) (limits : Limits) (offset looked : ℕ) (rest : List ℕ) (outcome : CutOutcome) (at_end : Type 0) → IsLast packets cut (plain asked) limits offset looked rest outcome at_end
+    → (((f : Fault) → outcome ≡ Refused f → ⊥) → at_end) × (cut ≡ None)
+last_plain packets None asked limits offset looked rest (Refused fault) at_end last = (λ none. absurd (none fault refl), refl)
+last_plain packets None asked limits offset looked rest Unfinished at_end last = (λ _. last.0, refl)
+last_plain packets None asked limits offset looked rest Ended at_end last = (λ _. last, refl)
+last_plain packets (Some by) asked limits offset looked rest (Refused fault) at_end last = absurd (false≢true last.2)
+last_plain packets (Some by) asked limits offset looked rest Unfinished at_end last = absurd last
+last_plain packets (Some by) asked limits offset looked rest Ended at_end last = absurd last
 
 -- what shows of a fault ends a run that is not to go on
-last_shown : (packets : Option Packets) (asked : Settings) (limits : Limits) (offset looked : ℕ) (kept rest : List ℕ) (outcome : CutOutcome) (at_end : Type 0) → IsTellable kept rest outcome at_end → IsLast packets None (plain asked) limits offset looked kept rest outcome at_end
-last_shown packets asked limits offset looked kept rest (Refused fault) at_end shown = (([], shown ∙ sym (append-nil kept)), λ _. shown, λ goes. absurd (false≢true goes))
-last_shown packets asked limits offset looked kept rest Unfinished at_end shown = (shown.0, shown.1, λ goes. absurd (false≢true goes))
-last_shown packets asked limits offset looked kept rest Ended at_end shown = shown
+last_shown : (packets : Option Packets) (asked : Settings) (limits : Limits) (offset looked : ℕ) (rest : List ℕ) (outcome : CutOutcome) (at_end : Type 0) → IsTellable outcome at_end → IsLast packets None (plain asked) limits offset looked rest outcome at_end
+last_shown packets asked limits offset looked rest (Refused fault) at_end shown = λ goes. absurd (false≢true goes)
+last_shown packets asked limits offset looked rest Unfinished at_end shown = (shown, λ goes. absurd (false≢true goes))
+last_shown packets asked limits offset looked rest Ended at_end shown = shown
 
 -- the line of the fault is told, with its packet
-told_line : (packets : Option Packets) (asked : Settings) (n offset : ℕ) (kept text : List ℕ) (fault : Option Fault) → IsToldLast packets (plain asked) n offset kept fault text
-    → (packet : Option ℕ) × IsFaultIn packets asked.limits offset kept fault packet × (text ≡ fault_line offset fault packet)
-told_line packets asked n offset kept text None told = (None, tt, told)
-told_line packets asked n offset kept text (Some fault) told = told
+told_line : (packets : Option Packets) (asked : Settings) (n offset : ℕ) (rest text : List ℕ) (fault : Option Fault) → IsToldLast packets (plain asked) n offset rest fault text
+    → (packet : Option ℕ) × IsFaultIn packets asked.limits offset rest fault packet × (text ≡ fault_line offset fault packet)
+told_line packets asked n offset rest text None told = (None, tt, told)
+told_line packets asked n offset rest text (Some fault) told = told
 
 module _ {R W E : Type 0} (r : Reading R) (w : Writing W) (e : Writing E) (asked : Settings) (most : ℕ) (command : Command) where
   abbrev limits : Limits
@@ -160,8 +160,8 @@ module _ {R W E : Type 0} (r : Reading R) (w : Writing W) (e : Writing E) (asked
     abbrev last_fault : Option Fault
     last_fault = fault_at_end h.rest h.tells.outcome
 
-    fault_told : (packet : Option ℕ) × IsFaultIn packets limits (sizes_of h.parts) h.kept fault packet × (text ≡ fault_line (sizes_of h.parts) fault packet)
-    fault_told = told_line packets asked (length h.parts + 1) (sizes_of h.parts) h.kept text fault h.tells.told
+    fault_told : (packet : Option ℕ) × IsFaultIn packets limits (sizes_of h.parts) h.rest fault packet × (text ≡ fault_line (sizes_of h.parts) fault packet)
+    fault_told = told_line packets asked (length h.parts + 1) (sizes_of h.parts) h.rest text fault h.tells.told
 
     -- the packet of its fault
     abbrev last_packet : Option ℕ
@@ -173,15 +173,15 @@ module _ {R W E : Type 0} (r : Reading R) (w : Writing W) (e : Writing E) (asked
     abbrev line_of : List ℕ
     line_of = second_output command (sizes messages.items) last_fault last_packet
 
-    rest_kept : (h.rest ≡ h.kept) × (((f : Fault) → h.tells.outcome ≡ Refused f → ⊥) → IsAtEnd (r.left r.new)) × (h.cut ≡ None)
-    rest_kept = rest_is packets h.cut asked limits (sizes_of h.parts) (looked_in h.parts) h.kept h.rest h.tells.outcome (IsAtEnd (r.left r.new)) h.last
+    last_is : (((f : Fault) → h.tells.outcome ≡ Refused f → ⊥) → IsAtEnd (r.left r.new)) × (h.cut ≡ None)
+    last_is = last_plain packets h.cut asked limits (sizes_of h.parts) (looked_in h.parts) h.rest h.tells.outcome (IsAtEnd (r.left r.new)) h.last
 
     -- no message is passed over
     tally_is : tally ≡ tally_of h.parts
-    tally_is = h.tally_is ∙ ap (λ (b : Option (Option ℕ)). tally_with b h.parts h.rest) rest_kept.2
+    tally_is = h.tally_is ∙ ap (λ (b : Option (Option ℕ)). tally_with b h.parts h.rest) last_is.1
 
     fault_is : fault ≡ last_fault
-    fault_is = h.tells.fault_is ∙ ap (λ (l : List ℕ). fault_at_end l h.tells.outcome) (sym rest_kept.0)
+    fault_is = h.tells.fault_is
 
     passed_is : tally.passed ≡ 0
     passed_is = ap (λ (t : Tally). t.passed) tally_is ∙ messages.none_passed
@@ -195,7 +195,7 @@ module _ {R W E : Type 0} (r : Reading R) (w : Writing W) (e : Writing E) (asked
     packet_is : IsFaultIn packets limits (sizes messages.items) h.rest last_fault last_packet
     packet_is =
         let place : sizes_of h.parts ≡ sizes messages.items = ap (λ (t : Tally). t.size) (sym tally_is) ∙ size_is in
-        transport (λ i. IsFaultIn packets limits (place i) (sym rest_kept.0 i) (fault_is i) last_packet) fault_told.1
+        transport (λ i. IsFaultIn packets limits (place i) h.rest (fault_is i) last_packet) fault_told.1
 
     all_due : (told ++ text) ++ closing ≡ fault_line tally.size fault last_packet ++ closing_line false (is_check command) false tally 0 fault
     all_due =
@@ -206,7 +206,7 @@ module _ {R W E : Type 0} (r : Reading R) (w : Writing W) (e : Writing E) (asked
     second_is = ap (second_of (is_check command)) all_due ∙ (second_line last_packet (is_check command) tally fault ∙ (λ i. second_of (is_check command) (fault_line (size_is i) (fault_is i) last_packet)))
 
     cut : IsCut limits h.covers.bytes messages.items h.rest h.tells.outcome
-    cut = record { messages = messages.messages; outcome_is = subst (λ (l : List ℕ). IsOutcome limits l h.tells.outcome) (sym rest_kept.0) h.tells.outcome_is }
+    cut = record { messages = messages.messages; outcome_is = h.tells.outcome_is }
 
     -- and these texts were made of them
     module _ (handed : List Placed) (placed : ArePlaced packets 1 0 h.parts handed) (texts : List (List ℕ)) (made : AreOutput handed texts) where
@@ -230,7 +230,7 @@ module _ {R W E : Type 0} (r : Reading R) (w : Writing W) (e : Writing E) (asked
         called = h.covers.called;
         read_failed = h.read_failed;
         cut = cut;
-        at_end = rest_kept.1;
+        at_end = last_is.0;
         packet = last_packet;
         packet_is = packet_is;
         output = output;
@@ -280,16 +280,16 @@ module _ {R W E : Type 0} (r : Reading R) (w : Writing W) (e : Writing E) (asked
       | inl none ↦ none
       | inr some ↦ elim some [
         | inl lacks ↦ (
-            let uncut = (rest_is packets lacks.3 asked limits (sizes_of s.parts) (looked_in s.parts) lacks.0 s.rest lacks.2.outcome _ lacks.4).2 in
+            let uncut = (last_plain packets lacks.2 asked limits (sizes_of s.parts) (looked_in s.parts) s.rest lacks.1.outcome _ lacks.3).1 in
             let none = ap (λ (b : Option (Option ℕ)). (tally_with b s.parts s.rest).passed) uncut ∙ (messages_of (ByCause Memory) s).none_passed in
-            let faultless : lacks.1 ≡ None = elim (lacks.5 none) [ inl whole ↦ whole.0 | inr goes ↦ absurd (false≢true goes.1) ] in
-            none_last (plain asked) packets (length s.parts + 1) (sizes_of s.parts) lacks.0 lacks.1 s.more faultless lacks.2.told
+            let faultless : lacks.0 ≡ None = elim (lacks.4 none) [ inl whole ↦ whole.0 | inr goes ↦ absurd (false≢true goes.1) ] in
+            none_last (plain asked) packets (length s.parts + 1) (sizes_of s.parts) s.rest lacks.0 s.more faultless lacks.1.told
             )
-        | inr seeks ↦ absurd (false≢true seeks.4)
+        | inr seeks ↦ absurd (false≢true seeks.2)
       ]
     ]
     none_more WriteFailed s = s.all
-    none_more cause s = elim s.all [ inl none ↦ none.1 | inr more ↦ elim more [ inl cut ↦ absurd (false≢true cut.5) | inr seeks ↦ absurd (false≢true seeks.4) ] ]
+    none_more cause s = elim s.all [ inl none ↦ none.1 | inr more ↦ elim more [ inl cut ↦ absurd (false≢true cut.4) | inr seeks ↦ absurd (false≢true seeks.2) ] ]
 
     none_told : (cause : Cause) (s : Within (ByCause cause)) → s.told ++ s.more ≡ []
     none_told cause s = λ i. (messages_of (ByCause cause) s).none_told i ++ none_more cause s i
@@ -331,7 +331,7 @@ module _ {R W E : Type 0} (r : Reading R) (w : Writing W) (e : Writing E) (asked
     all_messages : (cause : Cause) (s : Within (ByCause cause)) → IsAllOf (taken r) (plain asked) most (is_check command) s.parts s.rest s.more → WritesMessages packets limits command s.covers.bytes (all_of s.messages s.came.made.texts)
     all_messages cause s all =
         let m = messages_of (ByCause cause) s in
-        let partial : IsPartial limits s.rest = elim all [ inl none ↦ none.0 | inr more ↦ elim more [ inl cut ↦ absurd (false≢true cut.5) | inr seeks ↦ absurd (false≢true seeks.4) ] ] in
+        let partial : IsPartial limits s.rest = elim all [ inl none ↦ none.0 | inr more ↦ elim more [ inl cut ↦ absurd (false≢true cut.4) | inr seeks ↦ absurd (false≢true seeks.2) ] ] in
         record {
           items = m.items;
           rest = s.rest;
@@ -363,28 +363,27 @@ module _ {R W E : Type 0} (r : Reading R) (w : Writing W) (e : Writing E) (asked
     due_of s = elim s.all [ inl due ↦ due | inr enough ↦ absurd (never_filled asked command s.messages enough.1) ]
 
     -- all was handed on, and a write of the line failed: of `check` that was to the first writer
-    through : (s : Within Untold) → IsThrough (taken r) (plain asked) most (is_check command) (tally_of s.parts) (due_of s).1 s.told (due_of s).2
+    through : (s : Within Untold) → IsThrough (taken r) (plain asked) most (is_check command) (tally_of s.parts) (due_of s).0 s.told (due_of s).1
     through s = record {
       parts = s.parts;
       rest = s.rest;
       covers = s.covers;
       cut = None;
       tally_is = refl;
-      kept = (due_of s).0;
-      tells = (due_of s).3;
-      last = elim (due_of s).4 [
-        | inl shown ↦ last_shown packets asked limits (sizes_of s.parts) (looked_in s.parts) (due_of s).0 s.rest (due_of s).3.outcome _ shown.0
-        | inr last ↦ subst (λ (b : Option (Option ℕ)). IsLast packets b (plain asked) limits (sizes_of s.parts) (looked_in s.parts) (due_of s).0 s.rest (due_of s).3.outcome _) (rest_is packets last.0 asked limits (sizes_of s.parts) (looked_in s.parts) (due_of s).0 s.rest (due_of s).3.outcome _ last.1).2 last.1
+      tells = (due_of s).2;
+      last = elim (due_of s).3 [
+        | inl shown ↦ last_shown packets asked limits (sizes_of s.parts) (looked_in s.parts) s.rest (due_of s).2.outcome _ shown.0
+        | inr last ↦ subst (λ (b : Option (Option ℕ)). IsLast packets b (plain asked) limits (sizes_of s.parts) (looked_in s.parts) s.rest (due_of s).2.outcome _) (last_plain packets last.0 asked limits (sizes_of s.parts) (looked_in s.parts) s.rest (due_of s).2.outcome _ last.1).1 last.1
       ];
       read_failed = s.caused;
     }
 
     -- and the last line after it, if it was reached
-    last_due : (s : Within Untold) (cut : Option (Option ℕ)) → IsLast packets cut (plain asked) limits (sizes_of s.parts) (looked_in s.parts) (due_of s).0 s.rest (due_of s).3.outcome (IsAtEnd (r.left r.new))
-        → s.more ≡ (due_of s).2 ++ closing_line false (is_check command) false (tally_with cut s.parts s.rest) (tally_with cut s.parts s.rest).passed (due_of s).1
-        → s.more ≡ (due_of s).2 ++ closing_line false (is_check command) false (tally_of s.parts) (passed_count s.parts) (due_of s).1
+    last_due : (s : Within Untold) (cut : Option (Option ℕ)) → IsLast packets cut (plain asked) limits (sizes_of s.parts) (looked_in s.parts) s.rest (due_of s).2.outcome (IsAtEnd (r.left r.new))
+        → s.more ≡ (due_of s).1 ++ closing_line false (is_check command) false (tally_with cut s.parts s.rest) (tally_with cut s.parts s.rest).passed (due_of s).0
+        → s.more ≡ (due_of s).1 ++ closing_line false (is_check command) false (tally_of s.parts) (passed_count s.parts) (due_of s).0
     last_due s cut last more =
-        more ∙ ap (λ (b : Option (Option ℕ)). (due_of s).2 ++ closing_line false (is_check command) false (tally_with b s.parts s.rest) (tally_with b s.parts s.rest).passed (due_of s).1) (rest_is packets cut asked limits (sizes_of s.parts) (looked_in s.parts) (due_of s).0 s.rest (due_of s).3.outcome _ last).2
+        more ∙ ap (λ (b : Option (Option ℕ)). (due_of s).1 ++ closing_line false (is_check command) false (tally_with b s.parts s.rest) (tally_with b s.parts s.rest).passed (due_of s).0) (last_plain packets cut asked limits (sizes_of s.parts) (looked_in s.parts) s.rest (due_of s).2.outcome _ last).1
 
     untold : (b : Bool) → is_check command ≡ b → (end : ExitStatus) → (s : Within Untold) → end ≡ status.Failed → GotFirst w.held w.failures b Untold (first_of b (output_of (form_of command) false (plain asked).window s.messages s.came.made.texts) (s.told ++ s.more)) w.old w.new
         → GotSecond e.held e.failures b Untold (second_of b (s.told ++ s.more)) e.old before → TellsStop e.held e.failures b Untold before e.new → Runs r w e limits most command end
@@ -392,20 +391,20 @@ module _ {R W E : Type 0} (r : Reading R) (w : Writing W) (e : Writing E) (asked
     untold true is end s failed first second tells =
         let h = through s in
         let last = closing h in
-        let out = sym (ap (λ b. first_of b (output_of (form_of command) false (plain asked).window s.messages s.came.made.texts) ((s.told ++ (due_of s).2) ++ last)) is) ∙ first_is h s.messages s.placed s.came.made.texts s.came.made.made in
-        let prefix : IsPrefixTo (s.told ++ s.more) (all_of s.messages s.came.made.texts ++ last_of h) = elim (due_of s).4 [
+        let out = sym (ap (λ b. first_of b (output_of (form_of command) false (plain asked).window s.messages s.came.made.texts) ((s.told ++ (due_of s).1) ++ last)) is) ∙ first_is h s.messages s.placed s.came.made.texts s.came.made.made in
+        let prefix : IsPrefixTo (s.told ++ s.more) (all_of s.messages s.came.made.texts ++ last_of h) = elim (due_of s).3 [
           | inl shown ↦ (last, sym out ∙ ap (λ l. (s.told ++ l) ++ last) (sym shown.1))
-          | inr all ↦ ([], sym out ∙ (append_assoc s.told (due_of s).2 last ∙ (ap (λ l. s.told ++ l) (sym (last_due s all.0 all.1 all.2)) ∙ sym (append-nil (s.told ++ s.more)))))
+          | inr all ↦ ([], sym out ∙ (append_assoc s.told (due_of s).1 last ∙ (ap (λ l. s.told ++ l) (sym (last_due s all.0 all.1 all.2)) ∙ sym (append-nil (s.told ++ s.more)))))
         ] in
         inr (record { failed = failed; cause = WriteFailed; fails = broken h s.messages s.placed s.came.made.texts s.came.made.made (s.told ++ s.more) first prefix; told = told_after WriteFailed second tells })
     untold false is end s failed first second tells =
         let h = through s in
         let last = closing h in
-        let none : last ≡ [] = no_closing (is_check command) (tally_of s.parts) (due_of s).1 is (passed_is h) in
-        let more : s.more ≡ (due_of s).2 ++ last = elim (due_of s).4 [ inl shown ↦ shown.1 ∙ sym (ap (λ l. (due_of s).2 ++ l) none ∙ append-nil (due_of s).2) | inr all ↦ last_due s all.0 all.1 all.2 ] in
+        let none : last ≡ [] = no_closing (is_check command) (tally_of s.parts) (due_of s).0 is (passed_is h) in
+        let more : s.more ≡ (due_of s).1 ++ last = elim (due_of s).3 [ inl shown ↦ shown.1 ∙ sym (ap (λ l. (due_of s).1 ++ l) none ∙ append-nil (due_of s).1) | inr all ↦ last_due s all.0 all.1 all.2 ] in
         let line : s.told ++ s.more ≡ line_of h
-        = ap (λ l. s.told ++ l) more ∙ (sym (append_assoc s.told (due_of s).2 last) ∙ (sym (ap (λ b. second_of b ((s.told ++ (due_of s).2) ++ last)) is) ∙ second_is h)) in
-        let out = sym (ap (λ b. first_of b (output_of (form_of command) false (plain asked).window s.messages s.came.made.texts) ((s.told ++ (due_of s).2) ++ last)) is) ∙ first_is h s.messages s.placed s.came.made.texts s.came.made.made in
+        = ap (λ l. s.told ++ l) more ∙ (sym (append_assoc s.told (due_of s).1 last) ∙ (sym (ap (λ b. second_of b ((s.told ++ (due_of s).1) ++ last)) is) ∙ second_is h)) in
+        let out = sym (ap (λ b. first_of b (output_of (form_of command) false (plain asked).window s.messages s.came.made.texts) ((s.told ++ (due_of s).1) ++ last)) is) ∙ first_is h s.messages s.placed s.came.made.texts s.came.made.made in
         let half = subst (λ (l : List ℕ). Stopped e.held e.failures e.old l second.0 before) line second.1 in
         inl (answers h s.messages s.placed s.came.made.texts s.came.made.made end (subst (λ (l : List ℕ). Wrote w.held w.failures w.old l w.new) out first)
         (inr (second.0, subst (λ (x : E). Stopped e.held e.failures e.old (line_of h) second.0 x) (sym tells) half, failed)))

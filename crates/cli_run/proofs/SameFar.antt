@@ -1,12 +1,11 @@
 -- Two runs over one input, of which one ends since no more is wanted after its messages. If so does
 -- the other, both have the same parts; and it does not go through.
-use Rattle.std.proofs.Common.{◌≡◌, ◌⊎◌, ◌≢◌, ℕ, ◌+◌, Bool, true, false, ◌&&◌, not, List, [], ◌∷◌, ◌++◌, length, drop, Option, None, inl, inr, refl, sym, ap, ◌∙◌, subst, arith, append_assoc, append-nil, length-append}
+use Rattle.std.proofs.Common.{◌≡◌, ◌⊎◌, ◌≢◌, ℕ, suc, ◌+◌, Bool, true, false, ◌&&◌, not, List, [], ◌∷◌, ◌++◌, length, drop, Option, None, inl, inr, refl, sym, ap, ◌∙◌, subst, arith, append_assoc, append-nil, length-append}
 use Rattle.std.proofs.Math.Path.{transport}
 use Rattle.std.proofs.lemmas.Bool.{false≢true}
 use Rattle.dbus_device.specs.Packets.{Packets}
 use Rattle.dbus_value_model.specs.declared.limits.Limits.{Limits}
 use Rattle.dbus_message_model.specs.Messages.{MessageTree}
-use Rattle.dbus_header.proofs.OutcomeLaws.{one_whole}
 use Rattle.dbus_names.specs.NameStates.{NameState}
 use Rattle.dbus_stream.specs.Cut.{CutMessage, CutOutcome, Ended}
 use Rattle.cli_options.specs.declared.command.Command.{Command}
@@ -19,24 +18,16 @@ use Rattle.cli_run.specs.Going.{EndsWhole, passed_count}
 use Rattle.cli_run.specs.CallListing.{number_and_time}
 use Rattle.cli_run.specs.LineListing.{AreLinesFilled, AreLinesOf}
 use Rattle.cli_run.specs.LineNames.{first_names, names_after, owners_for}
-use Rattle.cli_run.specs.Inputs.{ArePlaced, BeginWithParts, Part, PassedOver, Placed, Stated, Whole, looked_behind, looked_for, sizes_of}
+use Rattle.cli_run.specs.Inputs.{ArePlaced, BeginWithParts, Part, PassedOver, Placed, Whole, looked_behind, sizes_of}
 use Rattle.cli_run.specs.Output.{IsFilledBy, IsOutputOfAll, Picks, after, is_spent, owners_after, owners_known}
 use Rattle.cli_run.specs.Visiting.{AreWanted}
 use Rattle.cli_run.proofs.SameOutputs.{ActsAs}
-use Rattle.cli_run.proofs.SameParts.{ArePassed, AreSame, AreSamePackets, EndsHere, both_size, no_part, no_whole_part, part_fault}
+use Rattle.cli_run.proofs.SameParts.{ArePassed, AreSamePackets, EndsHere, along, none_after}
 
 -- messages without their places
 abbrev pub items_of : List Placed → List CutMessage
 items_of [] = []
 items_of (m ∷ messages) = m.item ∷ items_of messages
-
-items_last : (s : List Placed) (m : Placed) → items_of (s ++ m ∷ []) ≡ items_of s ++ m.item ∷ []
-items_last [] m = refl
-items_last (x ∷ s) m = ap (λ l. x.item ∷ l) (items_last s m)
-
--- one more each
-same_last : (s t : List Placed) (m l : Placed) → items_of s ≡ items_of t → m.item ≡ l.item → items_of (s ++ m ∷ []) ≡ items_of (t ++ l ∷ [])
-same_last s t m l e one = items_last s m ∙ ((λ i. e i ++ one i ∷ []) ∙ sym (items_last t l))
 
 -- ---- as many texts of the same messages
 
@@ -89,94 +80,100 @@ lines_filled wanted window s t x y e p q =
 
 -- ---- where more is wanted
 
--- before the first message, if there is one
-first_wanted : (G : List Placed → Bool → Type 0) (packets : Option Packets) (n offset : ℕ) (parts : List Part) (messages before : List Placed) → parts ≢ [] → EndsWhole parts → ArePlaced packets n offset parts messages → AreWanted G before messages
-    → G before false
-first_wanted G packets n offset [] messages before some ends placed w = absurd (some refl)
-first_wanted G packets n offset (Whole item ∷ parts) [] before some ends placed w = absurd placed
-first_wanted G packets n offset (Whole item ∷ parts) (m ∷ messages) before some ends placed w = w.0
-first_wanted G packets n offset (PassedOver kept fault by size ∷ parts) messages before some ends placed w = first_wanted G packets (n + 1) (offset + size) parts messages before ends.0 ends.1 placed w
+-- the messages of the first parts, and those of the others
+placed_split : (packets : Option Packets) (n offset : ℕ) (P more : List Part) (a : List Placed) → ArePlaced packets n offset (P ++ more) a
+    → (s t : List Placed) × (a ≡ s ++ t) × ArePlaced packets n offset P s × ((t ≡ []) → ArePlaced packets (n + length P) (offset + sizes_of P) more [])
+placed_split packets n offset [] more a p =
+    let number : n ≡ n + 0 = omega arith in
+    let place : offset ≡ offset + 0 = omega arith in
+    ([], a, refl, refl, λ none. transport (λ i. ArePlaced packets (number i) (place i) more (none i)) p)
+placed_split packets n offset (Whole item ∷ P) more [] p = absurd p
+placed_split packets n offset (Whole item ∷ P) more (m ∷ a) p =
+    let rest = placed_split packets (n + 1) (offset + item.size) P more a p.1 in
+    let number : n + 1 + length P ≡ n + suc (length P) = omega arith in
+    let place : offset + item.size + sizes_of P ≡ offset + (item.size + sizes_of P) = omega arith in
+    (m ∷ rest.0, rest.1, ap (λ l. m ∷ l) rest.2, (p.0, rest.3), λ none. transport (λ i. ArePlaced packets (number i) (place i) more []) (rest.4 none))
+placed_split packets n offset (PassedOver front fault by size ∷ P) more a p =
+    let rest = placed_split packets (n + 1) (offset + size) P more a p in
+    let number : n + 1 + length P ≡ n + suc (length P) = omega arith in
+    let place : offset + size + sizes_of P ≡ offset + (size + sizes_of P) = omega arith in
+    (rest.0, rest.1, rest.2, rest.3, λ none. transport (λ i. ArePlaced packets (number i) (place i) more []) (rest.4 none))
 
--- or if more is wanted after all
-still_wanted : (F : List Placed → Bool → Type 0) (messages before : List Placed) → AreWanted F before messages → F (before ++ messages) false → F before false
-still_wanted F [] before w unfilled = subst (λ (l : List Placed). F l false) (append-nil before) unfilled
-still_wanted F (m ∷ messages) before w unfilled = w.0
+-- the same parts have the same messages
+same_items : (packets others : Option Packets) (n offset : ℕ) (P : List Part) (a b : List Placed) → ArePlaced packets n offset P a → ArePlaced others n offset P b → items_of a ≡ items_of b
+same_items packets others n offset [] a b p q = ap items_of (p ∙ sym q)
+same_items packets others n offset (Whole item ∷ P) [] b p q = absurd p
+same_items packets others n offset (Whole item ∷ P) (m ∷ a) [] p q = absurd q
+same_items packets others n offset (Whole item ∷ P) (m ∷ a) (l ∷ b) p q =
+    let one : m.item ≡ l.item = p.0.item_is ∙ sym q.0.item_is in
+    let more = same_items packets others (n + 1) (offset + item.size) P a b p.1 q.1 in
+    λ i. one i ∷ more i
+same_items packets others n offset (PassedOver front fault by size ∷ P) a b p q = same_items packets others (n + 1) (offset + size) P a b p q
 
+-- parts that end with a message have one
+ends_some : (packets : Option Packets) (n offset : ℕ) (parts : List Part) → EndsWhole parts → ArePlaced packets n offset parts [] → parts ≡ []
+ends_some packets n offset [] ends p = refl
+ends_some packets n offset (Whole item ∷ parts) ends p = absurd p
+ends_some packets n offset (PassedOver front fault by size ∷ parts) ends p = absurd (ends.0 (ends_some packets (n + 1) (offset + size) parts ends.1 p))
+
+ends_after : (P more : List Part) → EndsWhole (P ++ more) → EndsWhole more
+ends_after [] more ends = ends
+ends_after (Whole item ∷ P) more ends = ends_after P more ends
+ends_after (PassedOver front fault by size ∷ P) more ends = ends_after P more ends.1
+
+-- more is wanted before each message, also before the first of the last ones, if there are some
+wanted_before : (F : List Placed → Bool → Type 0) (before s t : List Placed) → AreWanted F before (s ++ t) → F (before ++ s) false ⊎ (t ≡ [])
+wanted_before F before [] [] w = inr refl
+wanted_before F before [] (m ∷ t) w = inl (subst (λ (l : List Placed). F l false) (sym (append-nil before)) w.0)
+wanted_before F before (x ∷ s) t w = elim (wanted_before F (before ++ x ∷ []) s t w.1) [
+  | inl more ↦ inl (subst (λ (l : List Placed). F l false) (append_assoc before (x ∷ []) s) more)
+  | inr none ↦ inr none
+]
+
+module _ (F G : List Placed → Bool → Type 0) (one : (s t : List Placed) (x y : Bool) → items_of s ≡ items_of t → F s x → G t y → x ≡ y) where
+  -- if one wants no more after its messages, the other that has these first parts has no others
+  module _ (packets others : Option Packets) (P more : List Part) (a b : List Placed) (placed : ArePlaced packets 1 0 (P ++ more) a) (placed_too : ArePlaced others 1 0 P b) (wanted : AreWanted F [] a) (enough : G b true) where
+    abbrev parted : (s t : List Placed) × (a ≡ s ++ t) × ArePlaced packets 1 0 P s × ((t ≡ []) → ArePlaced packets (1 + length P) (0 + sizes_of P) more [])
+    parted = placed_split packets 1 0 P more a placed
+
+    not_more : F parted.0 false → ⊥
+    not_more unfilled = false≢true (one parted.0 b false true (same_items packets others 1 0 P parted.0 b parted.3 placed_too) unfilled enough)
+
+    no_others : parted.1 ≡ []
+    no_others = elim (wanted_before F [] parted.0 parted.1 (subst (λ (l : List Placed). AreWanted F [] l) parted.2 wanted)) [ inl more ↦ absurd (not_more more) | inr none ↦ none ]
+
+    pub still_wants : F a false → ⊥
+    still_wants unfilled = not_more (subst (λ (l : List Placed). F l false) (parted.2 ∙ (ap (λ (l : List Placed). parted.0 ++ l) no_others ∙ append-nil parted.0)) unfilled)
+
+    pub none_more : EndsWhole (P ++ more) → more ≡ []
+    none_more ends = ends_some packets (1 + length P) (0 + sizes_of P) more (ends_after P more ends) (parted.4 no_others)
+
+-- one ends since no more is wanted, and the other goes through
 module _ (limits : Limits) (F G : List Placed → Bool → Type 0) (one : (s t : List Placed) (x y : Bool) → items_of s ≡ items_of t → F s x → G t y → x ≡ y) where
-  none_left : (packets : Option Packets) (n offset : ℕ) (messages before : List Placed) (filled : Bool) → ArePlaced packets n offset [] messages → (H : List Placed → Bool → Type 0) → H (before ++ messages) filled → H before filled
-  none_left packets n offset messages before filled placed H h = subst (λ (l : List Placed). H l filled) (ap (λ (l : List Placed). before ++ l) placed ∙ append-nil before) h
-
-  -- one ends since no more is wanted, and the other goes through
-  pub not_through : (packets others : Option Packets) (cut : Option (Option ℕ)) (how : Settings) (n offset m at looked seen : ℕ) (bytes : List ℕ) (P Q : List Part) (rest last : List ℕ) (outcome : CutOutcome) (a b before also : List Placed) → items_of before ≡ items_of also
-      → BeginWithParts limits bytes P rest → BeginWithParts limits bytes Q last → ArePlaced packets n offset P a → ArePlaced others m at Q b → AreWanted F before a → AreWanted G also b
-      → EndsHere limits packets cut how (offset + sizes_of P) (looked_behind P offset looked) rest outcome → ArePassed packets limits how offset looked P → ArePassed others limits how at seen Q → F (before ++ a) false → G (also ++ b) true
-      → offset ≡ at → looked ≡ seen → AreSamePackets packets others ⊎ (((passed_count P ≡ 0) × (outcome ≡ Ended)) ⊎ (passed_count Q ≡ 0)) → ⊥
-  not_through packets others cut how n offset m at looked seen bytes [] [] rest last outcome a b before also e x y pa pb wa wb ends gone passed fa gb there alike known =
-      false≢true (one before also false true e (none_left packets n offset a before false pa F fa) (none_left others m at b also true pb G gb))
-  not_through packets others cut how n offset m at looked seen bytes [] (q ∷ Q) rest last outcome a b before also e x y pa pb wa wb ends gone passed fa gb there alike known =
-      let here : offset + 0 ≡ at = omega (arith, there) in
-      no_part limits packets others cut how at seen bytes outcome q Q (elim known [ inl same ↦ inl same | inr none ↦ inr (elim none [ inl unrefused ↦ inl unrefused.1 | inr zero ↦ inr zero ]) ])
-      (transport (λ i. EndsHere limits packets cut how (here i) (alike i) (sym x i) outcome) ends) y.0 passed
-  not_through packets others cut how n offset m at looked seen bytes (p ∷ P) [] rest last outcome a b before also e x y pa pb wa wb ends gone passed fa gb there alike known =
-      false≢true (one before also false true e (still_wanted F a before wa fa) (none_left others m at b also true pb G gb))
-  not_through packets others cut how n offset m at looked seen bytes (Whole p ∷ P) (Whole q ∷ Q) rest last outcome [] b before also e x y pa pb wa wb ends gone passed fa gb there alike known = absurd pa
-  not_through packets others cut how n offset m at looked seen bytes (Whole p ∷ P) (Whole q ∷ Q) rest last outcome (s ∷ a) [] before also e x y pa pb wa wb ends gone passed fa gb there alike known = absurd pb
-  not_through packets others cut how n offset m at looked seen bytes (Whole p ∷ P) (Whole q ∷ Q) rest last outcome (s ∷ a) (t ∷ b) before also e x y pa pb wa wb ends gone passed fa gb there alike known =
-      let w = one_whole limits bytes p.order q.order p.message q.message p.size q.size x.0 y.0 in
-      let same : p ≡ q = λ i. record { order = w.0 i; message = w.1 i; size = w.2 i } in
-      let begin = subst (λ k. BeginWithParts limits (drop k bytes) Q last) (sym w.2) y.1 in
-      let first : offset + (p.size + sizes_of P) ≡ offset + p.size + sizes_of P = omega arith in
-      not_through packets others cut how (n + 1) (offset + p.size) (m + 1) (at + q.size) looked seen (drop p.size bytes) P Q rest last outcome a b (before ++ s ∷ []) (also ++ t ∷ [])
-      (same_last before also s t e (pa.0.item_is ∙ (same ∙ sym pb.0.item_is))) x.1 begin pa.1 pb.1 wa.1 wb.1 (subst (λ n. EndsHere limits packets cut how n (looked_behind P (offset + p.size) looked) rest outcome) first ends) gone passed
-      (subst (λ (l : List Placed). F l false) (sym (append_assoc before (s ∷ []) a)) fa) (subst (λ (l : List Placed). G l true) (sym (append_assoc also (t ∷ []) b)) gb) (omega (arith, there, w.2)) alike known
-  not_through packets others cut how n offset m at looked seen bytes (Whole p ∷ P) (PassedOver k f c size ∷ Q) rest last outcome a b before also e x y pa pb wa wb ends gone passed fa gb there alike known =
-      no_whole_part limits bytes k f c size p y.0 x.0
-  not_through packets others cut how n offset m at looked seen bytes (PassedOver k f c size ∷ P) (Whole q ∷ Q) rest last outcome a b before also e x y pa pb wa wb ends gone passed fa gb there alike known =
-      no_whole_part limits bytes k f c size q x.0 y.0
-  not_through packets others cut how n offset m at looked seen bytes (PassedOver k f c size ∷ P) (PassedOver l g d long ∷ Q) rest last outcome a b before also e x y pa pb wa wb ends gone passed fa gb there alike known = elim known [
-    | inl equal ↦ (
-        let both = both_size limits packets others equal how offset at looked seen there alike bytes k l f g c d size long x.0 y.0 gone.1 passed.1 in
-        let same = both.0 in
-        let begin = subst (λ i. BeginWithParts limits (drop i bytes) Q last) (sym same) y.1 in
-        let first : offset + (size + sizes_of P) ≡ offset + size + sizes_of P = omega arith in
-        not_through packets others cut how (n + 1) (offset + size) (m + 1) (at + long) (looked_for c f.at offset looked) (looked_for d g.at at seen) (drop size bytes) P Q rest last outcome a b before also e x.1 begin pa pb wa wb
-        (subst (λ n. EndsHere limits packets cut how n (looked_behind P (offset + size) (looked_for c f.at offset looked)) rest outcome) first ends) gone.2 passed.2 fa gb (omega (arith, there, same)) both.1 (inl equal)
+  pub not_through : (packets others : Option Packets) (cut : Option (Option ℕ)) (how : Settings) (bytes : List ℕ) (P Q : List Part) (rest last : List ℕ) (outcome : CutOutcome) (a b : List Placed)
+      → AreSamePackets packets others ⊎ (((passed_count P ≡ 0) × (outcome ≡ Ended)) ⊎ (passed_count Q ≡ 0)) → BeginWithParts limits bytes P rest → BeginWithParts limits bytes Q last → ArePlaced packets 1 0 P a → ArePlaced others 1 0 Q b → AreWanted F [] a
+      → EndsHere limits packets cut how (0 + sizes_of P) (looked_behind P 0 0) rest outcome → ArePassed packets limits how 0 0 P → ArePassed others limits how 0 0 Q → F a false → G b true → ⊥
+  not_through packets others cut how bytes P Q rest last outcome a b known x y placed placed_too wanted ends gone passed unfilled enough = elim (along limits packets others how 0 0 bytes P Q rest last (elim known [ inl same ↦ inl same | inr none ↦ inr (elim none [ inl first ↦ inl first.0 | inr second ↦ inr second ]) ]) x y gone passed) [
+    | inl (more, is) ↦ (
+        let known_there : AreSamePackets packets others ⊎ ((outcome ≡ Ended) ⊎ (passed_count (P ++ more) ≡ 0)) = elim known [ inl same ↦ inl same | inr none ↦ inr (elim none [ inl first ↦ inl first.1 | inr second ↦ inr (ap passed_count (sym is) ∙ second) ]) ] in
+        let none = none_after limits packets others cut how 0 0 bytes P more rest last outcome known_there ends x (subst (λ l. BeginWithParts limits bytes l last) is y) (subst (λ l. ArePassed others limits how 0 0 l) is passed) in
+        let same : Q ≡ P = is ∙ (ap (λ l. P ++ l) none ∙ append-nil P) in
+        false≢true (one a b false true (same_items packets others 1 0 P a b placed (subst (λ l. ArePlaced others 1 0 l b) same placed_too)) unfilled enough)
         )
-    | inr none ↦ elim none [ inl zero ↦ (let no = zero.0 in omega (arith, no)) | inr zero ↦ omega (arith, zero) ]
+    | inr (more, is) ↦ still_wants F G one packets others Q more a b (subst (λ l. ArePlaced packets 1 0 l a) is placed) placed_too wanted enough unfilled
   ]
 
   -- both end since no more is wanted
-  pub same_far : (packets others : Option Packets) (how : Settings) (n offset m at looked seen : ℕ) (bytes : List ℕ) (P Q : List Part) (rest last : List ℕ) (a b before also : List Placed) → items_of before ≡ items_of also
-      → BeginWithParts limits bytes P rest → BeginWithParts limits bytes Q last → ArePlaced packets n offset P a → ArePlaced others m at Q b → AreWanted F before a → AreWanted G also b
-      → EndsWhole P → EndsWhole Q → ArePassed packets limits how offset looked P → ArePassed others limits how at seen Q → F (before ++ a) true → G (also ++ b) true
-      → offset ≡ at → looked ≡ seen → AreSamePackets packets others ⊎ (passed_count P ≡ 0) → AreSame P Q × (rest ≡ last)
-  same_far packets others how n offset m at looked seen bytes [] [] rest last a b before also e x y pa pb wa wb ends too gone passed fa gb there alike known = (refl, sym x ∙ y)
-  same_far packets others how n offset m at looked seen bytes [] (q ∷ Q) rest last a b before also e x y pa pb wa wb ends too gone passed fa gb there alike known =
-      absurd (false≢true (sym (one before also true false e (none_left packets n offset a before true pa F fa) (first_wanted G others m at (q ∷ Q) b also (λ none. absurd cc) too pb wb))))
-  same_far packets others how n offset m at looked seen bytes (p ∷ P) [] rest last a b before also e x y pa pb wa wb ends too gone passed fa gb there alike known =
-      absurd (false≢true (one before also false true e (first_wanted F packets n offset (p ∷ P) a before (λ none. absurd cc) ends pa wa) (none_left others m at b also true pb G gb)))
-  same_far packets others how n offset m at looked seen bytes (Whole p ∷ P) (Whole q ∷ Q) rest last [] b before also e x y pa pb wa wb ends too gone passed fa gb there alike known = absurd pa
-  same_far packets others how n offset m at looked seen bytes (Whole p ∷ P) (Whole q ∷ Q) rest last (s ∷ a) [] before also e x y pa pb wa wb ends too gone passed fa gb there alike known = absurd pb
-  same_far packets others how n offset m at looked seen bytes (Whole p ∷ P) (Whole q ∷ Q) rest last (s ∷ a) (t ∷ b) before also e x y pa pb wa wb ends too gone passed fa gb there alike known =
-      let w = one_whole limits bytes p.order q.order p.message q.message p.size q.size x.0 y.0 in
-      let same : p ≡ q = λ i. record { order = w.0 i; message = w.1 i; size = w.2 i } in
-      let begin = subst (λ k. BeginWithParts limits (drop k bytes) Q last) (sym w.2) y.1 in
-      let more = same_far packets others how (n + 1) (offset + p.size) (m + 1) (at + q.size) looked seen (drop p.size bytes) P Q rest last a b (before ++ s ∷ []) (also ++ t ∷ [])
-      (same_last before also s t e (pa.0.item_is ∙ (same ∙ sym pb.0.item_is))) x.1 begin pa.1 pb.1 wa.1 wb.1 ends too gone passed
-      (subst (λ (l : List Placed). F l true) (sym (append_assoc before (s ∷ []) a)) fa) (subst (λ (l : List Placed). G l true) (sym (append_assoc also (t ∷ []) b)) gb) (omega (arith, there, w.2)) alike known in
-      ((λ i. Whole (same i) ∷ more.0 i), more.1)
-  same_far packets others how n offset m at looked seen bytes (Whole p ∷ P) (PassedOver k f c size ∷ Q) rest last a b before also e x y pa pb wa wb ends too gone passed fa gb there alike known =
-      absurd (no_whole_part limits bytes k f c size p y.0 x.0)
-  same_far packets others how n offset m at looked seen bytes (PassedOver k f c size ∷ P) (Whole q ∷ Q) rest last a b before also e x y pa pb wa wb ends too gone passed fa gb there alike known =
-      absurd (no_whole_part limits bytes k f c size q x.0 y.0)
-  same_far packets others how n offset m at looked seen bytes (PassedOver k f c size ∷ P) (PassedOver l g d long ∷ Q) rest last a b before also e x y pa pb wa wb ends too gone passed fa gb there alike known = elim known [
-    | inl equal ↦ (
-        let fault : f ≡ g = part_fault limits bytes k l f g c d size long x.0 y.0 in
-        let both = both_size limits packets others equal how offset at looked seen there alike bytes k l f g c d size long x.0 y.0 gone.1 passed.1 in
-        let same = both.0 in
-        let begin = subst (λ i. BeginWithParts limits (drop i bytes) Q last) (sym same) y.1 in
-        let more = same_far packets others how (n + 1) (offset + size) (m + 1) (at + long) (looked_for c f.at offset looked) (looked_for d g.at at seen) (drop size bytes) P Q rest last a b before also e x.1 begin pa pb wa wb ends.1 too.1 gone.2 passed.2 fa gb (omega (arith, there, same)) both.1 (inl equal) in
-        ((λ i. PassedOver [] (fault i) Stated (same i) ∷ more.0 i), more.1)
+  pub same_far : (packets others : Option Packets) (how : Settings) (bytes : List ℕ) (P Q : List Part) (rest last : List ℕ) (a b : List Placed) → AreSamePackets packets others ⊎ (passed_count P ≡ 0)
+      → BeginWithParts limits bytes P rest → BeginWithParts limits bytes Q last → ArePlaced packets 1 0 P a → ArePlaced others 1 0 Q b → AreWanted F [] a → AreWanted G [] b
+      → EndsWhole P → EndsWhole Q → ArePassed packets limits how 0 0 P → ArePassed others limits how 0 0 Q → F a true → G b true → P ≡ Q
+  same_far packets others how bytes P Q rest last a b known x y placed placed_too wanted wanted_too ends ends_too gone passed enough enough_too = elim (along limits packets others how 0 0 bytes P Q rest last (elim known [ inl same ↦ inl same | inr zero ↦ inr (inl zero) ]) x y gone passed) [
+    | inl (more, is) ↦ (
+        let none = none_more G F (λ s t x y e p q. sym (one t s y x (sym e) q p)) others packets P more b a (subst (λ l. ArePlaced others 1 0 l b) is placed_too) placed wanted_too enough (subst EndsWhole is ends_too) in
+        sym (is ∙ (ap (λ l. P ++ l) none ∙ append-nil P))
         )
-    | inr none ↦ absurd (omega (arith, none))
+    | inr (more, is) ↦ (
+        let none = none_more F G one packets others Q more a b (subst (λ l. ArePlaced packets 1 0 l a) is placed) placed_too wanted enough_too (subst EndsWhole is ends) in
+        is ∙ (ap (λ l. Q ++ l) none ∙ append-nil Q)
+        )
   ]

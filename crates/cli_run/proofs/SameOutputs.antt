@@ -1,14 +1,16 @@
--- What is made and told of parts that are the same but for what was kept: the messages among them,
--- the tally, and what is told if nothing is explained; and of the messages the texts that commands
--- make that are the same, and exact.
+-- What is made and told of the same parts: the messages among them, and the texts; and of the messages
+-- the texts that commands make that are the same, and exact.
 use Rattle.std.proofs.Common.{◌≡◌, ◌↔◌, ◌⊎◌, if◌then◌else◌, codes, decimal, length, take, ℕ, zero, suc, ◌+◌, Bool, true, false, ◌||◌, ◌&&◌, List, [], ◌∷◌, ◌++◌, drop, map, None, Some, Option, is_some, refl, sym, ap, ◌∙◌, subst, arith, inl, inr}
-use Rattle.std.proofs.lemmas.List.{take_at}
+use Rattle.std.proofs.lemmas.Bool.{false≢true}
 use Rattle.std.specs.FinSet.{from_list}
 use Rattle.std.specs.declared.alloc.Global.{Global}
 use Rattle.dbus_count.specs.Counting.{names_of, with_names}
 use Rattle.dbus_count.specs.declared.count.Count.{Count}
 use Rattle.dbus_device.specs.Packets.{Packets}
-use Rattle.dbus_stream.specs.Cut.{CutMessage, CutOutcome, Refused}
+use Rattle.dbus_header.specs.MessageOutcomes.{IsRefused}
+use Rattle.dbus_header.specs.NoMessage.{IsFaultAtEnd}
+use Rattle.dbus_stream.specs.Cut.{CutMessage, CutOutcome, Ended, Unfinished, Refused, IsOutcome}
+use Rattle.dbus_stream.specs.CutEnds.{fault_at_end, truncated}
 use Rattle.dbus_value_model.specs.declared.fault.Fault.{Fault}
 use Rattle.dbus_value_model.specs.declared.order.Order.{Order}
 use Rattle.dbus_message_model.specs.Messages.{MessageTree, message_bytes}
@@ -31,7 +33,7 @@ use Rattle.cli_options.specs.declared.command.Command.TheVariants.{Show, Json, C
 use Rattle.cli_options.specs.declared.file_form.FileForm.{FileForm}
 use Rattle.cli_options.specs.declared.selection.Selection.{Selection}
 use Rattle.cli_options.specs.declared.settings.Settings.{Settings}
-use Rattle.cli_report.specs.Gathering.{IsPrefixTo}
+use Rattle.cli_report.specs.FaultFronts.{IsFaultFront}
 use Rattle.cli_report.specs.Telling.{Explains, line_of, packet_member}
 use Rattle.dbus_explain.specs.Explained.{IsExplained}
 use Rattle.dbus_explain.specs.Laws.{AreOfOne, HeaderHasNoDouble}
@@ -41,26 +43,22 @@ use Rattle.dbus_explain.proofs.OneText.{one_explanation, one_refusal}
 use Rattle.dbus_value_model.specs.FaultTexts.{reason_text}
 use Rattle.dbus_value_model.specs.declared.limits.Limits.{Limits}
 use Rattle.cli_report.specs.declared.telling.RefusedMessage.{RefusedMessage}
+use Rattle.cli_report.proofs.FaultFronts.{one_front, own_front}
 use Rattle.cli_report.specs.declared.ending.ExitStatus.TheVariants as status
 use Rattle.cli_run.specs.Learning.{known_after, matters, name_sender}
 use Rattle.cli_run.specs.ByName.{after_messages}
-use Rattle.cli_run.specs.Inputs.{ArePlaced, BeginWithParts, Part, PassedOver, Placed, Whole, looked_for}
+use Rattle.cli_run.specs.Inputs.{ArePlaced, BeginWithParts, By, IsFaultOf, IsPart, Part, PassedOver, Placed, Whole, looked_after, looked_for, size_of}
+use Rattle.cli_run.specs.Laws.{HaveNoDouble}
 use Rattle.cli_run.specs.Output.{AreAlike, IsExact, form_of, framed, is_framed, IsOutputOf, IsOutputOfAll, IsTextOf, Picks, is_check, owners_after, owners_known}
-use Rattle.cli_run.specs.Going.{AreTold, IsTold, IsToldIn, IsToldLast, ShowsNone, passed_count, status_at, tally_of}
-use Rattle.cli_run.specs.Shown.{AreOneEach, Shown, last_of, passed_of}
+use Rattle.cli_run.specs.Going.{AreTold, IsTold, IsToldIn, IsToldLast, IsToldOf, IsToldRefused, passed_count, status_at}
 use Rattle.cli_run.specs.declared.place.MessagePlace.{MessagePlace}
 use Rattle.cli_options.proofs.Selections.{same_bus_rules}
 use Rattle.cli_run.proofs.Outputs.{output_all_one}
+use Rattle.cli_run.proofs.PartLaws.{either_fault}
 use Rattle.cli_run.proofs.RuleSets.{same_some}
-use Rattle.cli_run.proofs.SameParts.{ArePassed, AreSame, IsKeptOf, bare, packet_by, part_packet}
+use Rattle.cli_run.proofs.SameParts.{ArePassed, one_packet}
 
 -- ---- parts
-
-pub bare_placed : (packets : Option Packets) (n offset : ℕ) (parts : List Part) (messages : List Placed) → ArePlaced packets n offset parts messages → ArePlaced packets n offset (bare parts) messages
-bare_placed packets n offset [] messages p = p
-bare_placed packets n offset (Whole item ∷ parts) [] p = absurd p
-bare_placed packets n offset (Whole item ∷ parts) (m ∷ messages) p = (p.0, bare_placed packets (n + 1) (offset + item.size) parts messages p.1)
-bare_placed packets n offset (PassedOver kept fault by size ∷ parts) messages p = bare_placed packets (n + 1) (offset + size) parts messages p
 
 -- if the packets are known, so are the times
 pub one_placed : (packets : Packets) (n offset : ℕ) (parts : List Part) (a b : List Placed) → ArePlaced (Some packets) n offset parts a → ArePlaced (Some packets) n offset parts b → a ≡ b
@@ -75,7 +73,7 @@ one_placed packets n offset (Whole item ∷ parts) (m ∷ a) (l ∷ b) p q =
     let same : m.item ≡ l.item = p.0.item_is ∙ sym q.0.item_is in
     let more = one_placed packets (n + 1) (offset + item.size) parts a b p.1 q.1 in
     λ i. record { place = record { number = number i; offset = there i; time = time i; in_packet = packet i }; item = same i } ∷ more i
-one_placed packets n offset (PassedOver kept fault by size ∷ parts) a b p q = one_placed packets (n + 1) (offset + size) parts a b p q
+one_placed packets n offset (PassedOver front fault by size ∷ parts) a b p q = one_placed packets (n + 1) (offset + size) parts a b p q
 
 -- the messages of the same parts count alike
 pub same_counts : (packets others : Option Packets) (n offset : ℕ) (parts : List Part) (a b : List Placed) (name : List ℕ) (c : Option Count) → ArePlaced packets n offset parts a → ArePlaced others n offset parts b
@@ -86,13 +84,7 @@ same_counts packets others n offset (Whole item ∷ parts) (m ∷ a) [] name c p
 same_counts packets others n offset (Whole item ∷ parts) (m ∷ a) (l ∷ b) name c p q =
     let same : m.item ≡ l.item = p.0.item_is ∙ sym q.0.item_is in
     same_counts packets others (n + 1) (offset + item.size) parts a b name _ p.1 q.1 ∙ ap (λ (x : CutMessage). after_messages b name (with_names (names_of x.message) x.size name c)) same
-same_counts packets others n offset (PassedOver kept fault by size ∷ parts) a b name c p q = same_counts packets others (n + 1) (offset + size) parts a b name c p q
-
-pub bare_tally : (parts : List Part) → tally_of parts ≡ tally_of (bare parts)
-bare_tally [] = refl
-bare_tally (Whole item ∷ parts) = λ i. let t = bare_tally parts i in record { count = suc t.count; size = item.size + t.size; passed = t.passed; passed_size = t.passed_size; is_cut = t.is_cut }
-bare_tally (PassedOver kept fault by size ∷ parts) =
-    λ i. let t = bare_tally parts i in record { count = suc t.count; size = size + t.size; passed = t.passed + 1; passed_size = t.passed_size + size; is_cut = t.is_cut }
+same_counts packets others n offset (PassedOver front fault by size ∷ parts) a b name c p q = same_counts packets others (n + 1) (offset + size) parts a b name c p q
 
 -- ---- what is told
 
@@ -100,104 +92,83 @@ bare_tally (PassedOver kept fault by size ∷ parts) =
 pub are_passed : (packets : Option Packets) (settings : Settings) (n offset looked : ℕ) (parts : List Part) (told : List ℕ) → AreTold packets settings n offset looked parts told → ArePassed packets settings.limits settings offset looked parts
 are_passed packets settings n offset looked [] told t = tt
 are_passed packets settings n offset looked (Whole item ∷ parts) told t = are_passed packets settings (n + 1) (offset + item.size) looked parts t.1 t.4
-are_passed packets settings n offset looked (PassedOver kept fault by size ∷ parts) told t = (t.3.0, t.3.1, are_passed packets settings (n + 1) (offset + size) (looked_for by fault.at offset looked) parts t.1 t.4)
+are_passed packets settings n offset looked (PassedOver front fault by size ∷ parts) told t = (t.3.0, t.3.1, are_passed packets settings (n + 1) (offset + size) (looked_for by fault.at offset looked) parts t.1 t.4)
 
--- of bytes of one input as many were kept
-prefix_one : (w kept also : List ℕ) → IsPrefixTo kept w → IsPrefixTo also w → length kept ≡ length also → kept ≡ also
-prefix_one w kept also x y same =
-    let n = length kept in
-    sym (take_at kept x.0 n refl) ∙ (ap (λ (l : List ℕ). take n l) (sym x.1 ∙ y.1) ∙ take_at also y.0 n (sym same))
+-- what is told of one message is one text
+module _ (limits : Limits) (refusal : RefusedMessage) (bytes x y : List ℕ) where
+  of_one : (Is : RefusedBytes → List ℕ → Type 0) (a b : List ℕ) (h : Explains Is limits refusal bytes a) (k : Explains Is limits refusal bytes b) → AreOfOne h.refused k.refused
+  of_one Is a b h k = record { bytes = one_front limits bytes h.refused.bytes.now k.refused.bytes.now h.bytes_are k.bytes_are; fault = h.fault_is ∙ sym k.fault_is; number = h.number_is ∙ sym k.number_is; offset = h.offset_is ∙ sym k.offset_is }
 
-kept_one : (limits : Limits) (w kept also : List ℕ) (outcome : CutOutcome) → IsKeptOf limits outcome kept w → IsKeptOf limits outcome also w → length kept ≡ length also → kept ≡ also
-kept_one limits w kept also (Refused fault) x y same = prefix_one w kept also x.0 y.0 same
-kept_one limits w kept also outcome x y same = x ∙ sym y
-
--- what is told of one message, of which as much was kept, is one text
-of_one : (refusal : RefusedMessage) (kept x y : List ℕ) (Is : RefusedBytes → List ℕ → Type 0) (h : Explains Is refusal kept x) (k : Explains Is refusal kept y) → AreOfOne h.refused k.refused
-of_one refusal kept x y Is h k = record { bytes = h.bytes_are ∙ sym k.bytes_are; fault = h.fault_is ∙ sym k.fault_is; number = h.number_is ∙ sym k.number_is; offset = h.offset_is ∙ sym k.offset_is }
-
-told_one : (as_json goes_on explains : Bool) (refusal : RefusedMessage) (kept x y : List ℕ) → (as_json ≡ true → HeaderHasNoDouble kept refusal.fault) → IsToldIn as_json goes_on explains refusal kept x → IsToldIn as_json goes_on explains refusal kept y → x ≡ y
-told_one true goes_on explains refusal kept x y none h k =
-    let of = of_one refusal kept h.members k.members AreMembersOf h.explains k.explains in
-    let none_there = transport (λ i. HeaderHasNoDouble (sym h.explains.bytes_are i) (sym h.explains.fault_is i)) (none refl) in
-    let members = one_refusal h.explains.refused k.explains.refused h.members k.members of none_there h.explains.explained k.explains.explained in
-    h.is ∙ ((λ i. codes "{\"refused\":\"" ++ (reason_text refusal.fault.reason ++ (codes "\",\"offset\":" ++ (decimal (refusal.offset + refusal.fault.at)
-    ++ (codes ",\"message\":" ++ (decimal refusal.number ++ (codes ",\"begins\":" ++ (decimal refusal.offset ++ (packet_member refusal.packet
-    ++ (codes "," ++ (members i ++ codes "}\n"))))))))))) ∙ sym k.is)
-told_one false goes_on false refusal kept x y none h k = h ∙ sym k
-told_one false goes_on true refusal kept x y none h k =
-    let explained = one_explanation h.1.refused k.1.refused h.0 k.0 (of_one refusal kept h.0 k.0 IsExplained h.1 k.1) h.1.explained k.1.explained in
-    h.2 ∙ (ap (λ (l : List ℕ). line_of goes_on refusal ++ l) explained ∙ sym k.2)
+  told_one : (as_json goes_on explains : Bool) → (as_json ≡ true → (front : List ℕ) → IsFaultFront limits bytes front → HeaderHasNoDouble front refusal.fault) → IsToldIn as_json goes_on explains limits refusal bytes x → IsToldIn as_json goes_on explains limits refusal bytes y → x ≡ y
+  told_one true goes_on explains none h k =
+      let there = subst (λ (f : Fault). HeaderHasNoDouble h.explains.refused.bytes.now f) (sym h.explains.fault_is) (none refl h.explains.refused.bytes.now h.explains.bytes_are) in
+      let members = one_refusal h.explains.refused k.explains.refused h.members k.members (of_one AreMembersOf h.members k.members h.explains k.explains) there h.explains.explained k.explains.explained in
+      h.is ∙ ((λ i. codes "{\"refused\":\"" ++ (reason_text refusal.fault.reason ++ (codes "\",\"offset\":" ++ (decimal (refusal.offset + refusal.fault.at)
+      ++ (codes ",\"message\":" ++ (decimal refusal.number ++ (codes ",\"begins\":" ++ (decimal refusal.offset ++ (packet_member refusal.packet
+      ++ (codes "," ++ (members i ++ codes "}\n"))))))))))) ∙ sym k.is)
+  told_one false goes_on false none h k = h ∙ sym k
+  told_one false goes_on true none h k =
+      let explained = one_explanation h.1.refused k.1.refused h.0 k.0 (of_one IsExplained h.0 k.0 h.1 k.1) h.1.explained k.1.explained in
+      h.2 ∙ (ap (λ (l : List ℕ). line_of goes_on refusal ++ l) explained ∙ sym k.2)
 
 module _ (settings : Settings) where
-  -- without JSON and explanations it is a line
-  module _ (off : ShowsNone settings) where
-    line_is : (refusal : RefusedMessage) (kept text : List ℕ) → IsTold settings refusal kept text → text ≡ line_of settings.keeps_going refusal
-    line_is refusal kept text t = transport (λ i. IsToldIn (off.0 i) settings.keeps_going (off.1 i) refusal kept text) t
-
-    -- of a message with one fault, whose packet is one
-    one_line : (n m offset at : ℕ) (fault other : Fault) (packet same : Option ℕ) (kept also a b : List ℕ) → n ≡ m → offset ≡ at → fault ≡ other → packet ≡ same
-        → IsTold settings (record { number = n; offset = offset; fault = fault; packet = packet }) kept a → IsTold settings (record { number = m; offset = at; fault = other; packet = same }) also b → a ≡ b
-    one_line n m offset at fault other packet same kept also a b number place one there p q =
-        line_is _ kept a p
-        ∙ ((λ i. line_of settings.keeps_going (record { number = number i; offset = place i; fault = one i; packet = there i })) ∙ sym (line_is _ also b q))
-
-  -- nothing is shown of them; or of each, one after another, as many bytes were kept
-  abbrev pub ShowAlike : List Shown → List Shown → Type 0
-  ShowAlike xs ys = ShowsNone settings ⊎ AreOneEach settings.as_json xs ys
-
-  show_first : (x y : Shown) (xs ys : List Shown) → ShowAlike (x ∷ xs) (y ∷ ys) → ShowAlike (x ∷ []) (y ∷ [])
-  show_first x y xs ys s = elim s [ inl off ↦ inl off | inr each ↦ inr (each.0, each.1, tt) ]
-
-  show_others : (x y : Shown) (xs ys : List Shown) → ShowAlike (x ∷ xs) (y ∷ ys) → ShowAlike xs ys
-  show_others x y xs ys s = elim s [ inl off ↦ inl off | inr each ↦ inr each.2 ]
-
-  -- what is told of a message with one fault, whose packet is one
-  one_text : (n m offset at : ℕ) (fault other : Fault) (packet same : Option ℕ) (kept also a b : List ℕ) → n ≡ m → offset ≡ at → fault ≡ other → packet ≡ same → (length kept ≡ length also → kept ≡ also)
-      → ShowAlike (record { kept = kept; fault = fault } ∷ []) (record { kept = also; fault = other } ∷ [])
-      → IsTold settings (record { number = n; offset = offset; fault = fault; packet = packet }) kept a → IsTold settings (record { number = m; offset = at; fault = other; packet = same }) also b → a ≡ b
-  one_text n m offset at fault other packet same kept also a b number place one there keeps shows p q = elim shows [
-    | inl off ↦ one_line off n m offset at fault other packet same kept also a b number place one there p q
-    | inr each ↦ (
-        let k = keeps each.0 in
-        told_one settings.as_json settings.keeps_going settings.explains (record { number = n; offset = offset; fault = fault; packet = packet }) kept a b each.1 p
-        (transport (λ i. IsTold settings (record { number = sym number i; offset = sym place i; fault = sym one i; packet = sym there i }) (sym k i) b) q)
-        )
-  ]
-
   module _ (all : Packets) where
-    -- parts of the same bytes are told alike
-    pub same_told : (n offset looked seen : ℕ) (bytes : List ℕ) (parts others : List Part) (rest last a b : List ℕ) → AreSame parts others → ShowAlike (passed_of parts) (passed_of others) → BeginWithParts settings.limits bytes parts rest
-        → BeginWithParts settings.limits bytes others last → AreTold (Some all) settings n offset looked parts a → AreTold (Some all) settings n offset seen others b → a ≡ b
-    same_told n offset looked seen bytes [] [] rest last a b same shows x y p q = p ∙ sym q
-    same_told n offset looked seen bytes [] (Whole item ∷ others) rest last a b same shows x y p q = absurd cc
-    same_told n offset looked seen bytes [] (PassedOver kept fault by size ∷ others) rest last a b same shows x y p q = absurd cc
-    same_told n offset looked seen bytes (Whole item ∷ parts) [] rest last a b same shows x y p q = absurd cc
-    same_told n offset looked seen bytes (PassedOver kept fault by size ∷ parts) [] rest last a b same shows x y p q = absurd cc
-    same_told n offset looked seen bytes (Whole item ∷ parts) (PassedOver kept fault by size ∷ others) rest last a b same shows x y p q = absurd cc
-    same_told n offset looked seen bytes (PassedOver kept fault by size ∷ parts) (Whole item ∷ others) rest last a b same shows x y p q = absurd cc
-    same_told n offset looked seen bytes (Whole item ∷ parts) (Whole other ∷ others) rest last a b same shows x y p q =
-        let one : item ≡ other = cc in
-        let more : AreSame parts others = cc in
-        let there = subst (λ (i : CutMessage). BeginWithParts settings.limits (drop i.size bytes) others last) (sym one) y.1 in
-        let told = subst (λ (i : CutMessage). AreTold (Some all) settings (n + 1) (offset + i.size) seen others q.1) (sym one) q.4 in
-        p.2 ∙ ((λ i. (p.3 ∙ sym q.3) i ++ same_told (n + 1) (offset + item.size) looked seen (drop item.size bytes) parts others rest last p.1 q.1 more shows x.1 there p.4 told i) ∙ sym q.2)
-    same_told n offset looked seen bytes (PassedOver kept fault by size ∷ parts) (PassedOver also other with wide ∷ others) rest last a b same shows x y p q =
-        let one : fault ≡ other = cc in
-        let long : size ≡ wide = cc in
-        let more : AreSame parts others = cc in
-        let there = subst (λ k. BeginWithParts settings.limits (drop k bytes) others last) (sym long) y.1 in
-        let told = subst (λ k. AreTold (Some all) settings (n + 1) (offset + k) (looked_for with other.at offset seen) others q.1) (sym long) q.4 in
-        let packet = part_packet settings.limits all offset bytes kept also fault other by with size wide p.3.2.0 q.3.2.0 x.0 y.0 p.3.2.1 q.3.2.1 in
-        let line : p.0 ≡ q.0 = one_text n n offset offset fault other p.3.2.0 q.3.2.0 kept also p.0 q.0 refl refl one packet (prefix_one bytes kept also x.0.0 y.0.0) (show_first (record { kept = kept; fault = fault }) (record { kept = also; fault = other }) (passed_of parts) (passed_of others) shows) p.3.2.2 q.3.2.2 in
-        p.2 ∙ ((λ i. line i ++ same_told (n + 1) (offset + size) (looked_for by fault.at offset looked) (looked_for with other.at offset seen) (drop size bytes) parts others rest last p.1 q.1 more (show_others (record { kept = kept; fault = fault }) (record { kept = also; fault = other }) (passed_of parts) (passed_of others) shows) x.1 there p.4 told i) ∙ sym q.2)
+    -- of one packet
+    same_refused : (n offset : ℕ) (bytes front : List ℕ) (fault : Fault) (a b : List ℕ) → IsFaultFront settings.limits bytes front → (settings.as_json ≡ true → (f : List ℕ) → IsFaultFront settings.limits bytes f → HeaderHasNoDouble f fault)
+        → IsToldRefused (Some all) settings n offset bytes fault a → IsToldRefused (Some all) settings n offset bytes fault b → a ≡ b
+    same_refused n offset bytes front fault a b is none p q =
+        let packet = one_packet settings.limits all offset bytes front p.0 q.0 is p.1 q.1 in
+        told_one settings.limits (record { number = n; offset = offset; fault = fault; packet = p.0 }) bytes a b settings.as_json settings.keeps_going settings.explains none p.2
+        (subst (λ (k : Option ℕ). IsTold settings (record { number = n; offset = offset; fault = fault; packet = k }) bytes b) (sym packet) q.2)
+
+    -- each header of what is refused is told by one text
+    abbrev pub TellsOneOf : (n offset looked : ℕ) → (bytes : List ℕ) → Type 0
+    TellsOneOf n offset looked bytes = (settings.as_json ≡ false) ⊎ HaveNoDouble (Some all) settings n offset looked bytes
+
+    no_double : (n offset looked : ℕ) (w : List ℕ) (fault : Fault) → TellsOneOf n offset looked w → IsFaultAtEnd settings.limits w fault → settings.as_json ≡ true → (f : List ℕ) → IsFaultFront settings.limits w f → HeaderHasNoDouble f fault
+    no_double n offset looked w fault one at json f is = elim one [ inl plain ↦ absurd (false≢true (sym plain ∙ json)) | inr none ↦ none [] [] w f fault refl refl at is ]
+
+    tells_next : (n offset looked : ℕ) (bytes : List ℕ) (part : Part) (one : List ℕ) → IsPart settings.limits bytes part → IsToldOf (Some all) settings n offset looked part one → TellsOneOf n offset looked bytes
+        → TellsOneOf (n + 1) (offset + size_of part) (looked_after part offset looked) (drop (size_of part) bytes)
+    tells_next n offset looked bytes part one is told tells = elim tells [
+      | inl plain ↦ inl plain
+      | inr none ↦ inr (λ parts more rest front fault begin are at there. none (part ∷ parts) (one ++ more) rest front fault (is, begin) (one, more, refl, told, are) at there)
+    ]
+
+    -- the fault of a part, at the end of the input or not
+    fault_there : (w : List ℕ) (fault : Fault) (by : By) → IsFaultOf settings.limits w fault by → IsFaultAtEnd settings.limits w fault
+    fault_there w fault by f = elim (either_fault settings.limits w fault by f) [ inl refused ↦ inl refused | inr cut ↦ inr (cut.1, cut.2) ]
+
+    -- parts of the same bytes are told by one text
+    pub same_told : (n offset looked : ℕ) (bytes : List ℕ) (parts : List Part) (rest a b : List ℕ) → TellsOneOf n offset looked bytes → BeginWithParts settings.limits bytes parts rest
+        → AreTold (Some all) settings n offset looked parts a → AreTold (Some all) settings n offset looked parts b → a ≡ b
+    same_told n offset looked bytes [] rest a b tells x p q = p ∙ sym q
+    same_told n offset looked bytes (part ∷ parts) rest a b tells x p q =
+        let more = same_told (n + 1) (offset + size_of part) (looked_after part offset looked) (drop (size_of part) bytes) parts rest p.1 q.1 (tells_next n offset looked bytes part p.0 x.0 p.3 tells) x.1 p.4 q.4 in
+        p.2 ∙ ((λ i. same_of part x.0 p.3 q.3 i ++ more i) ∙ sym q.2)
+      where
+        same_of : (r : Part) → IsPart settings.limits bytes r → IsToldOf (Some all) settings n offset looked r p.0 → IsToldOf (Some all) settings n offset looked r q.0 → p.0 ≡ q.0
+        same_of (Whole item) is s t = s ∙ sym t
+        same_of (PassedOver front fault by size) is s t =
+            same_refused n offset front front fault p.0 q.0 (own_front settings.limits bytes front is.0)
+            (λ json f own. subst (λ (l : List ℕ). HeaderHasNoDouble l fault) (one_front settings.limits front front f (own_front settings.limits bytes front is.0) own) (no_double n offset looked bytes fault tells (fault_there bytes fault by is.1) json front is.0))
+            s.2 t.2
 
     -- and the rest after them
-    pub same_last : (n offset : ℕ) (w kept also : List ℕ) (outcome : CutOutcome) (fault : Option Fault) (a b : List ℕ) → IsKeptOf settings.limits outcome kept w → IsKeptOf settings.limits outcome also w
-        → ShowAlike (last_of kept fault) (last_of also fault) → IsToldLast (Some all) settings n offset kept fault a → IsToldLast (Some all) settings n offset also fault b → a ≡ b
-    same_last n offset w kept also outcome None a b x y shows p q = p ∙ sym q
-    same_last n offset w kept also outcome (Some fault) a b x y shows p q =
-        one_text n n offset offset fault fault p.0 q.0 kept also a b refl refl refl (packet_by settings.limits all offset w kept also outcome p.0 q.0 x y p.1 q.1) (kept_one settings.limits w kept also outcome x y) shows p.2 q.2
+    tells_after : (n offset looked : ℕ) (bytes : List ℕ) (parts : List Part) (rest a : List ℕ) → TellsOneOf n offset looked bytes → BeginWithParts settings.limits bytes parts rest → AreTold (Some all) settings n offset looked parts a
+        → settings.as_json ≡ true → (f : List ℕ) (fault : Fault) → IsFaultAtEnd settings.limits rest fault → IsFaultFront settings.limits rest f → HeaderHasNoDouble f fault
+    tells_after n offset looked bytes parts rest a tells x p json f fault at is = elim tells [ inl plain ↦ absurd (false≢true (sym plain ∙ json)) | inr none ↦ none parts a rest f fault x p at is ]
+
+    pub same_last : (n offset looked m at : ℕ) (bytes : List ℕ) (parts : List Part) (rest front told : List ℕ) (fault : Option Fault) (outcome : CutOutcome) (a b : List ℕ) → TellsOneOf n offset looked bytes → BeginWithParts settings.limits bytes parts rest → AreTold (Some all) settings n offset looked parts told
+        → IsFaultFront settings.limits rest front → IsOutcome settings.limits rest outcome → fault ≡ fault_at_end rest outcome → IsToldLast (Some all) settings m at rest fault a → IsToldLast (Some all) settings m at rest fault b → a ≡ b
+    same_last n offset looked m at bytes parts rest front told None outcome a b tells x t is o e p q = p ∙ sym q
+    same_last n offset looked m at bytes parts rest front told (Some fault) outcome a b tells x t is o e p q =
+        same_refused m at rest front fault a b is (λ json f own. tells_after n offset looked bytes parts rest told tells x t json f fault (at_outcome outcome o e) own) p q
+      where
+        at_outcome : (out : CutOutcome) → IsOutcome settings.limits rest out → Some fault ≡ fault_at_end rest out → IsFaultAtEnd settings.limits rest fault
+        at_outcome Ended o e = absurd cc
+        at_outcome Unfinished o e = let same : fault ≡ truncated rest = cc in inr (o.1, same)
+        at_outcome (Refused other) o e = let same : other ≡ fault = cc in inl (subst (λ (f : Fault). IsRefused settings.limits rest f) same o)
 
   -- nothing is told where nothing is refused
   module _ (packets : Option Packets) where
@@ -206,8 +177,8 @@ module _ (settings : Settings) where
     none_told n offset looked (Whole x ∷ parts) a none p = p.2 ∙ (λ i. p.3 i ++ none_told (n + 1) (offset + x.size) looked parts p.1 none p.4 i)
     none_told n offset looked (PassedOver k f c m ∷ parts) a none p = absurd (omega (arith, none))
 
-    pub none_last : (n offset : ℕ) (kept : List ℕ) (fault : Option Fault) (a : List ℕ) → fault ≡ None → IsToldLast packets settings n offset kept fault a → a ≡ []
-    none_last n offset kept fault a none p = subst (λ (f : Option Fault). IsToldLast packets settings n offset kept f a) none p
+    pub none_last : (n offset : ℕ) (rest : List ℕ) (fault : Option Fault) (a : List ℕ) → fault ≡ None → IsToldLast packets settings n offset rest fault a → a ≡ []
+    none_last n offset rest fault a none p = subst (λ (f : Option Fault). IsToldLast packets settings n offset rest f a) none p
 
 pub none_refused : (passed : ℕ) (fault : Option Fault) → status_at passed fault ≡ status.Done → (passed ≡ 0) × (fault ≡ None)
 none_refused zero None e = (refl, refl)

@@ -1,216 +1,77 @@
--- An input has one list of parts, and one rest after them that ends a run; but what was kept of a
--- part that is passed over is as much as happened to be read.
-use Rattle.std.proofs.Common.{◌≡◌, ◌⊎◌, ℕ, ◌+◌, ◌-◌, ◌<◌, ◌≤◌, true, false, List, [], ◌∷◌, ◌++◌, Option, None, Some, length, drop, take, refl, sym, ap, ◌∙◌, subst, arith, append-nil, append_assoc, inl, inr, length-append}
+-- An input has one list of parts, and one rest after them that ends a run.
+use Rattle.std.proofs.Common.{◌≡◌, ◌⊎◌, ℕ, ◌+◌, ◌-◌, ◌<◌, ◌≤◌, Bool, true, false, List, [], ◌∷◌, ◌++◌, Option, None, Some, length, drop, take, refl, sym, ap, ◌∙◌, subst, arith, append-nil, inl, inr, length-append}
 use Rattle.std.proofs.Math.Path.{transport}
 use Rattle.std.proofs.lemmas.Bool.{cases_lt, false≢true}
-use Rattle.std.proofs.lemmas.List.{take_at, take-append-le, take-take}
 use Rattle.dbus_device.specs.Packets.{Packets}
-use Rattle.dbus_device.specs.declared.packet.Packet.{Packet}
 use Rattle.dbus_value_model.specs.ByteNumbers.{IsBytes}
-use Rattle.dbus_value_model.proofs.Numbers.{IsBytes-front}
 use Rattle.dbus_value_model.specs.declared.fault.Fault.{Fault}
 use Rattle.dbus_value_model.specs.declared.limits.Limits.{Limits}
 use Rattle.dbus_header.specs.MessageOutcomes.{IsWhole, IsRefused, IsPartial}
 use Rattle.dbus_header.proofs.OutcomeLaws.{not_both, nothing_partial, one_fault, one_outcome, one_whole, refused_for_good}
-use Rattle.dbus_stream.specs.Cut.{CutMessage, CutOutcome, Ended, Unfinished, Refused, IsOutcome}
 use Rattle.dbus_resync.specs.declared.found.Found.TheVariants.{At}
 use Rattle.dbus_resync.specs.declared.found.Searched.{Searched}
+use Rattle.dbus_stream.specs.Cut.{CutMessage, CutOutcome, Ended, Unfinished, Refused, IsOutcome}
 use Rattle.dbus_stream.specs.CutEnds.{fault_at_end, truncated}
+use Rattle.dbus_stream.specs.Lasting.{is_truncated}
 use Rattle.dbus_stream.specs.Next.{IsCutShort}
-use Rattle.dbus_stream.specs.Packed.{number_of as packed_number}
-use Rattle.dbus_stream.specs.Packets.{ShowsIn}
-use Rattle.dbus_stream.specs.PassingPackets.{AreOfNumber}
 use Rattle.dbus_stream.proofs.AheadSteps.{one_resumed}
-use Rattle.dbus_stream.proofs.FaultPackets.{partial_take, refused_later}
-use Rattle.dbus_stream.proofs.SizeSteps.{none_more, size_once, sizes_tell}
-use Rattle.cli_report.specs.Gathering.{IsPrefixTo}
-use Rattle.cli_run.specs.Going.{passed_count}
-use Rattle.cli_options.specs.declared.settings.Settings.{Settings}
-use Rattle.cli_run.specs.Inputs.{BeginNowhere, BeginWithParts, By, GoesPast, HasSize, InPacket, IsCutUnpassed, IsFaultOf, IsLast, IsPart, IsPassedBy, IsUnpassed, Part, PassedOver, PastWindow, ResumeIn, Resumed, Seek, SoughtIn, Stated, Unsought, WantsMoreBy, Whole, is_there, is_to_end, looked_behind, looked_for, seek_of, sizes_of}
-use Rattle.cli_run.proofs.PartLaws.{either_fault, none_begins, not_larger, nowhere_more}
-use Rattle.cli_run.specs.Refusals.{IsRefusedIn, number_of}
+use Rattle.dbus_stream.proofs.FaultPackets.{refused_later}
 use Rattle.dbus_stream.proofs.MessageEnds.{refused_reason}
-
--- parts but for what was kept
-abbrev pub bare : List Part → List Part
-bare [] = []
-bare (Whole item ∷ parts) = Whole item ∷ bare parts
-bare (PassedOver kept fault by n ∷ parts) = PassedOver [] fault Stated n ∷ bare parts
-
-abbrev pub AreSame : List Part → List Part → Type 0
-AreSame parts others = bare parts ≡ bare others
-
--- what was kept of the rest when it was found that nothing follows
-abbrev pub IsKeptOf : Limits → CutOutcome → (kept w : List ℕ) → Type 0
-IsKeptOf limits (Refused fault) kept w = IsPrefixTo kept w × IsRefused limits kept fault
-IsKeptOf limits outcome kept w = kept ≡ w
-
--- ---- one packet
-
--- its number
-same_number_of : (p : Option Packet) → number_of p ≡ packed_number p
-same_number_of None = refl
-same_number_of (Some packet) = refl
-
--- the packet of a byte that both have
-both_have : (all : Packets) (limits : Limits) (offset : ℕ) (kept also : List ℕ) (one other : Option Packet) (i : ℕ) → (s : ShowsIn all limits offset kept one) → (t : ShowsIn all limits offset also other)
-    → s.before ≤ i → i < length kept → t.before ≤ i → i < length also → one ≡ other
-both_have all limits offset kept also one other i s t from there after too = sym (s.in_packet i from there) ∙ t.in_packet i after too
-
--- the number of one packet, or of none
-same_number : (one other : Option Packet) (p q : Option ℕ) → p ≡ number_of one → q ≡ number_of other → one ≡ other → p ≡ q
-same_number one other p q is too same = is ∙ (ap number_of same ∙ sym too)
-
-module _ (limits : Limits) (all : Packets) (offset : ℕ) where
-  packet_of_both : (kept : List ℕ) (p q : Option ℕ) → IsRefusedIn (Some all) limits offset kept p → IsRefusedIn (Some all) limits offset kept q → p ≡ q
-  packet_of_both kept p q x y =
-      let first = x.1.some in
-      let second = y.1.some in
-      same_number x.0 y.0 p q x.2 y.2
-      (both_have all limits offset kept kept x.0 y.0 (length kept - 1) x.1 y.1 (omega (arith, first)) (omega (arith, first)) (omega (arith, second)) (omega (arith, first)))
-
-  -- of bytes that are refused the last one is not among the first of more that show no fault
-  last_later : (kept also w : List ℕ) (fault : Fault) (n : ℕ) → IsPrefixTo kept w → IsPrefixTo also w → length kept ≤ length also → IsRefused limits kept fault → IsPartial limits (take n also) → n < length kept
-  last_later kept also w fault n x y less refused unshown = elim (cases_lt n (length kept)) [
-    | inl before ↦ before
-    | inr after ↦ (
-        let m = length kept in
-        let front : kept ≡ take m also = sym (take_at kept x.0 m refl) ∙ (ap (take m) (sym x.1 ∙ y.1) ∙ take-append-le m also y.0 less) in
-        let both : take m (take n also) ≡ take m also = take-take m n also after in
-        let partial = subst (λ l. IsPartial limits l) (both ∙ sym front) (partial_take limits m (take n also) unshown) in
-        absurd ((one_outcome limits kept).2 fault refused partial)
-        )
-  ]
-
-  -- however much was kept of bytes that are refused, their fault is of one packet
-  pub one_packet : (w kept also : List ℕ) (fault other : Fault) (p q : Option ℕ) → IsPrefixTo kept w → IsPrefixTo also w → IsRefused limits kept fault → IsRefused limits also other
-      → IsRefusedIn (Some all) limits offset kept p → IsRefusedIn (Some all) limits offset also q → p ≡ q
-  one_packet w kept also fault other p q x y one too s t =
-      let first = s.1.some in
-      let second = t.1.some in
-      let same = same_number s.0 t.0 p q s.2 t.2 in
-      elim (cases_lt (length kept) (length also)) [
-        | inl less ↦ (
-            let le : length kept ≤ length also = omega (arith, less) in
-            let later = last_later kept also w fault t.1.before x y le one t.1.unshown in
-            same (both_have all limits offset kept also s.0 t.0 (length kept - 1) s.1 t.1 (omega (arith, first)) (omega (arith, first)) (omega (arith, later)) (omega (arith, first, less)))
-            )
-        | inr more ↦ (
-            let later = last_later also kept w other s.1.before y x more too s.1.unshown in
-            same (both_have all limits offset kept also s.0 t.0 (length also - 1) s.1 t.1 (omega (arith, later)) (omega (arith, second, more)) (omega (arith, second)) (omega (arith, second)))
-            )
-      ]
-
-  -- and so is that of the rest, if it has one
-  pub packet_by : (w kept also : List ℕ) (outcome : CutOutcome) (p q : Option ℕ) → IsKeptOf limits outcome kept w → IsKeptOf limits outcome also w → IsRefusedIn (Some all) limits offset kept p
-      → IsRefusedIn (Some all) limits offset also q → p ≡ q
-  packet_by w kept also (Refused fault) p q x y s t = one_packet w kept also fault fault p q x.0 y.0 x.1 y.1 s t
-  packet_by w kept also outcome p q x y s t = packet_of_both kept p q s (subst (λ (l : List ℕ). IsRefusedIn (Some all) limits offset l q) (y ∙ sym x) t)
+use Rattle.dbus_stream.proofs.SizeSteps.{none_more, size_once, sizes_tell}
+use Rattle.cli_options.specs.declared.settings.Settings.{Settings}
+use Rattle.cli_report.specs.FaultFronts.{IsFaultFront}
+use Rattle.cli_report.proofs.FaultFronts.{IsShut, one_front, own_front, some_front}
+use Rattle.cli_run.specs.Going.{passed_count}
+use Rattle.cli_run.specs.Inputs.{BeginNowhere, BeginWithParts, By, InPacket, IsCutOff, IsCutUnpassed, IsFaultOf, IsLast, IsPart, IsPassedBy, IsUnpassed, Part, PassedOver, PastWindow, ResumeIn, Resumed, Seek, SoughtIn, Stated, Unsought, WantsMoreBy, Whole, is_there, looked_after, looked_behind, seek_of, size_of, sizes_of}
+use Rattle.cli_run.specs.Refusals.{IsRefusedIn}
+use Rattle.cli_run.proofs.FrontSteps.{HaveSameFronts, fronts_more, refused_as}
+use Rattle.cli_run.proofs.PartLaws.{either_fault, none_begins, not_larger, nowhere_more, passed-both}
 
 -- if any is passed over, the run goes on, and so many bytes are passed over as are due
 abbrev pub ArePassed : Option Packets → Limits → Settings → (offset looked : ℕ) → List Part → Type 0
 ArePassed packets limits how offset looked [] = Unit {0}
 ArePassed packets limits how offset looked (Whole item ∷ parts) = ArePassed packets limits how (offset + item.size) looked parts
-ArePassed packets limits how offset looked (PassedOver kept fault by n ∷ parts) =
-    (how.keeps_going ≡ true) × IsPassedBy packets (seek_of how.resync offset (looked + fault.at)) limits offset kept by n × ArePassed packets limits how (offset + n) (looked_for by fault.at offset looked) parts
+ArePassed packets limits how offset looked (PassedOver front fault by n ∷ parts) =
+    (how.keeps_going ≡ true) × IsPassedBy packets (seek_of how.resync offset (looked + fault.at)) limits offset front by n × ArePassed packets limits how (offset + n) (looked_after (PassedOver front fault by n) offset looked) parts
+
+pub passed_rest : (packets : Option Packets) (limits : Limits) (how : Settings) (offset looked : ℕ) (part : Part) (parts : List Part) → ArePassed packets limits how offset looked (part ∷ parts) → ArePassed packets limits how (offset + size_of part) (looked_after part offset looked) parts
+passed_rest packets limits how offset looked (Whole item) parts p = p
+passed_rest packets limits how offset looked (PassedOver front fault by n) parts p = p.2
 
 -- both inputs are of the same packets
 abbrev pub AreSamePackets : Option Packets → Option Packets → Type 0
 AreSamePackets packets others = (all : Packets) × (packets ≡ Some all) × (others ≡ Some all)
 
--- ---- one fault
-
 module _ (limits : Limits) where
-  pub refused_from : (kept w : List ℕ) (fault : Fault) → IsPrefixTo kept w → IsRefused limits kept fault → IsRefused limits w fault
-  refused_from kept w fault p r = subst (λ l. IsRefused limits l fault) (sym p.1) (refused_for_good limits kept p.0 fault r)
-
-  -- the same, and that it was looked at to the end
-  fault_end : (w kept : List ℕ) (fault : Fault) (by : By) → IsFaultOf limits kept w fault by → IsRefused limits kept fault ⊎ ((is_to_end by ≡ true) × ((kept ≡ w) × IsCutShort limits kept fault))
-  fault_end w kept fault Stated f = inl f
-  fault_end w kept fault (InPacket number) f = inl f
-  fault_end w kept fault (Resumed window effort looked false) f = inl f
-  fault_end w kept fault (Resumed window effort looked true) f = elim f [ inl refused ↦ inl refused | inr cut ↦ inr (refl, cut) ]
-  fault_end w kept fault (PastWindow window effort looked) f = inl f
+  -- ---- one fault
 
   -- what is refused is not what the input ends within
-  not_cut : (w kept also : List ℕ) (fault other : Fault) → IsPrefixTo kept w → IsRefused limits kept fault → (also ≡ w) × IsCutShort limits also other → ⊥
-  not_cut w kept also fault other front refused cut = (one_outcome limits w).2 fault (refused_from kept w fault front refused) (subst (λ (l : List ℕ). IsPartial limits l) cut.0 cut.1.1)
+  not_cut : (w : List ℕ) (fault other : Fault) → IsRefused limits w fault → IsCutShort limits w other → ⊥
+  not_cut w fault other refused cut = (one_outcome limits w).2 fault refused cut.1
 
-  pub part_fault : (w kept also : List ℕ) (fault other : Fault) (by from : By) (n m : ℕ) → IsPart limits w (PassedOver kept fault by n) → IsPart limits w (PassedOver also other from m) → fault ≡ other
-  part_fault w kept also fault other by from n m x y = elim (either_fault limits w kept fault by x.1) [
-    | inl refused ↦ elim (either_fault limits w also other from y.1) [
-      | inl too ↦ one_fault limits w fault other (refused_from kept w fault x.0 refused) (refused_from also w other y.0 too)
-      | inr cut ↦ absurd (not_cut w kept also fault other x.0 refused cut)
+  part_fault : (w : List ℕ) (fault other : Fault) (by from : By) → IsFaultOf limits w fault by → IsFaultOf limits w other from → fault ≡ other
+  part_fault w fault other by from x y = elim (either_fault limits w fault by x) [
+    | inl refused ↦ elim (either_fault limits w other from y) [
+      | inl too ↦ one_fault limits w fault other refused too
+      | inr cut ↦ absurd (not_cut w fault other refused cut)
     ]
-    | inr cut ↦ elim (either_fault limits w also other from y.1) [
-      | inl too ↦ absurd (not_cut w also kept other fault y.0 too cut)
-      | inr cut_too ↦ cut.1.2 ∙ (ap truncated (cut.0 ∙ sym cut_too.0) ∙ sym cut_too.1.2)
-    ]
-  ]
-
-  -- and their faults are of one packet
-  pub part_packet : (all : Packets) (offset : ℕ) (w kept also : List ℕ) (fault other : Fault) (by from : By) (n m : ℕ) (p q : Option ℕ) → IsPart limits w (PassedOver kept fault by n) → IsPart limits w (PassedOver also other from m)
-      → IsRefusedIn (Some all) limits offset kept p → IsRefusedIn (Some all) limits offset also q → p ≡ q
-  part_packet all offset w kept also fault other by from n m p q x y s t = elim (either_fault limits w kept fault by x.1) [
-    | inl refused ↦ elim (either_fault limits w also other from y.1) [
-      | inl too ↦ one_packet limits all offset w kept also fault other p q x.0 y.0 refused too s t
-      | inr cut ↦ absurd (not_cut w kept also fault other x.0 refused cut)
-    ]
-    | inr cut ↦ elim (either_fault limits w also other from y.1) [
-      | inl too ↦ absurd (not_cut w also kept other fault y.0 too cut)
-      | inr cut_too ↦ packet_of_both limits all offset kept p q s (subst (λ (l : List ℕ). IsRefusedIn (Some all) limits offset l q) (cut_too.0 ∙ sym cut.0) t)
+    | inr cut ↦ elim (either_fault limits w other from y) [
+      | inl too ↦ absurd (not_cut w other fault too cut)
+      | inr cut_too ↦ cut.2 ∙ sym cut_too.2
     ]
   ]
 
-  pub no_whole_part : (w kept : List ℕ) (fault : Fault) (by : By) (n : ℕ) (item : CutMessage) → IsPart limits w (PassedOver kept fault by n) → IsWhole limits w item.order item.message item.size → ⊥
-  no_whole_part w kept fault by n item p whole = none_begins limits w kept fault by p.0 p.1 item.order item.message item.size whole
+  pub no_whole_part : (w front : List ℕ) (fault : Fault) (by : By) (n : ℕ) (item : CutMessage) → IsPart limits w (PassedOver front fault by n) → IsWhole limits w item.order item.message item.size → ⊥
+  no_whole_part w front fault by n item p whole = none_begins limits w fault by p.1 item.order item.message item.size whole
 
--- ---- the bytes that are passed over
+  -- of one packet, by the same bytes or by those of them that show the fault
+  pub one_packet : (all : Packets) (offset : ℕ) (w front : List ℕ) (p q : Option ℕ) → IsFaultFront limits w front → IsRefusedIn (Some all) limits offset w p → IsRefusedIn (Some all) limits offset w q → p ≡ q
+  one_packet all offset w front p q is x y = x front is ∙ sym (y front is)
 
--- a message at the end is not passed over; or goes on to the end of the input
-abbrev pub IsStuck : Limits → Seek → (offset : ℕ) → Option Packets → (cut : Option (Option ℕ)) → (kept w : List ℕ) → Type 0
-IsStuck limits seek offset packets None kept w = IsUnpassed packets seek limits offset kept w (Unit {0})
-IsStuck limits seek offset packets (Some by) kept w = GoesPast packets seek limits offset kept w by × IsRefusedIn packets limits offset kept by
+  packet_of : (all : Packets) (offset : ℕ) (w front : List ℕ) (p q : Option ℕ) → IsFaultFront limits w front → IsRefusedIn (Some all) limits offset w p → IsRefusedIn (Some all) limits offset front q → p ≡ q
+  packet_of all offset w front p q is x y = x front is ∙ sym (y front (own_front limits w front is))
 
--- what counts as looked at behind two is the same
-abbrev pub CountAlike : (by from : By) → Type 0
-CountAlike by from = (at offset looked : ℕ) → looked_for by at offset looked ≡ looked_for from at offset looked
-
-module _ (limits : Limits) (all : Packets) (seek : Seek) (offset : ℕ) where
-  -- if the bytes after those that were kept are of the packet of the fault, so are those before
-  -- them, from the fault on, however many others kept
-  in_packet_from : (w kept also : List ℕ) (fault other : Fault) (number end i : ℕ) → IsPrefixTo kept w → IsPrefixTo also w → IsRefused limits kept fault → IsRefused limits also other
-      → IsRefusedIn (Some all) limits offset kept (Some number) → AreOfNumber all number (offset + length kept) (offset + end) → length also ≤ i → i < end → packed_number (all (offset + i)) ≡ Some number
-  in_packet_from w kept also fault other number end i x y one too s are from before = elim (cases_lt i (length kept)) [
-    | inl inside ↦ (
-        let later = last_later limits all offset also kept w other s.1.before y x (omega (arith, from, inside)) too s.1.unshown in
-        ap packed_number (s.1.in_packet i (omega (arith, later, from)) inside) ∙ (sym (same_number_of s.0) ∙ sym s.2)
-        )
-    | inr after ↦ are (offset + i) (omega (arith, after)) (omega (arith, before))
-  ]
-
-  -- no two sizes
-  size_below : (w kept also : List ℕ) (fault other : Fault) (number n m : ℕ) → IsPrefixTo kept w → IsPrefixTo also w → IsRefused limits kept fault → IsRefused limits also other
-      → IsPassedBy (Some all) seek limits offset kept (InPacket number) m → IsPassedBy (Some all) seek limits offset also (InPacket number) n → length also ≤ n → n < m → ⊥
-  size_below w kept also fault other number n m x y one too p q from less = q.2 (in_packet_from w kept also fault other number m n x y one too p.0 p.1 from less)
-
-  one_in_packet : (w kept also : List ℕ) (fault other : Fault) (number n m : ℕ) → IsPart limits w (PassedOver kept fault (InPacket number) n) → IsPart limits w (PassedOver also other (InPacket number) m)
-      → IsPassedBy (Some all) seek limits offset kept (InPacket number) n → IsPassedBy (Some all) seek limits offset also (InPacket number) m → n ≡ m
-  one_in_packet w kept also fault other number n m x y p q = elim (cases_lt n m) [
-    | inl less ↦ absurd (size_below w also kept other fault number n m y.0 x.0 y.1 x.1 q p x.2.0 less)
-    | inr more ↦ elim (cases_lt m n) [
-      | inl less ↦ absurd (size_below w kept also fault other number m n x.0 y.0 x.1 y.1 p q y.2.0 less)
-      | inr same ↦ omega (arith, more, same)
-    ]
-  ]
-
-  -- a fault that is of a packet is not one of none
-  other_packet : (w kept also : List ℕ) (fault other : Fault) (number : ℕ) → IsPrefixTo kept w → IsPrefixTo also w → IsRefused limits kept fault → IsRefused limits also other ⊎ ((also ≡ w) × IsCutShort limits also other)
-      → IsRefusedIn (Some all) limits offset kept (Some number) → IsRefusedIn (Some all) limits offset also None → ⊥
-  other_packet w kept also fault other number x y one too s t = elim too [
-    | inl refused ↦ (let same : Some number ≡ None = one_packet limits all offset w kept also fault other (Some number) None x y one refused s t in cc)
-    | inr cut ↦ not_cut limits w kept also fault other x one cut
-  ]
+  -- ---- one part
 
   -- messages begin again in one place, and as much is looked at
   one_resume : (window effort : ℕ) (w : List ℕ) (s t : Searched) → ResumeIn limits window effort w s → ResumeIn limits window effort w t → s ≡ t
@@ -219,133 +80,142 @@ module _ (limits : Limits) (all : Packets) (seek : Seek) (offset : ℕ) where
   abbrev there : (n looked : ℕ) → Searched
   there n looked = record { found = At n; looked = looked }
 
-  -- where they begin again nowhere, they do not begin again
-  not_nowhere : (window effort looked : ℕ) (w : List ℕ) (n : ℕ) → BeginNowhere limits window effort w (Unit {0}) → ResumeIn limits window effort w (there n looked) → ⊥
-  not_nowhere window effort looked w n none r =
-      let same : none.searched ≡ there n looked = one_resume window effort w none.searched (there n looked) none.resumes r in
-      false≢true (sym none.nowhere ∙ ap (λ (s : Searched). is_there s.found) same)
-
   -- one window, and one effort
-  same_seek : (window effort wide more : ℕ) → seek ≡ SoughtIn window effort → seek ≡ SoughtIn wide more → (wide ≡ window) × (more ≡ effort)
-  same_seek window effort wide more p q =
+  same_seek : (seek : Seek) (window effort wide more : ℕ) → seek ≡ SoughtIn window effort → seek ≡ SoughtIn wide more → (wide ≡ window) × (more ≡ effort)
+  same_seek seek window effort wide more p q =
       let both : SoughtIn window effort ≡ SoughtIn wide more = sym p ∙ q in
       let one : wide ≡ window = cc in
       let two : more ≡ effort = cc in
       (one, two)
 
-  not_both_ways : (w : List ℕ) (window effort looked wide more n : ℕ) → seek ≡ SoughtIn window effort → seek ≡ SoughtIn wide more → ResumeIn limits window effort w (there n looked) → BeginNowhere limits wide more w (Unit {0}) → ⊥
-  not_both_ways w window effort looked wide more n p q r none =
-      let same = same_seek window effort wide more p q in
-      not_nowhere window effort looked w n (transport (λ i. BeginNowhere limits (same.0 i) (same.1 i) w (Unit {0})) none) r
+  -- where they begin again nowhere, they do not begin again
+  not_nowhere : (seek : Seek) (window effort looked wide more n : ℕ) (w : List ℕ) → seek ≡ SoughtIn window effort → seek ≡ SoughtIn wide more → ResumeIn limits window effort w (there n looked) → BeginNowhere limits wide more w (Unit {0}) → ⊥
+  not_nowhere seek window effort looked wide more n w p q r none =
+      let same = same_seek seek window effort wide more p q in
+      let here = transport (λ i. BeginNowhere limits (same.0 i) (same.1 i) w (Unit {0})) none in
+      let found : here.searched ≡ there n looked = one_resume window effort w here.searched (there n looked) here.resumes r in
+      false≢true (sym here.nowhere ∙ ap (λ (s : Searched). is_there s.found) found)
 
-  -- two that are passed over have one size, and as many bytes count as looked at behind them
-  pub same_size : (w kept also : List ℕ) (fault other : Fault) (by from : By) (n m : ℕ) → IsPart limits w (PassedOver kept fault by n) → IsPart limits w (PassedOver also other from m)
-      → IsPassedBy (Some all) seek limits offset kept by n → IsPassedBy (Some all) seek limits offset also from m → (n ≡ m) × CountAlike by from
-  same_size w kept also fault other Stated Stated n m x y p q = (size_once limits w m n y.2.0 x.2.0, λ at offset looked. refl)
-  same_size w kept also fault other Stated (InPacket number) n m x y p q = absurd (other_packet w also kept other fault number y.0 x.0 y.1 (inl x.1) q.0 p.1)
-  same_size w kept also fault other Stated (Resumed window effort looked to_end) n m x y p q = absurd (let both = sym p.0 ∙ q.0 in cc)
-  same_size w kept also fault other Stated (PastWindow window effort looked) n m x y p q = absurd (let both = sym p.0 ∙ q.0 in cc)
-  same_size w kept also fault other (InPacket number) Stated n m x y p q = absurd (other_packet w kept also fault other number x.0 y.0 x.1 (inl y.1) p.0 q.1)
-  same_size w kept also fault other (InPacket number) (InPacket second) n m x y p q =
-      let both : Some number ≡ Some second = one_packet limits all offset w kept also fault other (Some number) (Some second) x.0 y.0 x.1 y.1 p.0 q.0 in
-      let same : second ≡ number = cc in (
-        one_in_packet w kept also fault other number n m x (subst (λ k. IsPart limits w (PassedOver also other (InPacket k) m)) same y) p (subst (λ k. IsPassedBy (Some all) seek limits offset also (InPacket k) m) same q),
-        λ at offset looked. refl,
-      )
-  same_size w kept also fault other (InPacket number) (Resumed window effort looked to_end) n m x y p q =
-      absurd (other_packet w kept also fault other number x.0 y.0 x.1 (either_fault limits w also other (Resumed window effort looked to_end) y.1) p.0 q.1)
-  same_size w kept also fault other (InPacket number) (PastWindow window effort looked) n m x y p q = absurd (other_packet w kept also fault other number x.0 y.0 x.1 (inl y.1) p.0 q.1)
-  same_size w kept also fault other (Resumed window effort looked to_end) Stated n m x y p q = absurd (let both = sym p.0 ∙ q.0 in cc)
-  same_size w kept also fault other (Resumed window effort looked to_end) (InPacket number) n m x y p q =
-      absurd (other_packet w also kept other fault number y.0 x.0 y.1 (either_fault limits w kept fault (Resumed window effort looked to_end) x.1) q.0 p.1)
-  same_size w kept also fault other (Resumed window effort looked to_end) (Resumed wide more seen end) n m x y p q =
-      let same = same_seek window effort wide more p.0 q.0 in
-      let one : there n looked ≡ there m seen = one_resume window effort w (there n looked) (there m seen) x.2.0 (transport (λ i. ResumeIn limits (same.0 i) (same.1 i) w (there m seen)) y.2.0) in
-      let place : At n ≡ At m = ap (λ (s : Searched). s.found) one in
-      let count : looked ≡ seen = ap (λ (s : Searched). s.looked) one in
-      let size : n ≡ m = cc in
-      (size, λ at offset before i. looked_for (Resumed (sym same.0 i) effort (count i) to_end) at offset before)
-  same_size w kept also fault other (Resumed window effort looked to_end) (PastWindow wide more seen) n m x y p q = absurd (not_both_ways w window effort looked wide more n p.0 q.0 x.2.0 y.2.0)
-  same_size w kept also fault other (PastWindow window effort looked) Stated n m x y p q = absurd (let both = sym p.0 ∙ q.0 in cc)
-  same_size w kept also fault other (PastWindow window effort looked) (InPacket number) n m x y p q = absurd (other_packet w also kept other fault number y.0 x.0 y.1 (inl x.1) q.0 p.1)
-  same_size w kept also fault other (PastWindow window effort looked) (Resumed wide more seen to_end) n m x y p q = absurd (not_both_ways w wide more seen window effort m q.0 p.0 y.2.0 x.2.0)
-  same_size w kept also fault other (PastWindow window effort looked) (PastWindow wide more seen) n m x y p q =
-      let same = same_seek window effort wide more p.0 q.0 in
-      let one : x.2.0.searched ≡ y.2.0.searched = one_resume window effort w x.2.0.searched y.2.0.searched x.2.0.resumes (transport (λ i. ResumeIn limits (same.0 i) (same.1 i) w y.2.0.searched) y.2.0.resumes) in
-      let count : looked ≡ seen = sym x.2.1 ∙ (ap (λ (s : Searched). s.looked) one ∙ y.2.1) in
-      (size_once limits w m n y.2.2 x.2.2, λ at offset before i. looked_for (PastWindow (sym same.0 i) effort (count i)) at offset before)
+  -- the input ends in the window, or does not
+  same_end : (w : List ℕ) (fault : Fault) (window effort looked : ℕ) (a b : Bool) → IsFaultOf limits w fault (Resumed window effort looked a) → IsFaultOf limits w fault (Resumed window effort looked b)
+      → (a ≡ false → window ≤ length w) → (b ≡ false → window ≤ length w) → a ≡ b
+  same_end w fault window effort looked true true f g wide also = refl
+  same_end w fault window effort looked false false f g wide also = refl
+  same_end w fault window effort looked true false f g wide also = absurd (elim f [ inl short ↦ omega (arith, short.1, also refl) | inr cut ↦ not_cut w fault fault g cut ])
+  same_end w fault window effort looked false true f g wide also = absurd (elim g [ inl short ↦ omega (arith, short.1, wide refl) | inr cut ↦ not_cut w fault fault f cut ])
 
-  -- nor does one end that goes on to the end of the input
-  not_past : (w kept also : List ℕ) (fault other : Fault) (number n : ℕ) → IsPrefixTo kept w → IsPrefixTo also w → IsRefused limits kept fault → IsRefused limits also other
-      → IsRefusedIn (Some all) limits offset kept (Some number) → GoesPast (Some all) seek limits offset kept w (Some number) → IsPassedBy (Some all) seek limits offset also (InPacket number) n → HasSize limits also w (InPacket number) n → ⊥
-  not_past w kept also fault other number n x y one too s past p h = p.2 (in_packet_from w kept also fault other number (length w) n x y one too s past h.0 h.1)
+  module _ (all : Packets) (seek : Seek) (offset : ℕ) (w front : List ℕ) (fault : Fault) where
+    abbrev IsOver : By → ℕ → Type 0
+    IsOver by n = IsPart limits w (PassedOver front fault by n) × IsPassedBy (Some all) seek limits offset front by n
 
-  -- one that states no size does not go on to the end of the input by that
-  not_stuck : (w kept also : List ℕ) (fault : Fault) (by : Option ℕ) → IsPrefixTo kept w → IsPrefixTo also w → IsRefused limits kept fault → IsRefused limits also fault → IsStuck limits seek offset (Some all) (Some by) kept w → IsStuck limits seek offset (Some all) None also w → ⊥
-  not_stuck w kept also fault by x y one too s t = by_seek seek refl t
-    where
-      past : (also_in : IsRefusedIn (Some all) limits offset also None) → WantsMoreBy seek limits w
-      past also_in =
-          let same : by ≡ None = one_packet limits all offset w kept also fault fault by None x y one too s.1 also_in in
-          subst (λ b. GoesPast (Some all) seek limits offset kept w b) same s.0
+    abbrev AreOne : (by from : By) (n m : ℕ) → Type 0
+    AreOne by from n m = PassedOver front fault by n ≡ PassedOver front fault from m
 
-      by_seek : (r : Seek) → seek ≡ r → IsUnpassed (Some all) r limits offset also w (Unit {0}) → ⊥
-      by_seek Unsought is t = (sizes_tell limits w).0 t.1 (subst (λ (r : Seek). WantsMoreBy r limits w) is (past t.0))
-      by_seek (SoughtIn window effort) is t = t.2 (subst (λ (r : Seek). WantsMoreBy r limits w) is (past t.0)).1
+    of_both : (p q : Option ℕ) → IsFaultFront limits w front → IsRefusedIn (Some all) limits offset front p → IsRefusedIn (Some all) limits offset front q → p ≡ q
+    of_both p q is x y = one_packet all offset front front p q (own_front limits w front is) x y
 
-  -- a message that is refused, and ends a run, is not passed over
-  stuck_part : (cut : Option (Option ℕ)) (w kept also : List ℕ) (fault other : Fault) (by : By) (n : ℕ) → IsPrefixTo kept w → IsRefused limits kept fault → IsRefused limits also other → IsStuck limits seek offset (Some all) cut kept w
-      → IsPassedBy (Some all) seek limits offset also by n → IsPart limits w (PassedOver also other by n) → ⊥
-  stuck_part None w kept also fault other Stated n x one too s p h =
-      let t = subst (λ (r : Seek). IsUnpassed (Some all) r limits offset kept w (Unit {0})) p.0 s in
-      ((sizes_tell limits w).1 n h.2.0).0 t.1
-  stuck_part None w kept also fault other (Resumed window effort looked to_end) n x one too s p h =
-      let t = subst (λ (r : Seek). IsUnpassed (Some all) r limits offset kept w (Unit {0})) p.0 s in
-      not_nowhere window effort looked w n t.1 h.2.0
-  stuck_part None w kept also fault other (PastWindow window effort looked) n x one too s p h =
-      let t = subst (λ (r : Seek). IsUnpassed (Some all) r limits offset kept w (Unit {0})) p.0 s in
-      t.2 (n, h.2.2, h.2.3)
-  stuck_part None w kept also fault other (InPacket number) n x one too s p h = other_packet w also kept other fault number h.0 x too (inl one) p.0 (in_none seek s)
-    where
-      in_none : (r : Seek) → IsUnpassed (Some all) r limits offset kept w (Unit {0}) → IsRefusedIn (Some all) limits offset kept None
-      in_none Unsought t = t.0
-      in_none (SoughtIn window effort) t = t.0
-  stuck_part (Some from) w kept also fault other Stated n x one too s p h =
-      let same : from ≡ None = one_packet limits all offset w kept also fault other from None x h.0 one too s.1 p.1 in
-      let past = subst (λ b. GoesPast (Some all) seek limits offset kept w b) same s.0 in
-      ((sizes_tell limits w).1 n h.2.0).1 h.2.1 (subst (λ (r : Seek). WantsMoreBy r limits w) p.0 past)
-  stuck_part (Some from) w kept also fault other (Resumed window effort looked to_end) n x one too s p h =
-      let same : from ≡ None = one_packet limits all offset w kept also fault other from None x h.0 one too s.1 p.1 in
-      let past = subst (λ b. GoesPast (Some all) seek limits offset kept w b) same s.0 in
-      not_nowhere window effort looked w n (subst (λ (r : Seek). WantsMoreBy r limits w) p.0 past).0 h.2.0
-  stuck_part (Some from) w kept also fault other (PastWindow window effort looked) n x one too s p h =
-      let same : from ≡ None = one_packet limits all offset w kept also fault other from None x h.0 one too s.1 p.1 in
-      let past = subst (λ b. GoesPast (Some all) seek limits offset kept w b) same s.0 in
-      ((sizes_tell limits w).1 n h.2.2).1 h.2.4 (subst (λ (r : Seek). WantsMoreBy r limits w) p.0 past).2
-  stuck_part (Some from) w kept also fault other (InPacket number) n x one too s p h =
-      let same : from ≡ Some number = one_packet limits all offset w kept also fault other from (Some number) x h.0 one too s.1 p.0 in
-      not_past w kept also fault other number n x h.0 one too (subst (λ b. IsRefusedIn (Some all) limits offset kept b) same s.1) (subst (λ b. GoesPast (Some all) seek limits offset kept w b) same s.0) p h.2
+    -- no two sizes in a packet
+    size_below : (number n m : ℕ) → IsOver (InPacket number) n → IsOver (InPacket number) m → n < m → ⊥
+    size_below number n m x y less = x.1.2 (y.1.1 (offset + n) (omega (arith, x.0.2.0)) (omega (arith, less)))
 
-  -- nor is one that the input ends within, if messages begin again nowhere
-  cut_part : (w kept also : List ℕ) (other : Fault) (by : By) (n : ℕ) → kept ≡ w → (also ≡ w) × IsCutShort limits also other → (is_to_end by ≡ true) → IsCutUnpassed (Some all) seek limits offset kept w (Unit {0}) → IsPassedBy (Some all) seek limits offset also by n
-      → IsPart limits w (PassedOver also other by n) → ⊥
-  cut_part w kept also other Stated n x cut end s p h = false≢true end
-  cut_part w kept also other (InPacket number) n x cut end s p h = false≢true end
-  cut_part w kept also other (PastWindow window effort looked) n x cut end s p h = false≢true end
-  cut_part w kept also other (Resumed window effort looked to_end) n x cut end s p h =
-      let t = subst (λ (r : Seek). IsCutUnpassed (Some all) r limits offset kept w (Unit {0})) p.0 s in
-      let there = subst (λ (l : List ℕ). IsRefusedIn (Some all) limits offset l None) (cut.0 ∙ sym x) p.1 in
-      not_nowhere window effort looked w n (t.2 (packet_of_both limits all offset kept t.0 None t.1 there)) h.2.0
+    one_size_in : (number n m : ℕ) → IsOver (InPacket number) n → IsOver (InPacket number) m → n ≡ m
+    one_size_in number n m x y = elim (cases_lt n m) [
+      | inl less ↦ absurd (size_below number n m x y less)
+      | inr more ↦ elim (cases_lt m n) [ inl less ↦ absurd (size_below number m n y x less) | inr same ↦ omega (arith, more, same) ]
+    ]
 
-module _ (limits : Limits) where
-  -- these bytes, which are all that is left of the input, end a run. kept was kept of them
+    not_in : (number : ℕ) (by : By) (n : ℕ) → IsFaultFront limits w front → IsRefusedIn (Some all) limits offset front (Some number) → IsRefusedIn (Some all) limits offset front None → ⊥
+    not_in number by n is x y = let same : Some number ≡ None = of_both (Some number) None is x y in cc
+
+    one_over : (by from : By) (n m : ℕ) → IsOver by n → IsOver from m → AreOne by from n m
+    one_over Stated Stated n m x y = ap (PassedOver front fault Stated) (size_once limits w m n y.0.2.0 x.0.2.0)
+    one_over Stated (InPacket number) n m x y = absurd (not_in number Stated n x.0.0 y.1.0 x.1.1)
+    one_over Stated (Resumed window effort looked to_end) n m x y = absurd (let both = sym x.1.0 ∙ y.1.0 in cc)
+    one_over Stated (PastWindow window effort looked) n m x y = absurd (let both = sym x.1.0 ∙ y.1.0 in cc)
+    one_over (InPacket number) Stated n m x y = absurd (not_in number Stated n x.0.0 x.1.0 y.1.1)
+    one_over (InPacket number) (InPacket second) n m x y =
+        let both : Some number ≡ Some second = of_both (Some number) (Some second) x.0.0 x.1.0 y.1.0 in
+        let same : second ≡ number = cc in
+        let size = one_size_in number n m x (subst (λ (k : ℕ). IsOver (InPacket k) m) same y) in
+        λ i. PassedOver front fault (InPacket (sym same i)) (size i)
+    one_over (InPacket number) (Resumed window effort looked to_end) n m x y = absurd (not_in number Stated n x.0.0 x.1.0 y.1.1)
+    one_over (InPacket number) (PastWindow window effort looked) n m x y = absurd (not_in number Stated n x.0.0 x.1.0 y.1.1)
+    one_over (Resumed window effort looked to_end) Stated n m x y = absurd (let both = sym x.1.0 ∙ y.1.0 in cc)
+    one_over (Resumed window effort looked to_end) (InPacket number) n m x y = absurd (not_in number Stated n x.0.0 y.1.0 x.1.1)
+    one_over (Resumed window effort looked to_end) (Resumed wide more seen end) n m x y =
+        let same = same_seek seek window effort wide more x.1.0 y.1.0 in
+        let one : there n looked ≡ there m seen = one_resume window effort w (there n looked) (there m seen) x.0.2.0 (transport (λ i. ResumeIn limits (same.0 i) (same.1 i) w (there m seen)) y.0.2.0) in
+        let place : At n ≡ At m = ap (λ (s : Searched). s.found) one in
+        let count : looked ≡ seen = ap (λ (s : Searched). s.looked) one in
+        let size : n ≡ m = cc in
+        let ends : to_end ≡ end = same_end w fault window effort looked to_end end x.0.1 (transport (λ i. IsFaultOf limits w fault (Resumed (same.0 i) (same.1 i) (sym count i) end)) y.0.1) x.0.2.1 (λ e. subst (λ (k : ℕ). k ≤ length w) same.0 (y.0.2.1 e)) in
+        λ i. PassedOver front fault (Resumed (sym same.0 i) (sym same.1 i) (count i) (ends i)) (size i)
+    one_over (Resumed window effort looked to_end) (PastWindow wide more seen) n m x y = absurd (not_nowhere seek window effort looked wide more n w x.1.0 y.1.0 x.0.2.0 y.0.2.0)
+    one_over (PastWindow window effort looked) Stated n m x y = absurd (let both = sym x.1.0 ∙ y.1.0 in cc)
+    one_over (PastWindow window effort looked) (InPacket number) n m x y = absurd (not_in number Stated n x.0.0 y.1.0 x.1.1)
+    one_over (PastWindow window effort looked) (Resumed wide more seen to_end) n m x y = absurd (not_nowhere seek wide more seen window effort m w y.1.0 x.1.0 y.0.2.0 x.0.2.0)
+    one_over (PastWindow window effort looked) (PastWindow wide more seen) n m x y =
+        let same = same_seek seek window effort wide more x.1.0 y.1.0 in
+        let one : x.0.2.0.searched ≡ y.0.2.0.searched = one_resume window effort w x.0.2.0.searched y.0.2.0.searched x.0.2.0.resumes (transport (λ i. ResumeIn limits (same.0 i) (same.1 i) w y.0.2.0.searched) y.0.2.0.resumes) in
+        let count : looked ≡ seen = sym x.0.2.1 ∙ (ap (λ (s : Searched). s.looked) one ∙ y.0.2.1) in
+        let size = size_once limits w m n y.0.2.2 x.0.2.2 in
+        λ i. PassedOver front fault (PastWindow (sym same.0 i) (sym same.1 i) (count i)) (size i)
+
+    -- ---- what is passed over ends no run
+
+    -- a message that is not passed over is none that is
+    not_unpassed : (sought : Seek) → seek ≡ sought → IsUnpassed (Some all) sought limits offset w (Unit {0}) → (by : By) (n : ℕ) → IsOver by n → ⊥
+    not_unpassed Unsought is u Stated n x = ((sizes_tell limits w).1 n x.0.2.0).0 u.1
+    not_unpassed Unsought is u (InPacket number) n x = let same : None ≡ Some number = packet_of all offset w front None (Some number) x.0.0 u.0 x.1.0 in cc
+    not_unpassed Unsought is u (Resumed window effort looked to_end) n x = let both = sym is ∙ x.1.0 in cc
+    not_unpassed Unsought is u (PastWindow window effort looked) n x = let both = sym is ∙ x.1.0 in cc
+    not_unpassed (SoughtIn wide more) is u Stated n x = let both = sym is ∙ x.1.0 in cc
+    not_unpassed (SoughtIn wide more) is u (InPacket number) n x = let same : None ≡ Some number = packet_of all offset w front None (Some number) x.0.0 u.0 x.1.0 in cc
+    not_unpassed (SoughtIn wide more) is u (Resumed window effort looked to_end) n x = not_nowhere seek window effort looked wide more n w x.1.0 is x.0.2.0 u.1
+    not_unpassed (SoughtIn wide more) is u (PastWindow window effort looked) n x = u.2 (n, x.0.2.2, subst (λ (k : ℕ). k < n) (sym (same_seek seek window effort wide more x.1.0 is).0) x.0.2.3)
+
+    -- nor is one that goes on to the end of the input
+    not_cut_off : (cut : Option ℕ) → IsCutOff (Some all) seek limits offset w cut → (by : By) (n : ℕ) → IsOver by n → ⊥
+    not_cut_off None u Stated n x = ((sizes_tell limits w).1 n x.0.2.0).1 x.0.2.1 (subst (λ (r : Seek). WantsMoreBy r limits w) x.1.0 u.1)
+    not_cut_off None u (InPacket number) n x = let same : None ≡ Some number = packet_of all offset w front None (Some number) x.0.0 u.0 x.1.0 in cc
+    not_cut_off None u (Resumed window effort looked to_end) n x = not_nowhere seek window effort looked window effort n w x.1.0 x.1.0 x.0.2.0 (subst (λ (r : Seek). WantsMoreBy r limits w) x.1.0 u.1).0
+    not_cut_off None u (PastWindow window effort looked) n x = ((sizes_tell limits w).1 n x.0.2.2).1 x.0.2.4 (subst (λ (r : Seek). WantsMoreBy r limits w) x.1.0 u.1).2
+    not_cut_off (Some second) u Stated n x = let same : Some second ≡ None = packet_of all offset w front (Some second) None x.0.0 u.0 x.1.1 in cc
+    not_cut_off (Some second) u (Resumed window effort looked to_end) n x = let same : Some second ≡ None = packet_of all offset w front (Some second) None x.0.0 u.0 x.1.1 in cc
+    not_cut_off (Some second) u (PastWindow window effort looked) n x = let same : Some second ≡ None = packet_of all offset w front (Some second) None x.0.0 u.0 x.1.1 in cc
+    not_cut_off (Some second) u (InPacket number) n x =
+        let same : Some second ≡ Some number = packet_of all offset w front (Some second) (Some number) x.0.0 u.0 x.1.0 in
+        let one : number ≡ second = cc in
+        let y = subst (λ (k : ℕ). IsOver (InPacket k) n) one x in
+        y.1.2 (u.1 front y.0.0 (offset + n) (omega (arith, y.0.2.0)) (omega (arith, y.0.2.1)))
+
+    -- nor is one that the input ends within
+    not_cut_short : IsCutUnpassed (Some all) seek limits offset w (Unit {0}) → IsCutShort limits w fault → (by : By) (n : ℕ) → IsOver by n → ⊥
+    not_cut_short u cut Stated n x = not_cut w fault fault x.0.1 cut
+    not_cut_short u cut (InPacket number) n x = not_cut w fault fault x.0.1 cut
+    not_cut_short u cut (PastWindow window effort looked) n x = not_cut w fault fault x.0.1 cut
+    not_cut_short u cut (Resumed window effort looked to_end) n x =
+        let t = subst (λ (r : Seek). IsCutUnpassed (Some all) r limits offset w (Unit {0})) x.1.0 u in
+        not_nowhere seek window effort looked window effort n w x.1.0 x.1.0 x.0.2.0 (t.2 (packet_of all offset w front t.0 None x.0.0 t.1 x.1.1))
+
+  pub one_part : (packets others : Option Packets) → AreSamePackets packets others → (how : Settings) (offset looked : ℕ) (w front also : List ℕ) (fault other : Fault) (by from : By) (n m : ℕ)
+      → IsPart limits w (PassedOver front fault by n) → IsPart limits w (PassedOver also other from m) → IsPassedBy packets (seek_of how.resync offset (looked + fault.at)) limits offset front by n
+      → IsPassedBy others (seek_of how.resync offset (looked + other.at)) limits offset also from m → PassedOver front fault by n ≡ PassedOver also other from m
+  one_part packets others same how offset looked w front also fault other by from n m x y p q =
+      let f : also ≡ front = one_front limits w also front y.0 x.0 in
+      let g : other ≡ fault = part_fault w other fault from by y.1 x.1 in
+      let seek = seek_of how.resync offset (looked + fault.at) in
+      let one = subst (λ (o : Option Packets). IsPassedBy o seek limits offset front by n) same.1 p in
+      let too = transport (λ i. IsPart limits w (PassedOver (f i) (g i) from m) × IsPassedBy (same.2 i) (seek_of how.resync offset (looked + (g i).at)) limits offset (f i) from m) (y, q) in
+      one_over same.0 seek offset w front fault by from n m (x, one) too ∙ (λ i. PassedOver (sym f i) (sym g i) from m)
+
+  -- these bytes, which are all that is left of the input, end a run
   pub record EndsHere (packets : Option Packets) (cut : Option (Option ℕ)) (how : Settings) (offset looked : ℕ) (w : List ℕ) (outcome : CutOutcome) : Type 0 where
     pub outcome_is : IsOutcome limits w outcome
-    pub kept : List ℕ
-    pub kept_is : IsKeptOf limits outcome kept w
-    pub cut_off : (by : Option ℕ) → cut ≡ Some by → (fault : Fault) × (outcome ≡ Refused fault) × (how.keeps_going ≡ true)
-    pub stuck : (fault : Fault) → outcome ≡ Refused fault → how.keeps_going ≡ true → IsStuck limits (seek_of how.resync offset (looked + fault.at)) offset packets cut kept w
-    pub unsought : outcome ≡ Unfinished → how.keeps_going ≡ true → IsCutUnpassed packets (seek_of how.resync offset (looked + length kept)) limits offset kept w (Unit {0})
+    pub last : IsLast packets cut how limits offset looked w outcome (Unit {0})
+    pub whole : (fault : Fault) → outcome ≡ Refused fault → is_truncated fault.reason ≡ false
+    pub front : List ℕ
+    pub is_front : IsFaultFront limits w front
 
   -- ---- one list of parts
 
@@ -358,222 +228,255 @@ module _ (limits : Limits) where
   abbrev pub AreKnown : (packets others : Option Packets) → CutOutcome → List Part → Type 0
   AreKnown packets others outcome parts = AreSamePackets packets others ⊎ ((passed_count parts ≡ 0) × (outcome ≡ Ended))
 
-  -- a message that has one fault is refused for that
-  is_refused : (w : List ℕ) (outcome : CutOutcome) (fault : Fault) → IsOutcome limits w outcome → IsRefused limits w fault → outcome ≡ Refused fault
-  is_refused w Ended fault o refused = absurd ((one_outcome limits w).2 fault refused (subst (λ l. IsPartial limits l) (sym o) (nothing_partial limits)))
-  is_refused w Unfinished fault o refused = absurd ((one_outcome limits w).2 fault refused o.1)
-  is_refused w (Refused other) fault o refused = ap Refused (one_fault limits w other fault o refused)
-
-  is_unfinished : (w kept : List ℕ) (outcome : CutOutcome) (fault : Fault) → IsOutcome limits w outcome → (kept ≡ w) × IsCutShort limits kept fault → outcome ≡ Unfinished
-  is_unfinished w kept Ended fault o cut = absurd (cut.1.0 (cut.0 ∙ o))
-  is_unfinished w kept Unfinished fault o cut = refl
-  is_unfinished w kept (Refused other) fault o cut = absurd ((one_outcome limits w).2 other o (subst (λ (l : List ℕ). IsPartial limits l) cut.0 cut.1.1))
-
-  pub both_size : (packets others : Option Packets) → AreSamePackets packets others → (how : Settings) (offset at looked seen : ℕ) → offset ≡ at → looked ≡ seen → (w kept also : List ℕ) (fault other : Fault) (by from : By) (n m : ℕ)
-      → IsPart limits w (PassedOver kept fault by n) → IsPart limits w (PassedOver also other from m) → IsPassedBy packets (seek_of how.resync offset (looked + fault.at)) limits offset kept by n
-      → IsPassedBy others (seek_of how.resync at (seen + other.at)) limits at also from m → (n ≡ m) × (looked_for by fault.at offset looked ≡ looked_for from other.at at seen)
-  both_size packets others same how offset at looked seen there alike w kept also fault other by from n m x y p q =
-      let one : fault ≡ other = part_fault limits w kept also fault other by from n m x y in
-      let seek : Seek = seek_of how.resync offset (looked + fault.at) in
-      let both = same_size limits same.0 seek offset w kept also fault other by from n m x y (subst (λ (l : Option Packets). IsPassedBy l seek limits offset kept by n) same.1 p)
-      (transport (λ i. IsPassedBy (same.2 i) (seek_of how.resync (sym there i) (sym alike i + (sym one i).at)) limits (sym there i) also from m) q) in
-      (both.0, both.1 fault.at offset looked ∙ (λ i. looked_for from (one i).at (there i) (alike i)))
+  -- what ends a run is not passed over
+  not_over : (all : Packets) (cut : Option (Option ℕ)) (how : Settings) (offset looked : ℕ) (w front : List ℕ) (outcome : CutOutcome) (fault : Fault) (by : By) (n : ℕ) → how.keeps_going ≡ true → EndsHere (Some all) cut how offset looked w outcome
+      → IsPart limits w (PassedOver front fault by n) → IsPassedBy (Some all) (seek_of how.resync offset (looked + fault.at)) limits offset front by n → ⊥
+  not_over all cut how offset looked w front Ended fault by n goes e p h = elim (either_fault limits w fault by p.1) [
+    | inl refused ↦ (one_outcome limits w).2 fault refused (subst (λ l. IsPartial limits l) (sym e.outcome_is) (nothing_partial limits))
+    | inr short ↦ short.0 e.outcome_is
+  ]
+  not_over all None how offset looked w front Unfinished fault by n goes e p h = elim (either_fault limits w fault by p.1) [
+    | inl refused ↦ (one_outcome limits w).2 fault refused e.outcome_is.1
+    | inr short ↦ (
+        let at : length w ≡ fault.at = sym (ap (λ (f : Fault). f.at) short.2) in
+        let unpassed = subst (λ (k : ℕ). IsCutUnpassed (Some all) (seek_of how.resync offset (looked + k)) limits offset w (Unit {0})) at (e.last.1 goes) in
+        not_cut_short all (seek_of how.resync offset (looked + fault.at)) offset w front fault unpassed short by n (p, h)
+        )
+  ]
+  not_over all (Some by) how offset looked w front Unfinished fault from n goes e p h = e.last
+  not_over all cut how offset looked w front (Refused other) fault by n goes e p h =
+      let same : other ≡ fault = elim (either_fault limits w fault by p.1) [
+        | inl refused ↦ one_fault limits w other fault e.outcome_is refused
+        | inr short ↦ absurd (not_cut w other fault e.outcome_is short)
+      ] in
+      by_cut cut fault (subst (λ (f : Fault). IsLast (Some all) cut how limits offset looked w (Refused f) (Unit {0})) same e.last) (subst (λ (f : Fault). is_truncated f.reason ≡ false) same (e.whole other refl)) p h
+    where
+      by_cut : (c : Option (Option ℕ)) (f : Fault) → IsLast (Some all) c how limits offset looked w (Refused f) (Unit {0}) → is_truncated f.reason ≡ false → IsPart limits w (PassedOver front f by n)
+          → IsPassedBy (Some all) (seek_of how.resync offset (looked + f.at)) limits offset front by n → ⊥
+      by_cut None f last whole p h = not_unpassed all (seek_of how.resync offset (looked + f.at)) offset w front f _ refl (last goes whole) by n (p, h)
+      by_cut (Some from) f last whole p h = not_cut_off all (seek_of how.resync offset (looked + f.at)) offset w front f from last.0 by n (p, h)
 
   -- if these bytes end a run, they do not begin with a part
   pub no_part : (packets others : Option Packets) (cut : Option (Option ℕ)) (how : Settings) (offset looked : ℕ) (w : List ℕ) (outcome : CutOutcome) (part : Part) (more : List Part)
       → AreSamePackets packets others ⊎ ((outcome ≡ Ended) ⊎ (passed_count (part ∷ more) ≡ 0))
       → EndsHere packets cut how offset looked w outcome → IsPart limits w part → ArePassed others limits how offset looked (part ∷ more) → ⊥
   no_part packets others cut how offset looked w outcome (Whole item) more known e p h = no_whole w outcome item e.outcome_is p
-  no_part packets others cut how offset looked w outcome (PassedOver also other by n) more known e p h = elim known [
-    | inl same ↦ (
-        let seek : Seek = seek_of how.resync offset (looked + other.at) in
-        let passed = subst (λ (q : Option Packets). IsPassedBy q seek limits offset also by n) same.2 h.1 in
-        elim (fault_end limits w also other by p.1) [
-          | inl refused ↦ (
-              let is : outcome ≡ Refused other = is_refused w outcome other e.outcome_is (refused_from limits also w other p.0 refused) in
-              let kept = subst (λ (o : CutOutcome). IsKeptOf limits o e.kept w) is e.kept_is in
-              let stuck = subst (λ (q : Option Packets). IsStuck limits seek offset q cut e.kept w) same.1 (e.stuck other is h.0) in
-              stuck_part limits same.0 seek offset cut w e.kept also other other by n kept.0 kept.1 refused stuck passed p
-              )
-          | inr short ↦ (
-              let is = is_unfinished w also outcome other e.outcome_is short.1 in
-              let kept = subst (λ (o : CutOutcome). IsKeptOf limits o e.kept w) is e.kept_is in
-              let at : length e.kept ≡ other.at = ap length (kept ∙ sym short.1.0) ∙ sym (ap (λ (f : Fault). f.at) short.1.1.2) in
-              let unsought = transport (λ i. IsCutUnpassed (same.1 i) (seek_of how.resync offset (looked + at i)) limits offset e.kept w (Unit {0})) (e.unsought is h.0) in
-              cut_part limits same.0 seek offset w e.kept also other by n kept short.1 short.0 unsought passed p
-              )
-        ]
-        )
+  no_part packets others cut how offset looked w outcome (PassedOver front fault by n) more known e p h = elim known [
+    | inl same ↦ not_over same.0 cut how offset looked w front outcome fault by n h.0 (subst (λ (o : Option Packets). EndsHere o cut how offset looked w outcome) same.1 e) p
+        (subst (λ (o : Option Packets). IsPassedBy o (seek_of how.resync offset (looked + fault.at)) limits offset front by n) same.2 h.1)
     | inr none ↦ elim none [
       | inl ended ↦ (
           let empty : w ≡ [] = subst (λ (o : CutOutcome). IsOutcome limits w o) ended e.outcome_is in
-          elim (either_fault limits w also other by p.1) [
-            | inl refused ↦ (one_outcome limits w).2 other (refused_from limits also w other p.0 refused) (subst (λ l. IsPartial limits l) (sym empty) (nothing_partial limits))
-            | inr short ↦ short.1.0 (short.0 ∙ empty)
+          elim (either_fault limits w fault by p.1) [
+            | inl refused ↦ (one_outcome limits w).2 fault refused (subst (λ l. IsPartial limits l) (sym empty) (nothing_partial limits))
+            | inr short ↦ short.0 empty
           ]
           )
       | inr zero ↦ omega (arith, zero)
     ]
   ]
 
-  pub same_parts : (packets others : Option Packets) (cut snip : Option (Option ℕ)) (how : Settings) (offset at looked seen : ℕ) (bytes : List ℕ) (parts more : List Part) (rest last : List ℕ) (a b : CutOutcome) → offset ≡ at → looked ≡ seen → AreKnown packets others a parts
-      → BeginWithParts limits bytes parts rest → BeginWithParts limits bytes more last → ArePassed packets limits how offset looked parts → ArePassed others limits how at seen more
-      → EndsHere packets cut how (offset + sizes_of parts) (looked_behind parts offset looked) rest a → EndsHere others snip how (at + sizes_of more) (looked_behind more at seen) last b
-      → AreSame parts more × (rest ≡ last) × (looked_behind parts offset looked ≡ looked_behind more at seen)
-  same_parts packets others cut snip how offset at looked seen bytes [] [] rest last a b there alike known p q g h e f = (refl, sym p ∙ q, alike)
-  same_parts packets others cut snip how offset at looked seen bytes [] (part ∷ more) rest last a b there alike known p q g h e f =
-      let here : offset + 0 ≡ at = omega (arith, there) in
-      absurd (no_part packets others cut how at seen bytes a part more (elim known [ inl same ↦ inl same | inr none ↦ inr (inl none.1) ]) (transport (λ i. EndsHere packets cut how (here i) (alike i) (sym p i) a) e) q.0 h)
-  same_parts packets others cut snip how offset at looked seen bytes (part ∷ parts) [] rest last a b there alike known p q g h e f =
-      let here : at + 0 ≡ offset = omega (arith, there) in
-      absurd (no_part others packets snip how offset looked bytes b part parts (elim known [ inl same ↦ inl (same.0, same.2, same.1) | inr none ↦ inr (inr none.0) ]) (transport (λ i. EndsHere others snip how (here i) (sym alike i) (sym q i) b) f) p.0 g)
-  same_parts packets others cut snip how offset at looked seen bytes (Whole x ∷ parts) (Whole y ∷ more) rest last a b there alike known p q g h e f =
-      let one = one_whole limits bytes x.order y.order x.message y.message x.size y.size p.0 q.0 in
-      let begin = subst (λ n. BeginWithParts limits (drop n bytes) more last) (sym one.2) q.1 in
-      let first : offset + (x.size + sizes_of parts) ≡ offset + x.size + sizes_of parts = omega arith in
-      let second : at + (y.size + sizes_of more) ≡ at + y.size + sizes_of more = omega arith in
-      let next = same_parts packets others cut snip how (offset + x.size) (at + y.size) looked seen (drop x.size bytes) parts more rest last a b (omega (arith, there, one.2)) alike known p.1 begin g h
-      (subst (λ n. EndsHere packets cut how n (looked_behind parts (offset + x.size) looked) rest a) first e) (subst (λ n. EndsHere others snip how n (looked_behind more (at + y.size) seen) last b) second f) in
-      ((λ i. Whole (record { order = one.0 i; message = one.1 i; size = one.2 i }) ∷ next.0 i), next.1, next.2)
-  same_parts packets others cut snip how offset at looked seen bytes (Whole x ∷ parts) (PassedOver k f c n ∷ more) rest last a b there alike known p q g h d e = absurd (no_whole_part limits bytes k f c n x q.0 p.0)
-  same_parts packets others cut snip how offset at looked seen bytes (PassedOver k f c n ∷ parts) (Whole y ∷ more) rest last a b there alike known p q g h d e = absurd (no_whole_part limits bytes k f c n y p.0 q.0)
-  same_parts packets others cut snip how offset at looked seen bytes (PassedOver k x c n ∷ parts) (PassedOver l y d m ∷ more) rest last a b there alike known p q g h e f = elim known [
-    | inl same ↦ (
-        let fault : x ≡ y = part_fault limits bytes k l x y c d n m p.0 q.0 in
-        let both = both_size packets others same how offset at looked seen there alike bytes k l x y c d n m p.0 q.0 g.1 h.1 in
-        let size : n ≡ m = both.0 in
-        let begin = subst (λ k. BeginWithParts limits (drop k bytes) more last) (sym size) q.1 in
-        let first : offset + (n + sizes_of parts) ≡ offset + n + sizes_of parts = omega arith in
-        let second : at + (m + sizes_of more) ≡ at + m + sizes_of more = omega arith in
-        let next = same_parts packets others cut snip how (offset + n) (at + m) (looked_for c x.at offset looked) (looked_for d y.at at seen) (drop n bytes) parts more rest last a b (omega (arith, there, size)) both.1 (inl same) p.1 begin g.2 h.2
-        (subst (λ k. EndsHere packets cut how k (looked_behind parts (offset + n) (looked_for c x.at offset looked)) rest a) first e) (subst (λ k. EndsHere others snip how k (looked_behind more (at + m) (looked_for d y.at at seen)) last b) second f) in
-        ((λ i. PassedOver [] (fault i) Stated (size i) ∷ next.0 i), next.1, next.2)
+  -- two parts of the same bytes are one
+  same_part : (packets others : Option Packets) (how : Settings) (offset looked : ℕ) (bytes : List ℕ) (part other : Part) (parts more : List Part) → AreSamePackets packets others ⊎ ((passed_count (part ∷ parts) ≡ 0) ⊎ (passed_count (other ∷ more) ≡ 0)) → IsPart limits bytes part → IsPart limits bytes other
+      → ArePassed packets limits how offset looked (part ∷ parts) → ArePassed others limits how offset looked (other ∷ more) → part ≡ other
+  same_part packets others how offset looked bytes (Whole x) (Whole y) parts more known p q g h =
+      let one = one_whole limits bytes x.order y.order x.message y.message x.size y.size p q in
+      λ i. Whole (record { order = one.0 i; message = one.1 i; size = one.2 i })
+  same_part packets others how offset looked bytes (Whole x) (PassedOver f y d m) parts more known p q g h = absurd (no_whole_part bytes f y d m x q p)
+  same_part packets others how offset looked bytes (PassedOver f x c n) (Whole y) parts more known p q g h = absurd (no_whole_part bytes f x c n y p q)
+  same_part packets others how offset looked bytes (PassedOver f x c n) (PassedOver l y d m) parts more known p q g h = elim known [
+    | inl same ↦ one_part packets others same how offset looked bytes f l x y c d n m p q g.1 h.1
+    | inr none ↦ absurd (elim none [ inl zero ↦ omega (arith, zero) | inr zero ↦ omega (arith, zero) ])
+  ]
+
+  none_rest : (part : Part) (parts : List Part) → passed_count (part ∷ parts) ≡ 0 → passed_count parts ≡ 0
+  none_rest (Whole x) parts none = none
+  none_rest (PassedOver f x c n) parts none = omega (arith, none)
+
+  -- the one list goes on where the other ends
+  abbrev pub AreAlong : (P Q : List Part) → Type 0
+  AreAlong P Q = ((more : List Part) × (Q ≡ P ++ more)) ⊎ ((more : List Part) × (P ≡ Q ++ more))
+
+  pub along : (packets others : Option Packets) (how : Settings) (offset looked : ℕ) (bytes : List ℕ) (P Q : List Part) (rest last : List ℕ) → AreSamePackets packets others ⊎ ((passed_count P ≡ 0) ⊎ (passed_count Q ≡ 0))
+      → BeginWithParts limits bytes P rest → BeginWithParts limits bytes Q last → ArePassed packets limits how offset looked P → ArePassed others limits how offset looked Q → AreAlong P Q
+  along packets others how offset looked bytes [] Q rest last known x y g h = inl (Q, refl)
+  along packets others how offset looked bytes (p ∷ P) [] rest last known x y g h = inr (p ∷ P, refl)
+  along packets others how offset looked bytes (p ∷ P) (q ∷ Q) rest last known x y g h =
+      let one = same_part packets others how offset looked bytes p q P Q known x.0 y.0 g h in
+      let on = subst (λ (o : Part). BeginWithParts limits (drop (size_of o) bytes) Q last × ArePassed others limits how (offset + size_of o) (looked_after o offset looked) Q) (sym one) (y.1, passed_rest others limits how offset looked q Q h) in
+      let known_on : AreSamePackets packets others ⊎ ((passed_count P ≡ 0) ⊎ (passed_count Q ≡ 0)) = elim known [ inl same ↦ inl same | inr none ↦ inr (elim none [ inl first ↦ inl (none_rest p P first) | inr second ↦ inr (none_rest q Q second) ]) ] in
+      elim (along packets others how (offset + size_of p) (looked_after p offset looked) (drop (size_of p) bytes) P Q rest last known_on x.1 on.0 (passed_rest packets limits how offset looked p P g) on.1) [
+        | inl more ↦ inl (more.0, λ i. sym one i ∷ more.1 i)
+        | inr more ↦ inr (more.0, λ i. one i ∷ more.1 i)
+      ]
+
+  -- what follows the first parts
+  parts_after : (bytes : List ℕ) (P more : List Part) (rest last : List ℕ) → BeginWithParts limits bytes P rest → BeginWithParts limits bytes (P ++ more) last → BeginWithParts limits rest more last
+  parts_after bytes [] more rest last x y = subst (λ l. BeginWithParts limits l more last) x y
+  parts_after bytes (part ∷ P) more rest last x y = parts_after (drop (size_of part) bytes) P more rest last x.1 y.1
+
+  passed_after : (packets : Option Packets) (how : Settings) (offset looked : ℕ) (P more : List Part) → ArePassed packets limits how offset looked (P ++ more) → ArePassed packets limits how (offset + sizes_of P) (looked_behind P offset looked) more
+  passed_after packets how offset looked [] more h = (let here : offset ≡ offset + 0 = omega arith in subst (λ n. ArePassed packets limits how n looked more) here h)
+  passed_after packets how offset looked (part ∷ P) more h =
+      let all : offset + size_of part + sizes_of P ≡ offset + (size_of part + sizes_of P) = omega arith in
+      subst (λ n. ArePassed packets limits how n (looked_behind (part ∷ P) offset looked) more) all (passed_after packets how (offset + size_of part) (looked_after part offset looked) P more (passed_rest packets limits how offset looked part (P ++ more) h))
+
+  -- nothing follows those that end a run
+  pub none_after : (packets others : Option Packets) (cut : Option (Option ℕ)) (how : Settings) (offset looked : ℕ) (bytes : List ℕ) (P more : List Part) (rest last : List ℕ) (outcome : CutOutcome) → AreSamePackets packets others ⊎ ((outcome ≡ Ended) ⊎ (passed_count (P ++ more) ≡ 0))
+      → EndsHere packets cut how (offset + sizes_of P) (looked_behind P offset looked) rest outcome → BeginWithParts limits bytes P rest → BeginWithParts limits bytes (P ++ more) last → ArePassed others limits how offset looked (P ++ more) → more ≡ []
+  none_after packets others cut how offset looked bytes P [] rest last outcome known e x y h = refl
+  none_after packets others cut how offset looked bytes P (part ∷ more) rest last outcome known e x y h =
+      let both = passed-both P (part ∷ more) in
+      let known_there : AreSamePackets packets others ⊎ ((outcome ≡ Ended) ⊎ (passed_count (part ∷ more) ≡ 0)) = elim known [ inl same ↦ inl same | inr none ↦ inr (elim none [ inl ended ↦ inl ended | inr zero ↦ inr (omega (arith, zero, both)) ]) ] in
+      absurd (no_part packets others cut how (offset + sizes_of P) (looked_behind P offset looked) rest outcome part more known_there e (parts_after bytes P (part ∷ more) rest last x y).0 (passed_after others how offset looked P (part ∷ more) h))
+
+  pub same_parts : (packets others : Option Packets) (cut snip : Option (Option ℕ)) (how : Settings) (offset looked : ℕ) (bytes : List ℕ) (P Q : List Part) (rest last : List ℕ) (a b : CutOutcome) → AreKnown packets others a P
+      → BeginWithParts limits bytes P rest → BeginWithParts limits bytes Q last → ArePassed packets limits how offset looked P → ArePassed others limits how offset looked Q
+      → EndsHere packets cut how (offset + sizes_of P) (looked_behind P offset looked) rest a → EndsHere others snip how (offset + sizes_of Q) (looked_behind Q offset looked) last b
+      → (P ≡ Q) × (rest ≡ last)
+  same_parts packets others cut snip how offset looked bytes P Q rest last a b known x y g h e f = elim (along packets others how offset looked bytes P Q rest last (elim known [ inl same ↦ inl same | inr none ↦ inr (inl none.0) ]) x y g h) [
+    | inl (more, is) ↦ (
+        let begin = subst (λ l. BeginWithParts limits bytes l last) is y in
+        let none = none_after packets others cut how offset looked bytes P more rest last a (elim known [ inl same ↦ inl same | inr none ↦ inr (inl none.1) ]) e x begin (subst (λ l. ArePassed others limits how offset looked l) is h) in
+        (sym (append-nil P) ∙ (ap (λ l. P ++ l) (sym none) ∙ sym is), subst (λ l. BeginWithParts limits rest l last) none (parts_after bytes P more rest last x begin))
         )
-    | inr none ↦ absurd (let zero = none.0 in omega (arith, zero))
+    | inr (more, is) ↦ (
+        let begin = subst (λ l. BeginWithParts limits bytes l rest) is x in
+        let none = none_after others packets snip how offset looked bytes Q more last rest b (elim known [ inl same ↦ inl (same.0, same.2, same.1) | inr none ↦ inr (inr (ap passed_count (sym is) ∙ none.0)) ]) f y begin (subst (λ l. ArePassed packets limits how offset looked l) is g) in
+        (is ∙ (ap (λ l. Q ++ l) none ∙ append-nil Q), sym (subst (λ l. BeginWithParts limits last l rest) none (parts_after bytes Q more last rest y begin)))
+        )
   ]
 
   -- ---- where a run ends
 
+  -- one that goes on to the end of the input is passed over
+  not_both_last : (all : Packets) (how : Settings) (offset looked : ℕ) (w front : List ℕ) (fault : Fault) (by : Option ℕ) → IsFaultFront limits w front → is_truncated fault.reason ≡ false
+      → IsLast (Some all) (Some by) how limits offset looked w (Refused fault) (Unit {0}) → IsLast (Some all) None how limits offset looked w (Refused fault) (Unit {0}) → ⊥
+  not_both_last all how offset looked w front fault by is whole x y = by_seek (seek_of how.resync offset (looked + fault.at)) x.0 (y x.2 whole)
+    where
+      by_none : (seek : Seek) → IsCutOff (Some all) seek limits offset w by → IsRefusedIn (Some all) limits offset w None → WantsMoreBy seek limits w
+      by_none seek u none = let same : by ≡ None = one_packet all offset w front by None is u.0 none in (subst (λ (b : Option ℕ). IsCutOff (Some all) seek limits offset w b) same u).1
+
+      by_seek : (seek : Seek) → IsCutOff (Some all) seek limits offset w by → IsUnpassed (Some all) seek limits offset w (Unit {0}) → ⊥
+      by_seek Unsought u v = (sizes_tell limits w).0 v.1 (by_none Unsought u v.0)
+      by_seek (SoughtIn window effort) u v = v.2 (by_none (SoughtIn window effort) u v.0).1
+
   -- an input ends within a message that is passed over, or not
-  pub same_cut : (packets others : Option Packets) (cut snip : Option (Option ℕ)) (how : Settings) (offset looked : ℕ) (w : List ℕ) (a b : CutOutcome) → a ≡ b → AreSamePackets packets others ⊎ (a ≡ Ended)
-      → EndsHere packets cut how offset looked w a → EndsHere others snip how offset looked w b → cut ≡ snip
-  same_cut packets others None None how offset looked w a b ab known e f = refl
-  same_cut packets others (Some by) (Some from) how offset looked w a b ab known e f =
-      let c = e.cut_off by refl in
-      elim known [
-        | inl same ↦ (
-            let k = subst (λ (o : CutOutcome). IsKeptOf limits o e.kept w) c.1 e.kept_is in
-            let l = subst (λ (o : CutOutcome). IsKeptOf limits o f.kept w) (sym ab ∙ c.1) f.kept_is in
-            let one = subst (λ (q : Option Packets). IsStuck limits (seek_of how.resync offset (looked + c.0.at)) offset q (Some by) e.kept w) same.1 (e.stuck c.0 c.1 c.2) in
-            let too = subst (λ (q : Option Packets). IsStuck limits (seek_of how.resync offset (looked + c.0.at)) offset q (Some from) f.kept w) same.2 (f.stuck c.0 (sym ab ∙ c.1) c.2) in
-            ap Some (one_packet limits same.0 offset w e.kept f.kept c.0 c.0 by from k.0 l.0 k.1 l.1 one.1 too.1)
-            )
-        | inr none ↦ absurd (let ended = sym none ∙ c.1 in cc)
-      ]
-  same_cut packets others (Some by) None how offset looked w a b ab known e f =
-      let c = e.cut_off by refl in
-      elim known [
-        | inl same ↦ (
-            let k = subst (λ (o : CutOutcome). IsKeptOf limits o e.kept w) c.1 e.kept_is in
-            let l = subst (λ (o : CutOutcome). IsKeptOf limits o f.kept w) (sym ab ∙ c.1) f.kept_is in
-            let one = subst (λ (q : Option Packets). IsStuck limits (seek_of how.resync offset (looked + c.0.at)) offset q (Some by) e.kept w) same.1 (e.stuck c.0 c.1 c.2) in
-            let too = subst (λ (q : Option Packets). IsStuck limits (seek_of how.resync offset (looked + c.0.at)) offset q None f.kept w) same.2 (f.stuck c.0 (sym ab ∙ c.1) c.2) in
-            absurd (not_stuck limits same.0 (seek_of how.resync offset (looked + c.0.at)) offset w e.kept f.kept c.0 by k.0 l.0 k.1 l.1 one too)
-            )
-        | inr none ↦ absurd (let ended = sym none ∙ c.1 in cc)
-      ]
-  same_cut packets others None (Some by) how offset looked w a b ab known e f =
-      let c = f.cut_off by refl in
-      elim known [
-        | inl same ↦ (
-            let k = subst (λ (o : CutOutcome). IsKeptOf limits o e.kept w) (ab ∙ c.1) e.kept_is in
-            let l = subst (λ (o : CutOutcome). IsKeptOf limits o f.kept w) c.1 f.kept_is in
-            let one = subst (λ (q : Option Packets). IsStuck limits (seek_of how.resync offset (looked + c.0.at)) offset q None e.kept w) same.1 (e.stuck c.0 (ab ∙ c.1) c.2) in
-            let too = subst (λ (q : Option Packets). IsStuck limits (seek_of how.resync offset (looked + c.0.at)) offset q (Some by) f.kept w) same.2 (f.stuck c.0 c.1 c.2) in
-            absurd (not_stuck limits same.0 (seek_of how.resync offset (looked + c.0.at)) offset w f.kept e.kept c.0 by l.0 k.0 l.1 k.1 too one)
-            )
-        | inr none ↦ absurd (let ended = sym none ∙ (ab ∙ c.1) in cc)
-      ]
+  pub same_cut : (packets others : Option Packets) (cut snip : Option (Option ℕ)) (how : Settings) (offset looked : ℕ) (w : List ℕ) (outcome : CutOutcome) → AreSamePackets packets others ⊎ (outcome ≡ Ended)
+      → EndsHere packets cut how offset looked w outcome → EndsHere others snip how offset looked w outcome → cut ≡ snip
+  same_cut packets others None None how offset looked w outcome known e f = refl
+  same_cut packets others (Some by) snip how offset looked w Ended known e f = absurd e.last
+  same_cut packets others (Some by) snip how offset looked w Unfinished known e f = absurd e.last
+  same_cut packets others None (Some from) how offset looked w Ended known e f = absurd f.last
+  same_cut packets others None (Some from) how offset looked w Unfinished known e f = absurd f.last
+  same_cut packets others cut snip how offset looked w (Refused fault) (inr ended) e f = absurd cc
+  same_cut packets others (Some by) (Some from) how offset looked w (Refused fault) (inl same) e f =
+      let one = subst (λ (o : Option Packets). IsRefusedIn o limits offset w by) same.1 e.last.0.0 in
+      let too = subst (λ (o : Option Packets). IsRefusedIn o limits offset w from) same.2 f.last.0.0 in
+      ap Some (one_packet same.0 offset w e.front by from e.is_front one too)
+  same_cut packets others (Some by) None how offset looked w (Refused fault) (inl same) e f =
+      absurd (not_both_last same.0 how offset looked w e.front fault by e.is_front (e.whole fault refl) (subst (λ (o : Option Packets). IsLast o (Some by) how limits offset looked w (Refused fault) (Unit {0})) same.1 e.last)
+      (subst (λ (o : Option Packets). IsLast o None how limits offset looked w (Refused fault) (Unit {0})) same.2 f.last))
+  same_cut packets others None (Some from) how offset looked w (Refused fault) (inl same) e f =
+      absurd (not_both_last same.0 how offset looked w e.front fault from e.is_front (e.whole fault refl) (subst (λ (o : Option Packets). IsLast o (Some from) how limits offset looked w (Refused fault) (Unit {0})) same.2 f.last)
+      (subst (λ (o : Option Packets). IsLast o None how limits offset looked w (Refused fault) (Unit {0})) same.1 e.last))
 
   -- it is so of all of the input
-  unpassed : (packets : Option Packets) (seek : Seek) (offset : ℕ) (kept rest more : List ℕ) (at_end : Type 0) → (at_end → more ≡ []) → 1 ≤ length rest → IsUnpassed packets seek limits offset kept rest at_end
-      → IsUnpassed packets seek limits offset kept (rest ++ more) (Unit {0})
-  unpassed packets Unsought offset kept rest more at_end none some u = (u.0, none_more limits rest more some u.1)
-  unpassed packets (SoughtIn window effort) offset kept rest more at_end none some u = (u.0, (nowhere_more limits window effort rest more at_end none u.1).0, not_larger limits window effort rest more at_end none u.1 u.2)
+  module _ (packets : Option Packets) (offset : ℕ) (rest more : List ℕ) (at_end : Type 0) (none : at_end → more ≡ []) (fronts : HaveSameFronts limits rest (rest ++ more)) where
+    refused_more : (number : Option ℕ) → IsRefusedIn packets limits offset rest number → IsRefusedIn packets limits offset (rest ++ more) number
+    refused_more number r = refused_as limits rest (rest ++ more) fronts packets offset number r
 
-  cut_unpassed : (packets : Option Packets) (seek : Seek) (offset : ℕ) (kept rest more : List ℕ) (at_end : Type 0) → (at_end → more ≡ []) → IsCutUnpassed packets seek limits offset kept rest at_end
-      → IsCutUnpassed packets seek limits offset kept (rest ++ more) (Unit {0})
-  cut_unpassed packets Unsought offset kept rest more at_end none u = tt
-  cut_unpassed packets (SoughtIn window effort) offset kept rest more at_end none u = (u.0, u.1, λ is. (nowhere_more limits window effort rest more at_end none (u.2 is)).0)
+    unpassed_more : (seek : Seek) → 1 ≤ length rest → IsUnpassed packets seek limits offset rest at_end → IsUnpassed packets seek limits offset (rest ++ more) (Unit {0})
+    unpassed_more Unsought some u = (refused_more None u.0, none_more limits rest more some u.1)
+    unpassed_more (SoughtIn window effort) some u = (refused_more None u.0, (nowhere_more limits window effort rest more at_end none u.1).0, not_larger limits window effort rest more at_end none u.1 u.2)
 
-  pub ends_here : (packets : Option Packets) (cut : Option (Option ℕ)) (how : Settings) (offset looked : ℕ) (kept rest more : List ℕ) (outcome : CutOutcome) (at_end : Type 0) → (at_end → more ≡ []) → IsBytes (rest ++ more)
-      → IsOutcome limits kept outcome → IsLast packets cut how limits offset looked kept rest outcome at_end → EndsHere packets cut how offset looked (rest ++ more) outcome × (fault_at_end kept outcome ≡ fault_at_end (rest ++ more) outcome)
-      × IsKeptOf limits outcome kept (rest ++ more) × ((by : Option ℕ) → cut ≡ Some by → rest ++ more ≡ rest)
-  ends_here packets (Some by) how offset looked kept rest more Ended at_end none bytes o last = absurd last
-  ends_here packets (Some by) how offset looked kept rest more Unfinished at_end none bytes o last = absurd last
-  ends_here packets None how offset looked kept rest more Ended at_end none bytes o last =
-      let all : rest ++ more ≡ kept = (λ i. last.0 i ++ none last.1 i) ∙ append-nil kept in (
-        record {
-          outcome_is = all ∙ o;
-          kept = kept;
-          kept_is = sym all;
-          cut_off = λ by cut. absurd cc;
-          stuck = λ fault is. absurd cc;
-          unsought = λ is. absurd cc;
-        },
-        refl,
-        sym all,
-        λ by cut. absurd cc,
-      )
-  ends_here packets None how offset looked kept rest more Unfinished at_end none bytes o last =
-      let all : rest ++ more ≡ kept = (λ i. last.0 i ++ none last.1 i) ∙ append-nil kept in (
-        record {
-          outcome_is = subst (λ l. IsOutcome limits l Unfinished) (sym all) o;
-          kept = kept;
-          kept_is = sym all;
-          cut_off = λ by cut. absurd cc;
-          stuck = λ fault is. absurd cc;
-          unsought = λ is goes. cut_unpassed packets (seek_of how.resync offset (looked + length kept)) offset kept rest more at_end none (last.2 goes);
-        },
-        ap (λ l. fault_at_end l Unfinished) (sym all),
-        sym all,
-        λ by cut. absurd cc,
-      )
-  ends_here packets None how offset looked kept rest more (Refused fault) at_end none bytes o last =
-      let front : IsPrefixTo kept (rest ++ more) = (last.0.0 ++ more, ap (λ l. l ++ more) last.0.1 ∙ append_assoc kept last.0.0 more) in
-      let kept_bytes = IsBytes-front (rest ++ more) kept front.0 front.1 bytes in
-      let some = refused_later limits 0 kept fault (nothing_partial limits) o in
-      let long = ap length last.0.1 in
-      let both = length-append kept last.0.0 in (
-        record {
-          outcome_is = refused_from limits kept (rest ++ more) fault front o;
-          kept = kept;
-          kept_is = (front, o);
-          cut_off = λ by cut. absurd cc;
-          stuck = λ other is goes.
-              let same : fault ≡ other = cc in
-              subst (λ (f : Fault). IsUnpassed packets (seek_of how.resync offset (looked + f.at)) limits offset kept (rest ++ more) (Unit {0})) same
-              (unpassed packets (seek_of how.resync offset (looked + fault.at)) offset kept rest more at_end none (omega (arith, some, long, both)) (last.2 goes (refused_reason limits kept fault kept_bytes o)));
-          unsought = λ is. absurd cc;
-        },
-        refl,
-        (front, o),
-        λ by cut. absurd cc,
-      )
-  ends_here packets (Some by) how offset looked kept rest more (Refused fault) at_end none bytes o last =
-      let front : IsPrefixTo kept (rest ++ more) = (last.0.front.0 ++ more, ap (λ l. l ++ more) last.0.front.1 ∙ append_assoc kept last.0.front.0 more) in
-      let all : rest ++ more ≡ rest = ap (λ l. rest ++ l) (none last.1) ∙ append-nil rest in (
-        record {
-          outcome_is = refused_from limits kept (rest ++ more) fault front o;
-          kept = kept;
-          kept_is = (front, o);
-          cut_off = λ from is. (fault, refl, last.2);
-          stuck = λ other is goes.
-              let same : fault ≡ other = cc in
-              (transport (λ i. GoesPast packets (seek_of how.resync offset (looked + (same i).at)) limits offset kept (sym all i) by) last.0.past, last.0.refused_in);
-          unsought = λ is. absurd cc;
-        },
-        refl,
-        (front, o),
-        λ from is. all,
-      )
+    cut_unpassed_more : (seek : Seek) → IsCutUnpassed packets seek limits offset rest at_end → IsCutUnpassed packets seek limits offset (rest ++ more) (Unit {0})
+    cut_unpassed_more Unsought u = tt
+    cut_unpassed_more (SoughtIn window effort) u = (u.0, refused_more u.0 u.1, λ is. (nowhere_more limits window effort rest more at_end none (u.2 is)).0)
+
+  -- all is there, or what is there is refused
+  pub shut_at : (cut : Option (Option ℕ)) (packets : Option Packets) (how : Settings) (offset looked : ℕ) (rest more : List ℕ) (outcome : CutOutcome) (at_end : Type 0) → (at_end → more ≡ []) → IsOutcome limits rest outcome → IsLast packets cut how limits offset looked rest outcome at_end → IsShut limits rest more
+  shut_at None packets how offset looked rest more Ended at_end none o last = inr (none last)
+  shut_at None packets how offset looked rest more Unfinished at_end none o last = inr (none last.0)
+  shut_at cut packets how offset looked rest more (Refused fault) at_end none o last = inl (fault, o)
+  shut_at (Some by) packets how offset looked rest more Ended at_end none o last = absurd last
+  shut_at (Some by) packets how offset looked rest more Unfinished at_end none o last = absurd last
+
+  pub record EndsAll (packets : Option Packets) (cut : Option (Option ℕ)) (how : Settings) (offset looked : ℕ) (rest more : List ℕ) (outcome : CutOutcome) : Type 0 where
+    pub ends : EndsHere packets cut how offset looked (rest ++ more) outcome
+    pub fault_is : fault_at_end rest outcome ≡ fault_at_end (rest ++ more) outcome
+    pub fronts : HaveSameFronts limits rest (rest ++ more)
+    pub all_is : (by : Option ℕ) → cut ≡ Some by → rest ++ more ≡ rest
+
+  pub ends_here : (packets : Option Packets) (cut : Option (Option ℕ)) (how : Settings) (offset looked : ℕ) (rest more : List ℕ) (outcome : CutOutcome) (at_end : Type 0) → (at_end → more ≡ []) → IsBytes (rest ++ more)
+      → IsOutcome limits rest outcome → IsLast packets cut how limits offset looked rest outcome at_end → EndsAll packets cut how offset looked rest more outcome
+  ends_here packets cut how offset looked rest more outcome at_end none bytes o last = by_outcome cut outcome o last
+    where
+      some : (front : List ℕ) × IsFaultFront limits (rest ++ more) front
+      some = some_front limits (rest ++ more) bytes
+
+      all : at_end → rest ++ more ≡ rest
+      all e = ap (λ (l : List ℕ). rest ++ l) (none e) ∙ append-nil rest
+
+      by_outcome : (c : Option (Option ℕ)) (out : CutOutcome) → IsOutcome limits rest out → IsLast packets c how limits offset looked rest out at_end → EndsAll packets c how offset looked rest more out
+      by_outcome (Some by) Ended o last = absurd last
+      by_outcome (Some by) Unfinished o last = absurd last
+      by_outcome None Ended o last = record {
+        ends = record { outcome_is = all last ∙ o; last = tt; whole = λ fault is. absurd cc; front = some.0; is_front = some.1 };
+        fault_is = refl;
+        fronts = fronts_more limits rest more (inr (none last));
+        all_is = λ by is. absurd cc;
+      }
+      by_outcome None Unfinished o last =
+          let same = sym (all last.0) in
+          let fronts = fronts_more limits rest more (inr (none last.0)) in
+          record {
+            ends = record {
+              outcome_is = subst (λ (l : List ℕ). IsOutcome limits l Unfinished) same o;
+              last = (
+                tt,
+                λ goes.
+                    subst (λ (n : ℕ). IsCutUnpassed packets (seek_of how.resync offset (looked + n)) limits offset (rest ++ more) (Unit {0})) (ap length same)
+                    (cut_unpassed_more packets offset rest more at_end none fronts (seek_of how.resync offset (looked + length rest)) (last.1 goes)),
+              );
+              whole = λ fault is. absurd cc;
+              front = some.0;
+              is_front = some.1;
+            };
+            fault_is = ap (λ (l : List ℕ). fault_at_end l Unfinished) same;
+            fronts = fronts;
+            all_is = λ by is. absurd cc;
+          }
+      by_outcome None (Refused fault) o last =
+          let there = refused_for_good limits rest more fault o in
+          let whole = refused_reason limits (rest ++ more) fault bytes there in
+          let fronts = fronts_more limits rest more (inl (fault, o)) in
+          let long = refused_later limits 0 rest fault (nothing_partial limits) o in
+          record {
+            ends = record {
+              outcome_is = there;
+              last = λ goes sound. unpassed_more packets offset rest more at_end none fronts (seek_of how.resync offset (looked + fault.at)) (omega (arith, long)) (last goes sound);
+              whole = λ other is. let same : fault ≡ other = cc in subst (λ (f : Fault). is_truncated f.reason ≡ false) same whole;
+              front = some.0;
+              is_front = some.1;
+            };
+            fault_is = refl;
+            fronts = fronts;
+            all_is = λ by is. absurd cc;
+          }
+      by_outcome (Some by) (Refused fault) o last =
+          let there = refused_for_good limits rest more fault o in
+          let whole = refused_reason limits (rest ++ more) fault bytes there in
+          let same = sym (all last.1) in
+          record {
+            ends = record {
+              outcome_is = there;
+              last = (subst (λ (l : List ℕ). IsCutOff packets (seek_of how.resync offset (looked + fault.at)) limits offset l by) same last.0, tt, last.2);
+              whole = λ other is. let same : fault ≡ other = cc in subst (λ (f : Fault). is_truncated f.reason ≡ false) same whole;
+              front = some.0;
+              is_front = some.1;
+            };
+            fault_is = refl;
+            fronts = fronts_more limits rest more (inl (fault, o));
+            all_is = λ from is. all last.1;
+          }

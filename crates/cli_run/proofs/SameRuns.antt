@@ -32,7 +32,7 @@ use Rattle.cli_report.specs.Devices.{Reading, Taken, Writing, taken, writing}
 use Rattle.cli_report.specs.declared.ending.Cause.{Cause}
 use Rattle.cli_report.specs.declared.ending.ExitStatus.{ExitStatus}
 use Rattle.cli_report.specs.declared.ending.ExitStatus.TheVariants as status
-use Rattle.cli_run.specs.Laws.{AreOfOneInput, AreOfSamePackets, AreToldAlike, EndAlike, MadeAlike, OneCalls, OneCount, OneListing, OneRun, OneSums, OneWithin, TellAlike}
+use Rattle.cli_run.specs.Laws.{AreOfOneInput, AreOfSamePackets, AreToldAlike, EndAlike, MadeAlike, OneCalls, OneCount, OneListing, OneRun, OneSums, OneWithin, HaveNoDouble, TellsOne}
 use Rattle.cli_run.specs.ByName.{EndsCounts, MakesCounts, counting, first_counts, span_of}
 use Rattle.cli_run.specs.CallListing.{EndsCalls, IsNote, MakesCalls, all_named, first_calls, lack_times, notes, numbered}
 use Rattle.cli_run.specs.CallSumming.{EndsSums, MakesSums, first_sums}
@@ -44,7 +44,6 @@ use Rattle.cli_run.specs.Needed.{IsReadFor}
 use Rattle.cli_run.specs.Output.{is_check, check_line, fault_line, form_of, header_before, is_spent, last_line, second_output, status_of, written}
 use Rattle.cli_run.specs.Refusals.{IsFaultIn}
 use Rattle.cli_run.specs.Rendering.{Makes, first_state, is_full}
-use Rattle.cli_run.specs.Shown.{AllShown, last_of, passed_of, shown_after, shown_of, shown_through}
 use Rattle.cli_run.specs.Running.{Writes, TellsLine}
 use Rattle.cli_run.specs.Told.{first_of, second_of}
 use Rattle.cli_run.specs.VisitorLaws.{wrote_both}
@@ -52,12 +51,14 @@ use Rattle.cli_run.specs.declared.tally.Tally.{Tally}
 use Rattle.cli_options.specs.declared.file_form.FileForm.{FileForm}
 use Rattle.cli_run.proofs.CallSteps.{rows_all}
 use Rattle.cli_run.proofs.CountSteps.{counts_all}
+use Rattle.cli_report.specs.FaultFronts.{IsFaultFront}
+use Rattle.cli_run.proofs.FrontSteps.{HaveSameFronts, refused_as, told_as}
 use Rattle.cli_run.proofs.GoSteps.{none_is as none_refused_is}
 use Rattle.cli_run.proofs.Outputs.{header_one}
 use Rattle.cli_run.proofs.PartLaws.{is_last, parts_more, parts_of}
-use Rattle.cli_run.proofs.SameOutputs.{ShowAlike, acts_as, are_passed, bare_placed, bare_tally, none_last, none_refused, none_told, one_placed, same_counts, same_last, same_outputs, same_told}
+use Rattle.cli_run.proofs.SameOutputs.{TellsOneOf, acts_as, are_passed, none_last, none_refused, none_told, one_placed, same_counts, same_last, same_outputs, same_told}
 use Rattle.cli_run.proofs.SameFar.{filled_alike, items_of, lines_filled, not_through, same_far}
-use Rattle.cli_run.proofs.SameParts.{AreKnown, AreSame, EndsHere, IsKeptOf, bare, ends_here, packet_by, same_cut, same_parts}
+use Rattle.cli_run.proofs.SameParts.{AreKnown, EndsAll, EndsHere, ends_here, one_packet, same_cut, same_parts}
 use Rattle.cli_run.proofs.SumSteps.{sums_all}
 use Rattle.std.specs.List.{concat}
 use Rattle.std.specs.Option.{is_none}
@@ -97,33 +98,24 @@ none_passed : (cut : Option (Option ℕ)) (parts : List Part) (rest : List ℕ) 
 none_passed None parts rest none = none
 none_passed (Some by) parts rest none = absurd (omega (arith, none))
 
-abbrev shown_far : {t : Taken} {settings : Settings} {is_check : Bool} {most : ℕ} {F : List Placed → Bool → Type 0} {N : (size : ℕ) → Type 0} {P : List Placed → (told : List ℕ) → Type 0} {end : ExitStatus} → GoesFar t settings most is_check F N P end → AllShown
-shown_far g = record { passed = passed_of g.parts; last = [] }
-
--- each refused message is told alike, or nothing was refused
-by_bytes : (settings : Settings) (end : ExitStatus) (a b : AllShown) → TellAlike settings end a b → (end ≡ status.Done) ⊎ (ShowAlike settings a.passed b.passed × ShowAlike settings a.last b.last)
-by_bytes settings end a b tells = elim tells [
-  | inl none ↦ elim none [ inl off ↦ inr (inl off, inl off) | inr done ↦ inl done ]
-  | inr alike ↦ inr (inr alike.passed, inr alike.last)
-]
+-- what is told of the rest is told of more bytes
+last_as : (settings : Settings) (all : Packets) (n offset : ℕ) (v w : List ℕ) (fault : Option Fault) (text : List ℕ) → HaveSameFronts settings.limits v w → IsToldLast (Some all) settings n offset v fault text → IsToldLast (Some all) settings n offset w fault text
+last_as settings all n offset v w None text same h = h
+last_as settings all n offset v w (Some fault) text same h = told_as (Some all) settings n offset v w fault text same h
 
 module _ (settings : Settings) (is_check : Bool) (input : List ℕ) (bytes : IsBytes input) where
   record IsReached {t : Taken} {most : ℕ} {tally : Tally} {fault : Option Fault} {told text : List ℕ} (h : IsThrough t settings most is_check tally fault told text) : Type 0 where
-    last : List ℕ
-    begin : BeginWithParts settings.limits input h.parts last
-    ends : EndsHere settings.limits t.packets h.cut settings (sizes_of h.parts) (looked_in h.parts) last h.tells.outcome
-    all_is : (by : Option ℕ) → h.cut ≡ Some by → last ≡ h.rest
-    fault_is : fault ≡ fault_at_end last h.tells.outcome
-    kept_is : IsKeptOf settings.limits h.tells.outcome h.kept last
+    more : List ℕ
+    begin : BeginWithParts settings.limits input h.parts (h.rest ++ more)
+    all : EndsAll settings.limits t.packets h.cut settings (sizes_of h.parts) (looked_in h.parts) h.rest more h.tells.outcome
 
   reached : {t : Taken} {most : ℕ} {tally : Tally} {fault : Option Fault} {told text : List ℕ} (h : IsThrough t settings most is_check tally fault told text) → t.left0 ≡ Some input → IsReached h
   reached {t} h known =
       let after = left_over t.left0 t.left1 input h.covers.bytes known h.covers.consumed in
-      let last = h.rest ++ after.0 in
       let none : IsAtEnd t.left1 → after.0 ≡ [] = λ e. subst IsAtEnd after.1 e in
-      let begin = subst (λ l. BeginWithParts settings.limits l h.parts last) (sym after.2) (parts_more settings.limits h.covers.bytes h.parts h.rest after.0 (λ e. none (h.covers.ends e)) h.covers.begin) in
-      let all = ends_here settings.limits t.packets h.cut settings (sizes_of h.parts) (looked_in h.parts) h.kept h.rest after.0 h.tells.outcome (IsAtEnd t.left1) none (parts_bytes settings.limits input h.parts last begin bytes) h.tells.outcome_is h.last in
-      record { last = last; begin = begin; ends = all.0; fault_is = h.tells.fault_is ∙ all.1; kept_is = all.2; all_is = all.3 }
+      let begin = subst (λ l. BeginWithParts settings.limits l h.parts (h.rest ++ after.0)) (sym after.2) (parts_more settings.limits h.covers.bytes h.parts h.rest after.0 (λ e. none (h.covers.ends e)) h.covers.begin) in
+      let all = ends_here settings.limits t.packets h.cut settings (sizes_of h.parts) (looked_in h.parts) h.rest after.0 h.tells.outcome (IsAtEnd t.left1) none (parts_bytes settings.limits input h.parts (h.rest ++ after.0) begin bytes) h.tells.outcome_is h.last in
+      record { more = after.0; begin = begin; all = all }
 
   -- the place after all parts
   after_all : (packets : Option Packets) (cut : Option (Option ℕ)) (n looked : ℕ) (w : List ℕ) (outcome : CutOutcome) → EndsHere settings.limits packets cut settings n looked w outcome → EndsHere settings.limits packets cut settings (0 + n) looked w outcome
@@ -135,13 +127,13 @@ module _ (settings : Settings) (is_check : Bool) (input : List ℕ) (bytes : IsB
   unrefused g done =
       let none = none_refused g.tally.passed g.fault (sym g.end_is ∙ done) in (
         none_passed g.through.cut g.through.parts g.through.rest (ap (λ (t : Tally). t.passed) (sym g.through.tally_is) ∙ none.0),
-        none_refused_is g.through.kept g.through.tells.outcome (sym none.1 ∙ g.through.tells.fault_is),
+        none_refused_is g.through.rest g.through.tells.outcome (sym none.1 ∙ g.through.tells.fault_is),
       )
 
   -- ---- two runs
 
   module _ {t u : Taken} {most more : ℕ} {F G : List Placed → Bool → Type 0} {P Q : List Placed → (told : List ℕ) → Type 0} {end other : ExitStatus} (g : GoesThrough t settings most is_check F P end) (h : GoesThrough u settings more is_check G Q other)
-      (explains : TellAlike settings end (shown_through g) (shown_through h)) (known : t.left0 ≡ Some input) (known_too : u.left0 ≡ Some input) (alike : AreTakenAlike t u end) where
+      (tells : TellsOne t.packets settings input end) (known : t.left0 ≡ Some input) (known_too : u.left0 ≡ Some input) (alike : AreTakenAlike t u end) where
     a : IsReached g.through
     a = reached g.through known
 
@@ -151,73 +143,69 @@ module _ (settings : Settings) (is_check : Bool) (input : List ℕ) (bytes : IsB
     known_alike : AreKnown settings.limits t.packets u.packets g.through.tells.outcome g.through.parts
     known_alike = elim alike [ inl packets ↦ inl packets | inr done ↦ inr (unrefused g done) ]
 
-    same : AreSame g.through.parts h.through.parts × (a.last ≡ b.last) × (looked_in g.through.parts ≡ looked_in h.through.parts)
-    same = same_parts settings.limits t.packets u.packets g.through.cut h.through.cut settings 0 0 0 0 input g.through.parts h.through.parts a.last b.last g.through.tells.outcome h.through.tells.outcome refl refl known_alike a.begin b.begin
-        (are_passed t.packets settings 1 0 0 g.through.parts g.told g.through.covers.tells) (are_passed u.packets settings 1 0 0 h.through.parts h.told h.through.covers.tells) (after_all t.packets g.through.cut (sizes_of g.through.parts) (looked_in g.through.parts) a.last g.through.tells.outcome a.ends) (after_all u.packets h.through.cut (sizes_of h.through.parts) (looked_in h.through.parts) b.last h.through.tells.outcome b.ends)
+    same : (g.through.parts ≡ h.through.parts) × (g.through.rest ++ a.more ≡ h.through.rest ++ b.more)
+    same = same_parts settings.limits t.packets u.packets g.through.cut h.through.cut settings 0 0 input g.through.parts h.through.parts (g.through.rest ++ a.more) (h.through.rest ++ b.more) g.through.tells.outcome h.through.tells.outcome known_alike a.begin b.begin
+        (are_passed t.packets settings 1 0 0 g.through.parts g.told g.through.covers.tells) (are_passed u.packets settings 1 0 0 h.through.parts h.told h.through.covers.tells)
+        (after_all t.packets g.through.cut (sizes_of g.through.parts) (looked_in g.through.parts) (g.through.rest ++ a.more) g.through.tells.outcome a.all.ends) (after_all u.packets h.through.cut (sizes_of h.through.parts) (looked_in h.through.parts) (h.through.rest ++ b.more) h.through.tells.outcome b.all.ends)
 
     outcome_is : g.through.tells.outcome ≡ h.through.tells.outcome
     outcome_is =
-        let last = subst (λ l. IsOutcome settings.limits l h.through.tells.outcome) (sym same.1) b.ends.outcome_is in
-        (IsCut-one settings.limits a.last [] [] a.last a.last _ _ (record { messages = refl; outcome_is = a.ends.outcome_is }) (record { messages = refl; outcome_is = last })).2
+        let last = subst (λ l. IsOutcome settings.limits l h.through.tells.outcome) (sym same.1) b.all.ends.outcome_is in
+        (IsCut-one settings.limits (g.through.rest ++ a.more) [] [] (g.through.rest ++ a.more) (g.through.rest ++ a.more) _ _ (record { messages = refl; outcome_is = a.all.ends.outcome_is }) (record { messages = refl; outcome_is = last })).2
 
     fault_is : g.fault ≡ h.fault
-    fault_is = a.fault_is ∙ ((λ i. fault_at_end (same.1 i) (outcome_is i)) ∙ sym b.fault_is)
-
-    parts_tally : tally_of g.through.parts ≡ tally_of h.through.parts
-    parts_tally = bare_tally g.through.parts ∙ (ap tally_of same.0 ∙ sym (bare_tally h.through.parts))
+    fault_is = g.through.tells.fault_is ∙ (a.all.fault_is ∙ ((λ i. fault_at_end (same.1 i) (outcome_is i)) ∙ (sym b.all.fault_is ∙ sym h.through.tells.fault_is)))
 
     cut_is : g.through.cut ≡ h.through.cut
     cut_is =
-        let offset : sizes_of h.through.parts ≡ sizes_of g.through.parts = ap (λ (t : Tally). t.size) (sym parts_tally) in
-        same_cut settings.limits t.packets u.packets g.through.cut h.through.cut settings (sizes_of g.through.parts) (looked_in g.through.parts) a.last _ _ outcome_is (elim alike [ inl packets ↦ inl packets | inr done ↦ inr (unrefused g done).1 ]) a.ends
-        (transport (λ i. EndsHere settings.limits u.packets h.through.cut settings (offset i) (sym same.2 i) (sym same.1 i) h.through.tells.outcome) b.ends)
+        same_cut settings.limits t.packets u.packets g.through.cut h.through.cut settings (sizes_of g.through.parts) (looked_in g.through.parts) (g.through.rest ++ a.more) g.through.tells.outcome (elim alike [ inl packets ↦ inl packets | inr done ↦ inr (unrefused g done).1 ]) a.all.ends
+        (transport (λ i. EndsHere settings.limits u.packets h.through.cut settings (sizes_of (sym same.0 i)) (looked_in (sym same.0 i)) (sym same.1 i) (sym outcome_is i)) b.all.ends)
 
     -- with what the input ends within
-    both_tally : (cut snip : Option (Option ℕ)) → cut ≡ snip → ((by : Option ℕ) → cut ≡ Some by → a.last ≡ g.through.rest) → ((by : Option ℕ) → snip ≡ Some by → b.last ≡ h.through.rest)
+    both_tally : (cut snip : Option (Option ℕ)) → cut ≡ snip → ((by : Option ℕ) → cut ≡ Some by → g.through.rest ++ a.more ≡ g.through.rest) → ((by : Option ℕ) → snip ≡ Some by → h.through.rest ++ b.more ≡ h.through.rest)
         → tally_with cut g.through.parts g.through.rest ≡ tally_with snip h.through.parts h.through.rest
-    both_tally None None e x y = parts_tally
+    both_tally None None e x y = ap tally_of same.0
     both_tally (Some by) (Some from) e x y =
         let there : length g.through.rest ≡ length h.through.rest = ap length (sym (x by refl) ∙ (same.1 ∙ y from refl)) in
         let one : by ≡ from = cc in
-        λ i. cut_tally (parts_tally i) (there i) (is_none (one i))
+        λ i. cut_tally (tally_of (same.0 i)) (there i) (is_none (one i))
     both_tally (Some by) None e x y = absurd cc
     both_tally None (Some by) e x y = absurd cc
 
     tally_is : g.tally ≡ h.tally
-    tally_is = g.through.tally_is ∙ (both_tally g.through.cut h.through.cut cut_is a.all_is b.all_is ∙ sym h.through.tally_is)
-
-    told_last : IsToldLast u.packets settings (length g.through.parts + 1) (sizes_of g.through.parts) h.through.kept g.fault h.text
-    told_last = transport (λ i. let t = sym parts_tally i in IsToldLast u.packets settings (t.count + 1) t.size h.through.kept (sym fault_is i) h.text) h.through.tells.told
+    tally_is = g.through.tally_is ∙ (both_tally g.through.cut h.through.cut cut_is a.all.all_is b.all.all_is ∙ sym h.through.tally_is)
 
     -- nothing is refused
     none_is : end ≡ status.Done → g.told ++ g.text ≡ h.told ++ h.text
     none_is done =
         let none = none_refused g.tally.passed g.fault (sym g.end_is ∙ done) in
         let passed = (unrefused g done).0 in
-        let passed_too : passed_count h.through.parts ≡ 0 = ap (λ (t : Tally). t.passed) (sym parts_tally) ∙ passed in
         let first = none_told settings t.packets 1 0 0 g.through.parts g.told passed g.through.covers.tells in
-        let first_too = none_told settings u.packets 1 0 0 h.through.parts h.told passed_too h.through.covers.tells in
-        let last = none_last settings t.packets (length g.through.parts + 1) (sizes_of g.through.parts) g.through.kept g.fault g.text none.1 g.through.tells.told in
-        let last_too = none_last settings u.packets (length g.through.parts + 1) (sizes_of g.through.parts) h.through.kept g.fault h.text none.1 told_last in
+        let first_too = none_told settings u.packets 1 0 0 h.through.parts h.told (ap passed_count (sym same.0) ∙ passed) h.through.covers.tells in
+        let last = none_last settings t.packets (length g.through.parts + 1) (sizes_of g.through.parts) g.through.rest g.fault g.text none.1 g.through.tells.told in
+        let last_too = none_last settings u.packets (length h.through.parts + 1) (sizes_of h.through.parts) h.through.rest h.fault h.text (sym fault_is ∙ none.1) h.through.tells.told in
         (λ i. first i ++ last i) ∙ sym (λ i. first_too i ++ last_too i)
 
-    -- or what is refused is of the same packets, and is told alike
-    line_is : ShowAlike settings (passed_of g.through.parts) (passed_of h.through.parts) → ShowAlike settings (last_of g.through.kept g.fault) (last_of h.through.kept h.fault) → (all : Packets) → t.packets ≡ Some all → u.packets ≡ Some all → g.told ++ g.text ≡ h.told ++ h.text
-    line_is passed ending all one too =
+    -- or what is refused is of the same packets
+    line_is : (all : Packets) → t.packets ≡ Some all → u.packets ≡ Some all → TellsOneOf settings all 1 0 0 input → g.told ++ g.text ≡ h.told ++ h.text
+    line_is all one too told =
         let parts = subst (λ (p : Option Packets). AreTold p settings 1 0 0 g.through.parts g.told) one g.through.covers.tells in
-        let parts_too = subst (λ (p : Option Packets). AreTold p settings 1 0 0 h.through.parts h.told) too h.through.covers.tells in
-        let first = same_told settings all 1 0 0 0 input g.through.parts h.through.parts a.last b.last g.told h.told same.0 passed a.begin b.begin parts parts_too in
-        let text = subst (λ (p : Option Packets). IsToldLast p settings (length g.through.parts + 1) (sizes_of g.through.parts) g.through.kept g.fault g.text) one g.through.tells.told in
-        let text_too = subst (λ (p : Option Packets). IsToldLast p settings (length g.through.parts + 1) (sizes_of g.through.parts) h.through.kept g.fault h.text) too told_last in
-        let kept = transport (λ i. IsKeptOf settings.limits (sym outcome_is i) h.through.kept (sym same.1 i)) b.kept_is in
-        let shows = subst (λ (f : Option Fault). ShowAlike settings (last_of g.through.kept g.fault) (last_of h.through.kept f)) (sym fault_is) ending in
-        let last = same_last settings all (length g.through.parts + 1) (sizes_of g.through.parts) a.last g.through.kept h.through.kept g.through.tells.outcome g.fault g.text h.text a.kept_is kept shows text text_too in
+        let parts_too = transport (λ i. AreTold (too i) settings 1 0 0 (sym same.0 i) h.told) h.through.covers.tells in
+        let first = same_told settings all 1 0 0 input g.through.parts (g.through.rest ++ a.more) g.told h.told told a.begin parts parts_too in
+        let text = last_as settings all (length g.through.parts + 1) (sizes_of g.through.parts) g.through.rest (g.through.rest ++ a.more) g.fault g.text a.all.fronts (subst (λ (p : Option Packets). IsToldLast p settings (length g.through.parts + 1) (sizes_of g.through.parts) g.through.rest g.fault g.text) one g.through.tells.told) in
+        let text_too = last_as settings all (length h.through.parts + 1) (sizes_of h.through.parts) h.through.rest (h.through.rest ++ b.more) h.fault h.text b.all.fronts (subst (λ (p : Option Packets). IsToldLast p settings (length h.through.parts + 1) (sizes_of h.through.parts) h.through.rest h.fault h.text) too h.through.tells.told) in
+        let text_there = transport (λ i. IsToldLast (Some all) settings (length (sym same.0 i) + 1) (sizes_of (sym same.0 i)) (sym same.1 i) (sym fault_is i) h.text) text_too in
+        let last = same_last settings all 1 0 0 (length g.through.parts + 1) (sizes_of g.through.parts) input g.through.parts (g.through.rest ++ a.more) a.all.ends.front g.told g.fault g.through.tells.outcome g.text h.text told a.begin parts
+        a.all.ends.is_front a.all.ends.outcome_is (g.through.tells.fault_is ∙ a.all.fault_is) text text_there in
         λ i. first i ++ last i
 
     told_is : g.told ++ g.text ≡ h.told ++ h.text
-    told_is = elim (by_bytes settings end (shown_through g) (shown_through h) explains) [
-      | inl done ↦ none_is done
-      | inr tells ↦ elim alike [ inl packets ↦ line_is tells.0 tells.1 packets.0 packets.1 packets.2 | inr done ↦ none_is done ]
+    told_is = elim alike [
+      | inr done ↦ none_is done
+      | inl packets ↦ elim tells [
+        | inl plain ↦ line_is packets.0 packets.1 packets.2 (inl plain)
+        | inr other ↦ elim other [ inl done ↦ none_is done | inr none ↦ line_is packets.0 packets.1 packets.2 (inr (subst (λ (p : Option Packets). HaveNoDouble p settings 1 0 0 input) packets.1 none)) ]
+      ]
     ]
 
     goes_alike : AreAlikeRuns t u P Q end other
@@ -230,9 +218,9 @@ module _ (settings : Settings) (is_check : Bool) (input : List ℕ) (bytes : IsB
           g.came,
           subst (λ (l : List ℕ). Q h.messages l) (sym all) h.came,
           h.end_is ∙ ((λ i. status_at (sym tally_is i).passed (sym fault_is i)) ∙ sym g.end_is),
-          bare g.through.parts,
-          bare_placed t.packets 1 0 g.through.parts g.messages g.placed,
-          subst (λ (l : List Part). ArePlaced u.packets 1 0 l h.messages) (sym same.0) (bare_placed u.packets 1 0 h.through.parts h.messages h.placed),
+          g.through.parts,
+          g.placed,
+          subst (λ (l : List Part). ArePlaced u.packets 1 0 l h.messages) (sym same.0) h.placed,
         )
 
   -- ---- two runs that end since no more is wanted
@@ -245,69 +233,67 @@ module _ (settings : Settings) (is_check : Bool) (input : List ℕ) (bytes : IsB
 
   module _ {t u : Taken} {most more : ℕ} {F G : List Placed → Bool → Type 0} {P Q : List Placed → (told : List ℕ) → Type 0} {end other : ExitStatus} (one : (s l : List Placed) (x y : Bool) → items_of s ≡ items_of l → F s x → G l y → x ≡ y)
       (known : t.left0 ≡ Some input) (known_too : u.left0 ≡ Some input) (alike : AreTakenAlike t u end) where
-    module _ {N M : (size : ℕ) → Type 0} (g : GoesFar t settings most is_check F N P end) (h : GoesFar u settings more is_check G M Q other) (explains : TellAlike settings end (shown_far g) (shown_far h)) where
-      far_same : AreSame g.parts h.parts × ((far_begins g known).0 ≡ (far_begins h known_too).0)
-      far_same = same_far settings.limits F G one t.packets u.packets settings 1 0 1 0 0 0 input g.parts h.parts _ _ g.messages h.messages [] [] refl (far_begins g known).1 (far_begins h known_too).1 g.placed h.placed g.wanted h.wanted
-          g.enough.0 h.enough.0 (are_passed t.packets settings 1 0 0 g.parts g.told g.covers.tells) (are_passed u.packets settings 1 0 0 h.parts h.told h.covers.tells) g.enough.1 h.enough.1 refl refl
-          (elim alike [ inl packets ↦ inl packets | inr done ↦ inr (none_refused (passed_count g.parts) None (sym g.end_is ∙ done)).0 ])
+    module _ {N M : (size : ℕ) → Type 0} (g : GoesFar t settings most is_check F N P end) (h : GoesFar u settings more is_check G M Q other) (tells : TellsOne t.packets settings input end) where
+      far_none : end ≡ status.Done → passed_count g.parts ≡ 0
+      far_none done = (none_refused (passed_count g.parts) None (sym g.end_is ∙ done)).0
 
-      far_tally : tally_of g.parts ≡ tally_of h.parts
-      far_tally = bare_tally g.parts ∙ (ap tally_of far_same.0 ∙ sym (bare_tally h.parts))
+      far_same : g.parts ≡ h.parts
+      far_same = same_far settings.limits F G one t.packets u.packets settings input g.parts h.parts _ _ g.messages h.messages (elim alike [ inl packets ↦ inl packets | inr done ↦ inr (far_none done) ]) (far_begins g known).1 (far_begins h known_too).1 g.placed h.placed g.wanted h.wanted
+          g.enough.0 h.enough.0 (are_passed t.packets settings 1 0 0 g.parts g.told g.covers.tells) (are_passed u.packets settings 1 0 0 h.parts h.told h.covers.tells) g.enough.1 h.enough.1
 
-      far_none : end ≡ status.Done → g.told ≡ h.told
-      far_none done =
-          let none : passed_count g.parts ≡ 0 = (none_refused (passed_count g.parts) None (sym g.end_is ∙ done)).0 in
-          let none_too : passed_count h.parts ≡ 0 = ap (λ (x : Tally). x.passed) (sym far_tally) ∙ none in
-          none_told settings t.packets 1 0 0 g.parts g.told none g.covers.tells ∙ sym (none_told settings u.packets 1 0 0 h.parts h.told none_too h.covers.tells)
+      far_unrefused : end ≡ status.Done → g.told ≡ h.told
+      far_unrefused done =
+          none_told settings t.packets 1 0 0 g.parts g.told (far_none done) g.covers.tells ∙ sym (none_told settings u.packets 1 0 0 h.parts h.told (ap passed_count (sym far_same) ∙ far_none done) h.covers.tells)
 
-      far_lines : ShowAlike settings (passed_of g.parts) (passed_of h.parts) → (all : Packets) → t.packets ≡ Some all → u.packets ≡ Some all → g.told ≡ h.told
-      far_lines passed all here there =
+      far_lines : (all : Packets) → t.packets ≡ Some all → u.packets ≡ Some all → TellsOneOf settings all 1 0 0 input → g.told ≡ h.told
+      far_lines all here there told =
           let parts = subst (λ (p : Option Packets). AreTold p settings 1 0 0 g.parts g.told) here g.covers.tells in
-          let parts_too = subst (λ (p : Option Packets). AreTold p settings 1 0 0 h.parts h.told) there h.covers.tells in
-          same_told settings all 1 0 0 0 input g.parts h.parts _ _ g.told h.told far_same.0 passed (far_begins g known).1 (far_begins h known_too).1 parts parts_too
+          let parts_too = transport (λ i. AreTold (there i) settings 1 0 0 (sym far_same i) h.told) h.covers.tells in
+          same_told settings all 1 0 0 input g.parts (far_begins g known).0 g.told h.told told (far_begins g known).1 parts parts_too
 
       far_told : g.told ≡ h.told
-      far_told = elim (by_bytes settings end (shown_far g) (shown_far h) explains) [
-        | inl done ↦ far_none done
-        | inr tells ↦ elim alike [ inl packets ↦ far_lines tells.0 packets.0 packets.1 packets.2 | inr done ↦ far_none done ]
+      far_told = elim alike [
+        | inr done ↦ far_unrefused done
+        | inl packets ↦ elim tells [
+          | inl plain ↦ far_lines packets.0 packets.1 packets.2 (inl plain)
+          | inr other ↦ elim other [ inl done ↦ far_unrefused done | inr none ↦ far_lines packets.0 packets.1 packets.2 (inr (subst (λ (p : Option Packets). HaveNoDouble p settings 1 0 0 input) packets.1 none)) ]
+        ]
       ]
 
       far_alike : AreAlikeRuns t u P Q end other
       far_alike =
-          let line : g.line ≡ h.line = g.enough.2 ∙ ((λ i. closing_line settings.as_json is_check settings.keeps_going (far_tally i) (far_tally i).passed None) ∙ sym h.enough.2) in (
+          let line : g.line ≡ h.line = g.enough.2 ∙ ((λ i. closing_line settings.as_json is_check settings.keeps_going (tally_of (far_same i)) (passed_count (far_same i)) None) ∙ sym h.enough.2) in (
             g.messages,
             h.messages,
             g.told ++ g.line,
             g.came,
             subst (λ (l : List ℕ). Q h.messages l) (sym (λ i. far_told i ++ line i)) h.came,
-            h.end_is ∙ ((λ i. status_at (sym far_tally i).passed None) ∙ sym g.end_is),
-            bare g.parts,
-            bare_placed t.packets 1 0 g.parts g.messages g.placed,
-            subst (λ (l : List Part). ArePlaced u.packets 1 0 l h.messages) (sym far_same.0) (bare_placed u.packets 1 0 h.parts h.messages h.placed),
+            h.end_is ∙ ((λ i. status_at (passed_count (sym far_same i)) None) ∙ sym g.end_is),
+            g.parts,
+            g.placed,
+            subst (λ (l : List Part). ArePlaced u.packets 1 0 l h.messages) (sym far_same) h.placed,
           )
 
     -- one that goes through, and one that does not
     far_not : {M : (size : ℕ) → Type 0} (g : GoesThrough t settings most is_check F P end) (h : GoesFar u settings more is_check G M Q other) → ⊥
     far_not g h =
         let a = reached g.through known in
-        let b = far_begins h known_too in
-        not_through settings.limits F G one t.packets u.packets g.through.cut settings 1 0 1 0 0 0 input g.through.parts h.parts a.last b.0 g.through.tells.outcome g.messages h.messages [] [] refl a.begin b.1 g.placed h.placed g.wanted h.wanted
-        (after_all t.packets g.through.cut (sizes_of g.through.parts) (looked_in g.through.parts) a.last g.through.tells.outcome a.ends) (are_passed t.packets settings 1 0 0 g.through.parts g.told g.through.covers.tells) (are_passed u.packets settings 1 0 0 h.parts h.told h.covers.tells) g.unfilled h.enough.1 refl refl
-        (elim alike [ inl packets ↦ inl packets | inr done ↦ inr (inl (unrefused g done)) ])
+        not_through settings.limits F G one t.packets u.packets g.through.cut settings input g.through.parts h.parts (g.through.rest ++ a.more) (far_begins h known_too).0 g.through.tells.outcome g.messages h.messages
+        (elim alike [ inl packets ↦ inl packets | inr done ↦ inr (inl (unrefused g done)) ]) a.begin (far_begins h known_too).1 g.placed h.placed g.wanted
+        (after_all t.packets g.through.cut (sizes_of g.through.parts) (looked_in g.through.parts) (g.through.rest ++ a.more) g.through.tells.outcome a.all.ends) (are_passed t.packets settings 1 0 0 g.through.parts g.told g.through.covers.tells) (are_passed u.packets settings 1 0 0 h.parts h.told h.covers.tells) g.unfilled h.enough.1
 
     not_far : {N : (size : ℕ) → Type 0} (g : GoesFar t settings most is_check F N P end) (h : GoesThrough u settings more is_check G Q other) → ⊥
     not_far g h =
-        let a = far_begins g known in
         let b = reached h.through known_too in
-        not_through settings.limits G F (λ s l x y e p q. sym (one l s y x (sym e) q p)) u.packets t.packets h.through.cut settings 1 0 1 0 0 0 input h.through.parts g.parts b.last a.0 h.through.tells.outcome h.messages g.messages [] [] refl b.begin a.1
-        h.placed g.placed h.wanted g.wanted (after_all u.packets h.through.cut (sizes_of h.through.parts) (looked_in h.through.parts) b.last h.through.tells.outcome b.ends) (are_passed u.packets settings 1 0 0 h.through.parts h.told h.through.covers.tells) (are_passed t.packets settings 1 0 0 g.parts g.told g.covers.tells) h.unfilled g.enough.1 refl refl
-        (elim alike [ inl packets ↦ inl (packets.0, packets.2, packets.1) | inr done ↦ inr (inr (none_refused (passed_count g.parts) None (sym g.end_is ∙ done)).0) ])
+        not_through settings.limits G F (λ s l x y e p q. sym (one l s y x (sym e) q p)) u.packets t.packets h.through.cut settings input h.through.parts g.parts (h.through.rest ++ b.more) (far_begins g known).0 h.through.tells.outcome h.messages g.messages
+        (elim alike [ inl packets ↦ inl (packets.0, packets.2, packets.1) | inr done ↦ inr (inr (none_refused (passed_count g.parts) None (sym g.end_is ∙ done)).0) ]) b.begin (far_begins g known).1 h.placed g.placed h.wanted
+        (after_all u.packets h.through.cut (sizes_of h.through.parts) (looked_in h.through.parts) (h.through.rest ++ b.more) h.through.tells.outcome b.all.ends) (are_passed u.packets settings 1 0 0 h.through.parts h.told h.through.covers.tells) (are_passed t.packets settings 1 0 0 g.parts g.told g.covers.tells) h.unfilled g.enough.1
 
-    ends_alike : {N M : (size : ℕ) → Type 0} (g : Goes t settings most is_check F N P end) (h : Goes u settings more is_check G M Q other) → TellAlike settings end (shown_of g) (shown_of h) → AreAlikeRuns t u P Q end other
-    ends_alike (inl through) (inl too) explains = goes_alike through.0 too.0 explains known known_too alike
-    ends_alike (inl through) (inr far) explains = absurd (far_not through.0 far)
-    ends_alike (inr far) (inl too) explains = absurd (not_far far too.0)
-    ends_alike (inr far) (inr far_too) explains = far_alike far far_too explains
+    ends_alike : {N M : (size : ℕ) → Type 0} (g : Goes t settings most is_check F N P end) (h : Goes u settings more is_check G M Q other) → TellsOne t.packets settings input end → AreAlikeRuns t u P Q end other
+    ends_alike (inl through) (inl too) tells = goes_alike through.0 too.0 tells known known_too alike
+    ends_alike (inl through) (inr far) tells = absurd (far_not through.0 far)
+    ends_alike (inr far) (inl too) tells = absurd (not_far far too.0)
+    ends_alike (inr far) (inr far_too) tells = far_alike far far_too tells
 
 -- ---- the laws
 
@@ -340,8 +326,8 @@ one_run R S W V E F r s w v e f settings most more command copy end other same (
     let acts = acts_as command copy same in
     let checks = acts.checks in
     let input = is.input in
-    let k = subst (λ c. (k : Goes (taken s) settings more c (FillsFrom Makes (first_state copy settings.window) is_full) (IsReadFor s) (Writes v f settings copy) other) × TellAlike settings end (shown_of g) (shown_of k)) (sym checks) (h, is.shown) in
-    let all = ends_alike settings (is_check command) input.0 input.1 (run_filled command copy same settings.window) input.2 input.3 (taken_alike r s end end refl is.told) g k.0 k.1 in
+    let k = subst (λ c. Goes (taken s) settings more c (FillsFrom Makes (first_state copy settings.window) is_full) (IsReadFor s) (Writes v f settings copy) other) (sym checks) h in
+    let all = ends_alike settings (is_check command) input.0 input.1 (run_filled command copy same settings.window) input.2 input.3 (taken_alike r s end end refl is.told) g k is.one in
     let one = all.0 in
     let other = all.1 in
     let told = all.2 in (
@@ -361,7 +347,7 @@ one_run R S W V E F r s w v e f settings most more command copy end other same (
 pub one_listing : (R S W V E F : Type 0) → OneListing R S W V E F
 one_listing R S W V E F r s w v e f settings wanted most more end other (inl g) (inl h) is packets =
     let input = is.input in
-    made_alike r s (ends_alike settings false input.0 input.1 (list_filled wanted settings.window) input.2 input.3 (taken_alike r s end end refl is.told) g h is.shown) packets
+    made_alike r s (ends_alike settings false input.0 input.1 (list_filled wanted settings.window) input.2 input.3 (taken_alike r s end end refl is.told) g h is.one) packets
 one_listing R S W V E F r s w v e f settings wanted most more end other (inl g) (inr gave_up) is packets = absurd (is.other_done gave_up.failed)
 one_listing R S W V E F r s w v e f settings wanted most more end other (inr gave_up) listed is packets = absurd (is.done gave_up.failed)
 
@@ -402,20 +388,20 @@ module _ {T : Type 0} (makes : T → List Placed → List ℕ → T → Type 0) 
   ]
 
   module _ {R S W V E F : Type 0} (r : Reading R) (s : Reading S) (w : Writing W) (v : Writing V) (e : Writing E) (f : Writing F) (settings : Settings) {most more : ℕ} {end other : ExitStatus} where
-    all_alike : (g : EndsAfterAll makes t ends r w e settings most end) (h : EndsAfterAll makes t ends s v f settings more other) → AreOfOneInput r s settings end other (shown_through g.through) (shown_through h.through)
+    all_alike : (g : EndsAfterAll makes t ends r w e settings most end) (h : EndsAfterAll makes t ends s v f settings more other) → AreOfOneInput r s settings end other
         → AreAlikeRuns (taken r) (taken s) (WroteAll w e) (WroteAll v f) end other
     all_alike g h is =
         let input = is.input in
         let due = (wrote_all w e g.middle g.before g.last g.due end g.through.messages _ is.done g.through.came g.ends_so).1 in
-        let tells = subst (λ (x : ExitStatus). TellAlike settings x (shown_through g.through) (shown_through h.through)) due is.shown in
+        let tells = subst (λ (x : ExitStatus). TellsOne (r.packets r.old) settings input.0 x) due is.one in
         let all = goes_alike settings false input.0 input.1 g.through h.through tells input.2 input.3 (taken_alike r s _ g.due (sym due) is.told) in
         let one = wrote_all w e g.middle g.before g.last g.due end all.0 all.2 is.done all.3 g.ends_so in
         let too = wrote_all v f h.middle h.before h.last h.due other all.1 all.2 is.other_done all.4 h.ends_so in
         (all.0, all.1, all.2, one.0, too.0, too.1 ∙ (all.5 ∙ sym one.1), all.6, all.7, all.8)
 
     -- the law: if what is made of the same messages is the same, they end alike
-    one_meaning : ((items : List Placed) (a b : T) (p q x y m n : List ℕ) → makes t items p a → ends a x m → makes t items q b → ends b y n → (p ++ x ≡ q ++ y) × (m ≡ n)) → (runs : RunsToEnd makes t ends r w e settings most end) → (ran : RunsToEnd makes t ends s v f settings more other)
-        → AreOfOneInput r s settings end other (shown_after runs) (shown_after ran) → AreOfSamePackets r s → EndAlike w v e f end other
+    one_meaning : ((items : List Placed) (a b : T) (p q x y m n : List ℕ) → makes t items p a → ends a x m → makes t items q b → ends b y n → (p ++ x ≡ q ++ y) × (m ≡ n)) → RunsToEnd makes t ends r w e settings most end → RunsToEnd makes t ends s v f settings more other
+        → AreOfOneInput r s settings end other → AreOfSamePackets r s → EndAlike w v e f end other
     one_meaning one (inl g) (inl h) is packets =
         let all = all_alike g h is in
         let a = all.3 in
@@ -485,15 +471,15 @@ limits_alone limits = record { limits = limits; as_json = false; explains = fals
 
 whole_cut : (limits : Limits) (input bytes rest : List ℕ) (left0 left1 : Option (List ℕ)) (items : List CutMessage) (outcome : CutOutcome) → left0 ≡ Some input → IsBytes input → Consumes left0 left1 bytes
     → IsCut limits bytes items rest outcome → (((f : Fault) → outcome ≡ Refused f → ⊥) → IsAtEnd left1)
-    → (last : List ℕ) × IsCut limits input items last outcome × (fault_at_end rest outcome ≡ fault_at_end last outcome) × IsKeptOf limits outcome rest last
+    → (more : List ℕ) × IsCut limits input items (rest ++ more) outcome × EndsAll limits None None (limits_alone limits) (sizes items) 0 rest more outcome
 whole_cut limits input bytes rest left0 left1 items outcome known are consumed cut at_end =
     let after = left_over left0 left1 input bytes known consumed in
     let last = rest ++ after.0 in
     let begin = subst (λ l. BeginWith limits l items last) (sym after.2) (BeginWith-more limits bytes items rest after.0 cut.messages) in
     let all = parts_bytes limits input (wholes items) last (parts_of limits input items last begin) are in
     let none : IsAtEnd left1 → after.0 ≡ [] = λ e. subst IsAtEnd after.1 e in
-    let ends = ends_here limits None None (limits_alone limits) (sizes items) 0 rest rest after.0 outcome (IsAtEnd left1) none all cut.outcome_is (is_last None (limits_alone limits) limits (sizes items) 0 rest outcome (IsAtEnd left1) refl at_end) in
-    (last, record { messages = begin; outcome_is = ends.0.outcome_is }, ends.1, ends.2)
+    let ends = ends_here limits None None (limits_alone limits) (sizes items) 0 rest after.0 outcome (IsAtEnd left1) none all cut.outcome_is (is_last None (limits_alone limits) limits (sizes items) 0 rest outcome (IsAtEnd left1) refl at_end) in
+    (after.0, record { messages = begin; outcome_is = ends.ends.outcome_is }, ends)
 
 -- the lines of a fault are the same if its packet is
 lines_alike : (count size : ℕ) (fault : Option Fault) (p q : Option ℕ) → ((f : Fault) → fault ≡ Some f → p ≡ q)
@@ -507,13 +493,13 @@ not_done None f end is by done = absurd cc
 not_done (Some fault) f end is by done = let never : status.Refused ≡ status.Done = sym by ∙ done in absurd cc
 
 -- the fault of the rest is of one packet
-packets_alike : (limits : Limits) (all : Packets) (packets others : Option Packets) (w rest last : List ℕ) (size long : ℕ) (outcome ending : CutOutcome) (fault because : Option Fault) (f : Fault) (p q : Option ℕ)
-    → packets ≡ Some all → others ≡ Some all → long ≡ size → ending ≡ outcome → fault ≡ Some f → because ≡ Some f → IsKeptOf limits outcome rest w → IsKeptOf limits ending last w
+packets_alike : (limits : Limits) (all : Packets) (packets others : Option Packets) (rest last w front : List ℕ) (size long : ℕ) (fault because : Option Fault) (f : Fault) (p q : Option ℕ)
+    → packets ≡ Some all → others ≡ Some all → long ≡ size → fault ≡ Some f → because ≡ Some f → HaveSameFronts limits rest w → HaveSameFronts limits last w → IsFaultFront limits w front
     → IsFaultIn packets limits size rest fault p → IsFaultIn others limits long last because q → p ≡ q
-packets_alike limits all packets others w rest last size long outcome ending fault because f p q one too place same is by kept also x y =
+packets_alike limits all packets others rest last w front size long fault because f p q one too place is by fronts fronts_too is_front x y =
     let here = transport (λ i. IsFaultIn (one i) limits size rest (is i) p) x in
     let there = transport (λ i. IsFaultIn (too i) limits (place i) last (by i) q) y in
-    packet_by limits all size w rest last outcome p q kept (subst (λ (o : CutOutcome). IsKeptOf limits o last w) same also) here there
+    one_packet limits all size w front p q is_front (refused_as limits rest w fronts (Some all) size p here) (refused_as limits last w fronts_too (Some all) size q there)
 
 told_line : {E : Type 0} (e : Writing E) (line : List ℕ) (fault : Option Fault) (end : ExitStatus) → end ≢ status.Failed → TellsLine e line fault end
     → Wrote e.held e.failures e.old line e.new × (end ≡ status_of fault)
@@ -526,18 +512,18 @@ one_within R S W V E F r s w v e f limits most more command copy end other same 
         let acts = acts_as command copy same in
         let one = whole_cut limits input.0 a.bytes a.rest (r.left r.old) (r.left r.new) a.items a.outcome input.2 input.1 a.consumed a.cut a.at_end in
         let too = whole_cut limits input.0 b.bytes b.rest (s.left s.old) (s.left s.new) b.items b.outcome input.3 input.1 b.consumed b.cut b.at_end in
-        let cut = IsCut-one limits input.0 a.items b.items one.0 too.0 a.outcome b.outcome one.1 too.1 in
-        let fault : fault_at_end a.rest a.outcome ≡ fault_at_end b.rest b.outcome = one.2 ∙ ((λ i. fault_at_end (cut.1 i) (cut.2 i)) ∙ sym too.2) in
+        let cut = IsCut-one limits input.0 a.items b.items (a.rest ++ one.0) (b.rest ++ too.0) a.outcome b.outcome one.1 too.1 in
+        let fault : fault_at_end a.rest a.outcome ≡ fault_at_end b.rest b.outcome = one.2.fault_is ∙ ((λ i. fault_at_end (cut.1 i) (cut.2 i)) ∙ sym too.2.fault_is) in
         let there = subst (λ (l : List CutMessage). ArePlaced (s.packets s.old) 1 0 (wholes l) b.output.messages) (sym cut.0) b.output.placed in
         let texts = same_outputs command copy acts exact (r.packets r.old) (s.packets s.old) placed_alike (wholes a.items) a.output.messages b.output.messages a.output.texts b.output.texts a.output.placed there
         a.output.each b.output.each in
         let told = told_line e _ _ end done a.second in
         let told_too = told_line f _ _ other other_done b.second in
         let size : sizes b.items ≡ sizes a.items = ap sizes (sym cut.0) in
-        let kept_too = subst (λ (l : List ℕ). IsKeptOf limits b.outcome b.rest l) (sym cut.1) too.3 in
+        let fronts_too = subst (λ (l : List ℕ). HaveSameFronts limits b.rest l) (sym cut.1) too.2.fronts in
         let packet : (why : Fault) → fault_at_end a.rest a.outcome ≡ Some why → a.packet ≡ b.packet = λ why is. elim alike [
-          | inl both ↦ packets_alike limits both.all (r.packets r.old) (s.packets s.old) one.0 a.rest b.rest (sizes a.items) (sizes b.items) a.outcome b.outcome (fault_at_end a.rest a.outcome) (fault_at_end b.rest b.outcome) why
-              a.packet b.packet both.one both.same size (sym cut.2) is (sym fault ∙ is) one.3 kept_too a.packet_is b.packet_is
+          | inl both ↦ packets_alike limits both.all (r.packets r.old) (s.packets s.old) a.rest b.rest (a.rest ++ one.0) one.2.ends.front (sizes a.items) (sizes b.items) (fault_at_end a.rest a.outcome) (fault_at_end b.rest b.outcome) why
+              a.packet b.packet both.one both.same size is (sym fault ∙ is) one.2.fronts fronts_too one.2.ends.is_front a.packet_is b.packet_is
           | inr all ↦ absurd (not_done (fault_at_end a.rest a.outcome) why end is told.1 all)
         ] in
         let lines = lines_alike (length a.items) (sizes a.items) (fault_at_end a.rest a.outcome) a.packet b.packet packet in

@@ -56,7 +56,7 @@ not_none (part ∷ parts) x items = λ e. absurd cc
 ends_some : (parts : List Part) (x : CutMessage) (items : List CutMessage) → EndsWhole (parts ++ wholes (x ∷ items))
 ends_some [] x items = ends_items (x ∷ items)
 ends_some (Whole item ∷ parts) x items = ends_some parts x items
-ends_some (PassedOver kept fault by size ∷ parts) x items = (not_none parts x items, ends_some parts x items)
+ends_some (PassedOver front fault by size ∷ parts) x items = (not_none parts x items, ends_some parts x items)
 
 pub ends_whole : (parts : List Part) (items : List CutMessage) → (items ≡ [] → parts ≡ []) → EndsWhole (parts ++ wholes items)
 ends_whole parts [] none = subst EndsWhole (sym (append-nil parts ∙ none refl)) tt

@@ -283,6 +283,6 @@ module _ {C S W E : Type 0} (stands : C → S → Type 0) (makes : S → List Pl
         let done = goes_as all (λ parts items said placed h. let d = done_by s there none first second loud last items said (comes parts items placed) h in (d.0, wrote d.0.then d.1)) both.0 in
         let through = subst (λ (r : _). (g : GoesThrough (taken (reading left_in calls read_failures packets r0 r)) settings most false WantsAll
         (λ items said. (h : WritesMade makes s false (writing held failures a.first.now w2) (writing second_held second_failures a.second.now e2) items said) × WritesLast ends h.then (writing held failures w2 w3) res) due)
-        × ReadsToSee settings g.fault g.through.parts g.through.kept (IsReadFor (reading left_in calls read_failures packets r0 r))) source
-        (done, λ faultless. reads_as (WantToSee settings.limits both.0.through.parts both.0.through.kept) reads (both.1 faultless)) in
+        × ReadsToSee settings g.fault g.through.parts g.through.rest (IsReadFor (reading left_in calls read_failures packets r0 r))) source
+        (done, λ faultless. reads_as (WantToSee settings.limits both.0.through.parts both.0.through.rest) reads (both.1 faultless)) in
         record { due = due; middle = w2; before = e2; last = res; through = through.0; reads = through.1; ends_so = told }

@@ -97,5 +97,5 @@ stopped_by count size Enough = Ok (record { count = count; size = size; fault = 
 abbrev pub Tallies : {R : Type 0} → Reading R → Settings → (most : ℕ) → (packet : Option ℕ) → Result Counted Cause → Type 0
 Tallies r settings most packet (Ok counted) =
     (t : IsThrough (taken r) settings most true (record { count = counted.count; size = counted.size; passed = 0; passed_size = 0; is_cut = false }) counted.fault [] (fault_line counted.size counted.fault packet))
-    × ReadsToSee settings counted.fault t.parts t.kept (IsReadFor r)
+    × ReadsToSee settings counted.fault t.parts t.rest (IsReadFor r)
 Tallies r settings most packet (Err cause) = StopsWithin (taken r) settings most true WantsAll (λ items told stop. IsUnwritten stop × (told ≡ [])) (ByCause cause)

@@ -5,6 +5,7 @@ use Rattle.std.specs.Prelude.{◌≡◌, ◌≢◌, ℕ, zero, suc, ◌+◌, ◌
 use Rattle.std.specs.Option.{is_none}
 use Rattle.std.specs.Io.KnownBytes.{Consumes, IsAtEnd}
 use Rattle.dbus_value_model.specs.declared.fault.Fault.{Fault}
+use Rattle.dbus_value_model.specs.declared.limits.Limits.{Limits}
 use Rattle.cli_options.specs.declared.resync.Resync.TheVariants.{Within}
 use Rattle.cli_options.specs.declared.settings.Settings.{Settings}
 use Rattle.cli_report.specs.Telling.{IsJsonRefusal, IsToldBy}
@@ -18,7 +19,6 @@ use Rattle.dbus_stream.specs.Cut.{CutOutcome, IsOutcome}
 use Rattle.dbus_stream.specs.CutEnds.{fault_at_end}
 use Rattle.dbus_stream.specs.declared.read_fault.ReadFault.{ReadFault}
 use Rattle.dbus_stream.specs.declared.read_fault.ReadFault.TheVariants as read
-use Rattle.cli_report.specs.Gathering.{IsPrefixTo}
 use Rattle.cli_report.specs.Devices.{Reading, RisesAtMost, Taken, Writing, taken}
 use Rattle.cli_report.specs.declared.ending.Cause.{Cause}
 use Rattle.cli_report.specs.declared.ending.Cause.TheVariants.{Memory, ReadFailed, WriteFailed, TooManyReads}
@@ -36,29 +36,25 @@ use Rattle.cli_run.specs.declared.visitor.RunStop.TheVariants.{Cause as ByCause,
 
 -- what is told of a refused message: a line of JSON; or its line, and then those that explain it,
 -- if that is wanted
-abbrev pub IsToldIn : (as_json goes_on explains : Bool) → RefusedMessage → (kept text : List ℕ) → Type 0
-IsToldIn true goes_on explains refusal kept text = IsJsonRefusal refusal kept text
-IsToldIn false goes_on explains refusal kept text = IsToldBy goes_on explains refusal kept text
+abbrev pub IsToldIn : (as_json goes_on explains : Bool) → Limits → RefusedMessage → (bytes text : List ℕ) → Type 0
+IsToldIn true goes_on explains limits refusal bytes text = IsJsonRefusal limits refusal bytes text
+IsToldIn false goes_on explains limits refusal bytes text = IsToldBy goes_on explains limits refusal bytes text
 
 -- by these settings
-abbrev pub IsTold : Settings → RefusedMessage → (kept text : List ℕ) → Type 0
-IsTold settings refusal kept text = IsToldIn settings.as_json settings.keeps_going settings.explains refusal kept text
-
--- that shows no bytes of the message: it is neither JSON nor explained
-abbrev pub ShowsNone : Settings → Type 0
-ShowsNone settings = (settings.as_json ≡ false) × (settings.explains ≡ false)
+abbrev pub IsTold : Settings → RefusedMessage → (bytes text : List ℕ) → Type 0
+IsTold settings refusal bytes text = IsToldIn settings.as_json settings.keeps_going settings.explains settings.limits refusal bytes text
 
 module _ (packets : Option Packets) (settings : Settings) where
   -- of the n-th one of an input, which begins at this offset: also the packet of its fault
-  abbrev pub IsToldRefused : (n offset : ℕ) → (kept : List ℕ) → Fault → List ℕ → Type 0
-  IsToldRefused n offset kept fault text = (packet : Option ℕ) × IsRefusedIn packets settings.limits offset kept packet
-      × IsTold settings (record { number = n; offset = offset; fault = fault; packet = packet }) kept text
+  abbrev pub IsToldRefused : (n offset : ℕ) → (bytes : List ℕ) → Fault → List ℕ → Type 0
+  IsToldRefused n offset bytes fault text = (packet : Option ℕ) × IsRefusedIn packets settings.limits offset bytes packet
+      × IsTold settings (record { number = n; offset = offset; fault = fault; packet = packet }) bytes text
 
   -- what is told of a part: of a message nothing. One is passed over only if the run is to go on
   abbrev pub IsToldOf : (n offset looked : ℕ) → Part → List ℕ → Type 0
   IsToldOf n offset looked (Whole item) text = text ≡ []
-  IsToldOf n offset looked (PassedOver kept fault by size) text =
-      (settings.keeps_going ≡ true) × IsPassedBy packets (seek_of settings.resync offset (looked + fault.at)) settings.limits offset kept by size × IsToldRefused n offset kept fault text
+  IsToldOf n offset looked (PassedOver front fault by size) text =
+      (settings.keeps_going ≡ true) × IsPassedBy packets (seek_of settings.resync offset (looked + fault.at)) settings.limits offset front by size × IsToldRefused n offset front fault text
 
   -- of several
   abbrev pub AreTold : (n offset looked : ℕ) → List Part → List ℕ → Type 0
@@ -66,21 +62,21 @@ module _ (packets : Option Packets) (settings : Settings) where
   AreTold n offset looked (part ∷ parts) text = (one : List ℕ) × (more : List ℕ) × (text ≡ one ++ more)
       × IsToldOf n offset looked part one × AreTold (n + 1) (offset + size_of part) (looked_after part offset looked) parts more
 
-  -- what is told of the fault after them
-  abbrev pub IsToldLast : (n offset : ℕ) → List ℕ → Option Fault → List ℕ → Type 0
-  IsToldLast n offset kept None text = text ≡ []
-  IsToldLast n offset kept (Some fault) text = IsToldRefused n offset kept fault text
+  -- what is told of the fault of the rest after them
+  abbrev pub IsToldLast : (n offset : ℕ) → (rest : List ℕ) → Option Fault → List ℕ → Type 0
+  IsToldLast n offset rest None text = text ≡ []
+  IsToldLast n offset rest (Some fault) text = IsToldRefused n offset rest fault text
 
 -- how many parts are passed over, and how many bytes these have
 abbrev pub passed_count : List Part → ℕ
 passed_count [] = 0
 passed_count (Whole item ∷ parts) = passed_count parts
-passed_count (PassedOver kept fault by size ∷ parts) = passed_count parts + 1
+passed_count (PassedOver front fault by size ∷ parts) = passed_count parts + 1
 
 abbrev pub passed_sizes : List Part → ℕ
 passed_sizes [] = 0
 passed_sizes (Whole item ∷ parts) = passed_sizes parts
-passed_sizes (PassedOver kept fault by size ∷ parts) = passed_sizes parts + size
+passed_sizes (PassedOver front fault by size ∷ parts) = passed_sizes parts + size
 
 abbrev pub tally_of : List Part → Tally
 tally_of parts = record { count = length parts; size = sizes_of parts; passed = passed_count parts; passed_size = passed_sizes parts; is_cut = false }
@@ -168,11 +164,11 @@ module _ (t : Taken) (settings : Settings) (most : ℕ) (is_check : Bool) where
     pub tells : AreTold t.packets settings 1 0 0 parts told
 
   -- this is told of the fault of the rest, if it has one
-  pub record TellsRest (parts : List Part) (kept : List ℕ) (fault : Option Fault) (text : List ℕ) : Type 0 where
+  pub record TellsRest (parts : List Part) (rest : List ℕ) (fault : Option Fault) (text : List ℕ) : Type 0 where
     pub outcome : CutOutcome
-    pub outcome_is : IsOutcome settings.limits kept outcome
-    pub fault_is : fault ≡ fault_at_end kept outcome
-    pub told : IsToldLast t.packets settings (length parts + 1) (sizes_of parts) kept fault text
+    pub outcome_is : IsOutcome settings.limits rest outcome
+    pub fault_is : fault ≡ fault_at_end rest outcome
+    pub told : IsToldLast t.packets settings (length parts + 1) (sizes_of parts) rest fault text
 
   -- all of the input was read, or all up to a message that is not passed over: this is told of its
   -- parts, and of the rest
@@ -182,32 +178,31 @@ module _ (t : Taken) (settings : Settings) (most : ℕ) (is_check : Bool) where
     pub covers : Covers parts rest told
     pub cut : Option (Option ℕ)
     pub tally_is : tally ≡ tally_with cut parts rest
-    pub kept : List ℕ
-    pub tells : TellsRest parts kept fault text
-    pub last : IsLast t.packets cut settings settings.limits (sizes_of parts) (looked_in parts) kept rest tells.outcome (IsAtEnd t.left1)
+    pub tells : TellsRest parts rest fault text
+    pub last : IsLast t.packets cut settings settings.limits (sizes_of parts) (looked_in parts) rest tells.outcome (IsAtEnd t.left1)
     pub read_failed : t.failures1 ≡ t.failures0
 
   -- these texts are due after the parts: what is told of the fault of the rest, once it shows; and
   -- then the last line, if nothing follows
   abbrev pub AreDue : List Part → (rest more : List ℕ) → Type 0
-  AreDue parts rest more = (kept : List ℕ) × (fault : Option Fault) × (text : List ℕ) × (tells : TellsRest parts kept fault text)
-      × ((IsTellable kept rest tells.outcome (IsAtEnd t.left1) × (more ≡ text))
-      ⊎ ((cut : Option (Option ℕ)) × IsLast t.packets cut settings settings.limits (sizes_of parts) (looked_in parts) kept rest tells.outcome (IsAtEnd t.left1)
+  AreDue parts rest more = (fault : Option Fault) × (text : List ℕ) × (tells : TellsRest parts rest fault text)
+      × ((IsTellable tells.outcome (IsAtEnd t.left1) × (more ≡ text))
+      ⊎ ((cut : Option (Option ℕ)) × IsLast t.packets cut settings settings.limits (sizes_of parts) (looked_in parts) rest tells.outcome (IsAtEnd t.left1)
       × (more ≡ text ++ closing_line settings.as_json is_check settings.keeps_going (tally_with cut parts rest) (tally_with cut parts rest).passed fault)))
 
   -- all is told but the last line
   abbrev pub LacksLast : List Part → (rest more : List ℕ) → Type 0
-  LacksLast parts rest more = (kept : List ℕ) × (fault : Option Fault) × (tells : TellsRest parts kept fault more)
-      × (cut : Option (Option ℕ)) × IsLast t.packets cut settings settings.limits (sizes_of parts) (looked_in parts) kept rest tells.outcome (IsAtEnd t.left1) × HasLastLine is_check settings.keeps_going (tally_with cut parts rest).passed fault
+  LacksLast parts rest more = (fault : Option Fault) × (tells : TellsRest parts rest fault more)
+      × (cut : Option (Option ℕ)) × IsLast t.packets cut settings settings.limits (sizes_of parts) (looked_in parts) rest tells.outcome (IsAtEnd t.left1) × HasLastLine is_check settings.keeps_going (tally_with cut parts rest).passed fault
 
   -- a refused message was told, of which not all bytes came
   abbrev pub IsHalfPassed : List Part → (rest more : List ℕ) → Type 0
-  IsHalfPassed parts rest more = (kept : List ℕ) × (fault : Fault) × IsRefused settings.limits kept fault × (by : Option ℕ) × IsCutOff t.packets (seek_of settings.resync (sizes_of parts) (looked_in parts + fault.at)) settings.limits (sizes_of parts) kept rest by
-      × (settings.keeps_going ≡ true) × IsToldLast t.packets settings (length parts + 1) (sizes_of parts) kept (Some fault) more
+  IsHalfPassed parts rest more = (fault : Fault) × IsRefused settings.limits rest fault × (by : Option ℕ) × IsCutOff t.packets (seek_of settings.resync (sizes_of parts) (looked_in parts + fault.at)) settings.limits (sizes_of parts) rest by
+      × (settings.keeps_going ≡ true) × IsToldLast t.packets settings (length parts + 1) (sizes_of parts) rest (Some fault) more
 
   -- one was told, and it is looked for where messages begin again, or passed over since that is nowhere
   abbrev pub IsSought : List Part → (rest more : List ℕ) → Type 0
-  IsSought parts rest more = (kept : List ℕ) × IsPrefixTo kept rest × (fault : Fault) × TellsRest parts kept (Some fault) more × (settings.keeps_going ≡ true) × (window : ℕ) × (settings.resync ≡ Within window)
+  IsSought parts rest more = (fault : Fault) × TellsRest parts rest (Some fault) more × (settings.keeps_going ≡ true) × (window : ℕ) × (settings.resync ≡ Within window)
 
   -- all that was read was taken and told: the rest is neither a message nor refused, or a refused
   -- message was told, and is to be passed over
@@ -218,7 +213,7 @@ module _ (t : Taken) (settings : Settings) (most : ℕ) (is_check : Bool) where
 abbrev pub EndsWhole : List Part → Type 0
 EndsWhole [] = Unit {0}
 EndsWhole (Whole item ∷ parts) = EndsWhole parts
-EndsWhole (PassedOver kept fault by size ∷ parts) = (parts ≢ []) × EndsWhole parts
+EndsWhole (PassedOver front fault by size ∷ parts) = (parts ≢ []) × EndsWhole parts
 
 -- filled says of messages whether no more are wanted after them
 module _ (t : Taken) (settings : Settings) (most : ℕ) (is_check : Bool) (filled : List Placed → Bool → Type 0) where
@@ -295,7 +290,7 @@ module _ (t : Taken) (settings : Settings) (most : ℕ) (is_check : Bool) (fille
 
   -- all was taken and told, and no more was read to see that; or as much as was wanted
   abbrev pub Goes : (needed : (size : ℕ) → Type 0) → (done : List Placed → (told : List ℕ) → Type 0) → (end : ExitStatus) → Type 0
-  Goes needed done end = ((g : GoesThrough done end) × ReadsToSee settings g.fault g.through.parts g.through.kept needed) ⊎ GoesFar needed done end
+  Goes needed done end = ((g : GoesThrough done end) × ReadsToSee settings g.fault g.through.parts g.through.rest needed) ⊎ GoesFar needed done end
 
 module _ {R : Type 0} (r : Reading R) (settings : Settings) (most : ℕ) (is_check : Bool) {S : Type 0} (takes : S → S → List Placed → (told : List ℕ) → Type 0) (leaves : S → S → List Placed → (told : List ℕ) → RunStop → Type 0)
     (full : S → Bool) (s0 s1 : S) where

@@ -20,7 +20,7 @@ use Rattle.dbus_stream.specs.Next.{IsCutShort}
 use Rattle.dbus_stream.specs.Packed.{IsOther}
 use Rattle.dbus_stream.specs.PassingPackets.{AreOfNumber}
 use Rattle.dbus_stream.specs.StatedSizes.{StatesNone, StatesSize, WantsMore}
-use Rattle.cli_report.specs.Gathering.{IsPrefixTo}
+use Rattle.cli_report.specs.FaultFronts.{IsFaultFront}
 use Rattle.cli_run.specs.Refusals.{IsRefusedIn}
 use Rattle.cli_run.specs.declared.place.MessagePlace.{MessagePlace}
 
@@ -35,14 +35,14 @@ pub data By : Type 0 where
   PastWindow : (window effort looked : ℕ) → By
 
 -- a part of an input: a message; or one that is refused and passed over, which has so many bytes,
--- with those that were kept of the input from there on when it was refused
+-- with those bytes that show its fault
 pub data Part : Type 0 where
   Whole : CutMessage → Part
-  PassedOver : List ℕ → Fault → By → ℕ → Part
+  PassedOver : (front : List ℕ) → Fault → By → ℕ → Part
 
 abbrev pub size_of : Part → ℕ
 size_of (Whole item) = item.size
-size_of (PassedOver kept fault by size) = size
+size_of (PassedOver front fault by size) = size
 
 abbrev pub sizes_of : List Part → ℕ
 sizes_of [] = 0
@@ -69,25 +69,25 @@ abbrev pub IsLarger : Limits → (window : ℕ) → List ℕ → Type 0
 IsLarger limits window bytes = (size : ℕ) × StatesSize limits bytes size × (window < size)
 
 -- a refused message has this size: that which it states, and so many bytes are there; or, of a
--- packet, that of more bytes than were kept, or as many, and others follow; or messages begin again
+-- packet, that of at least the bytes that show its fault, and others follow; or messages begin again
 -- behind it, and all bytes of the window are there, unless the input ends there; or they begin again
 -- nowhere in the window, and it states this size, which is larger, and so many bytes are there
-abbrev pub HasSize : Limits → (kept bytes : List ℕ) → By → ℕ → Type 0
-HasSize limits kept bytes Stated size = StatesSize limits bytes size × (size ≤ length bytes)
-HasSize limits kept bytes (InPacket number) size = (length kept ≤ size) × (size < length bytes)
-HasSize limits kept bytes (Resumed window effort looked to_end) size = ResumeIn limits window effort bytes (record { found = At size; looked = looked }) × (to_end ≡ false → window ≤ length bytes)
-HasSize limits kept bytes (PastWindow window effort looked) size =
+abbrev pub HasSize : Limits → (front bytes : List ℕ) → By → ℕ → Type 0
+HasSize limits front bytes Stated size = StatesSize limits bytes size × (size ≤ length bytes)
+HasSize limits front bytes (InPacket number) size = (length front ≤ size) × (size < length bytes)
+HasSize limits front bytes (Resumed window effort looked to_end) size = ResumeIn limits window effort bytes (record { found = At size; looked = looked }) × (to_end ≡ false → window ≤ length bytes)
+HasSize limits front bytes (PastWindow window effort looked) size =
     (none : BeginNowhere limits window effort bytes (Unit {0})) × (none.searched.looked ≡ looked) × StatesSize limits bytes size × (window < size) × (size ≤ length bytes)
 
 -- it is refused for this; or the input ends within it, and messages begin again before
-abbrev pub IsFaultOf : Limits → (kept bytes : List ℕ) → Fault → By → Type 0
-IsFaultOf limits kept bytes fault (Resumed window effort looked true) = IsRefused limits kept fault ⊎ ((kept ≡ bytes) × IsCutShort limits kept fault)
-IsFaultOf limits kept bytes fault by = IsRefused limits kept fault
+abbrev pub IsFaultOf : Limits → List ℕ → Fault → By → Type 0
+IsFaultOf limits bytes fault (Resumed window effort looked true) = (IsRefused limits bytes fault × (length bytes < window)) ⊎ IsCutShort limits bytes fault
+IsFaultOf limits bytes fault by = IsRefused limits bytes fault
 
 -- the bytes begin with this part
 abbrev pub IsPart : Limits → List ℕ → Part → Type 0
 IsPart limits bytes (Whole item) = IsWhole limits bytes item.order item.message item.size
-IsPart limits bytes (PassedOver kept fault by size) = IsPrefixTo kept bytes × IsFaultOf limits kept bytes fault by × HasSize limits kept bytes by size
+IsPart limits bytes (PassedOver front fault by size) = IsFaultFront limits bytes front × IsFaultOf limits bytes fault by × HasSize limits front bytes by size
 
 -- the input ends within a window that was looked at for one of the parts
 abbrev pub is_to_end : By → Bool
@@ -97,7 +97,7 @@ is_to_end by = false
 abbrev pub reach_end : List Part → Bool
 reach_end [] = false
 reach_end (Whole item ∷ parts) = reach_end parts
-reach_end (PassedOver kept fault by size ∷ parts) = is_to_end by || reach_end parts
+reach_end (PassedOver front fault by size ∷ parts) = is_to_end by || reach_end parts
 
 -- the bytes are these parts, one after the other, and then the rest
 abbrev pub BeginWithParts : Limits → List ℕ → List Part → List ℕ → Type 0
@@ -134,7 +134,7 @@ looked_for by at offset looked = looked
 
 abbrev pub looked_after : Part → (offset looked : ℕ) → ℕ
 looked_after (Whole item) offset looked = looked
-looked_after (PassedOver kept fault by size) offset looked = looked_for by fault.at offset looked
+looked_after (PassedOver front fault by size) offset looked = looked_for by fault.at offset looked
 
 -- behind several
 abbrev pub looked_behind : List Part → (offset looked : ℕ) → ℕ
@@ -148,12 +148,12 @@ looked_in parts = looked_behind parts 0 0
 -- A message at this offset is refused, and passed over as is asked for: by a byte of no packet; or by
 -- one of the packet of this number, and so many of its bytes are passed over: all that follow in the
 -- packet, up to the first one of another.
-abbrev pub IsPassedBy : Option Packets → Seek → Limits → (offset : ℕ) → (kept : List ℕ) → By → (size : ℕ) → Type 0
-IsPassedBy packets seek limits offset kept Stated size = (seek ≡ Unsought) × IsRefusedIn packets limits offset kept None
-IsPassedBy packets seek limits offset kept (Resumed window effort looked to_end) size = (seek ≡ SoughtIn window effort) × IsRefusedIn packets limits offset kept None
-IsPassedBy packets seek limits offset kept (PastWindow window effort looked) size = (seek ≡ SoughtIn window effort) × IsRefusedIn packets limits offset kept None
-IsPassedBy packets seek limits offset kept (InPacket number) size =
-    IsRefusedIn packets limits offset kept (Some number) × AreInPacket packets number (offset + length kept) (offset + size) × IsInOther packets number (offset + size)
+abbrev pub IsPassedBy : Option Packets → Seek → Limits → (offset : ℕ) → (front : List ℕ) → By → (size : ℕ) → Type 0
+IsPassedBy packets seek limits offset front Stated size = (seek ≡ Unsought) × IsRefusedIn packets limits offset front None
+IsPassedBy packets seek limits offset front (Resumed window effort looked to_end) size = (seek ≡ SoughtIn window effort) × IsRefusedIn packets limits offset front None
+IsPassedBy packets seek limits offset front (PastWindow window effort looked) size = (seek ≡ SoughtIn window effort) × IsRefusedIn packets limits offset front None
+IsPassedBy packets seek limits offset front (InPacket number) size =
+    IsRefusedIn packets limits offset front (Some number) × AreInPacket packets number (offset + length front) (offset + size) × IsInOther packets number (offset + size)
 
 -- the size by which it is passed over is more than there is, or not stated yet; if it is looked for
 -- where messages begin again, it is the size of one larger than the window, in which that is nowhere
@@ -162,54 +162,49 @@ WantsMoreBy Unsought limits rest = WantsMore limits rest
 WantsMoreBy (SoughtIn window effort) limits rest = BeginNowhere limits window effort rest (Unit {0}) × IsLarger limits window rest × WantsMore limits rest
 
 -- a refused message goes on to the end of the rest: by the size by which it is passed over; or all
--- that follows is of the packet of its fault
-abbrev pub GoesPast : Option Packets → Seek → Limits → (offset : ℕ) → (kept rest : List ℕ) → Option ℕ → Type 0
-GoesPast packets seek limits offset kept rest None = WantsMoreBy seek limits rest
-GoesPast packets seek limits offset kept rest (Some number) = AreInPacket packets number (offset + length kept) (offset + length rest)
+-- that follows the bytes that show its fault is of the packet of that
+abbrev pub GoesPast : Option Packets → Seek → Limits → (offset : ℕ) → (rest : List ℕ) → Option ℕ → Type 0
+GoesPast packets seek limits offset rest None = WantsMoreBy seek limits rest
+GoesPast packets seek limits offset rest (Some number) = (front : List ℕ) → IsFaultFront limits rest front → AreInPacket packets number (offset + length front) (offset + length rest)
 
 -- so it does, and this is the packet of its fault, if that is of one
-pub record IsCutOff (packets : Option Packets) (seek : Seek) (limits : Limits) (offset : ℕ) (kept rest : List ℕ) (by : Option ℕ) : Type 0 where
-  pub front : IsPrefixTo kept rest
-  pub refused_in : IsRefusedIn packets limits offset kept by
-  pub past : GoesPast packets seek limits offset kept rest by
+abbrev pub IsCutOff : Option Packets → Seek → Limits → (offset : ℕ) → (rest : List ℕ) → (by : Option ℕ) → Type 0
+IsCutOff packets seek limits offset rest by = IsRefusedIn packets limits offset rest by × GoesPast packets seek limits offset rest by
 
 -- ---- what is not passed over
 
 -- a refused message is not passed over, though that is asked for: its fault is of no packet, and it
 -- states no size within the limits, or messages begin again nowhere in the window and it states no
 -- size that is larger
-abbrev pub IsUnpassed : Option Packets → Seek → Limits → (offset : ℕ) → (kept rest : List ℕ) → Type 0 → Type 0
-IsUnpassed packets Unsought limits offset kept rest at_end = IsRefusedIn packets limits offset kept None × StatesNone limits rest
-IsUnpassed packets (SoughtIn window effort) limits offset kept rest at_end =
-    IsRefusedIn packets limits offset kept None × BeginNowhere limits window effort rest at_end × (IsLarger limits window rest → ⊥)
+abbrev pub IsUnpassed : Option Packets → Seek → Limits → (offset : ℕ) → (rest : List ℕ) → Type 0 → Type 0
+IsUnpassed packets Unsought limits offset rest at_end = IsRefusedIn packets limits offset rest None × StatesNone limits rest
+IsUnpassed packets (SoughtIn window effort) limits offset rest at_end =
+    IsRefusedIn packets limits offset rest None × BeginNowhere limits window effort rest at_end × (IsLarger limits window rest → ⊥)
 
 -- nor is one that the input ends within: it came in a packet, or messages begin again nowhere
-abbrev pub IsCutUnpassed : Option Packets → Seek → Limits → (offset : ℕ) → (kept rest : List ℕ) → Type 0 → Type 0
-IsCutUnpassed packets Unsought limits offset kept rest at_end = Unit {0}
-IsCutUnpassed packets (SoughtIn window effort) limits offset kept rest at_end =
-    (packet : Option ℕ) × IsRefusedIn packets limits offset kept packet × (packet ≡ None → BeginNowhere limits window effort rest at_end)
+abbrev pub IsCutUnpassed : Option Packets → Seek → Limits → (offset : ℕ) → (rest : List ℕ) → Type 0 → Type 0
+IsCutUnpassed packets Unsought limits offset rest at_end = Unit {0}
+IsCutUnpassed packets (SoughtIn window effort) limits offset rest at_end =
+    (packet : Option ℕ) × IsRefusedIn packets limits offset rest packet × (packet ≡ None → BeginNowhere limits window effort rest at_end)
 
--- the fault of the rest shows by what is kept of it: the rest is refused, or the input ends there
-abbrev pub IsTellable : (kept rest : List ℕ) → CutOutcome → Type 0 → Type 0
-IsTellable kept rest Ended at_end = (rest ≡ kept) × at_end
-IsTellable kept rest Unfinished at_end = (rest ≡ kept) × at_end
-IsTellable kept rest (Refused fault) at_end = rest ≡ kept
+-- the fault of the rest shows: it is refused, or the input ends there
+abbrev pub IsTellable : CutOutcome → Type 0 → Type 0
+IsTellable (Refused fault) at_end = Unit {0}
+IsTellable outcome at_end = at_end
 
 -- why nothing follows the parts but the rest, which is at this offset: the input ends there, or
 -- within a message; or a message is refused, and the run is not to go on, or it is not passed over;
 -- or cut says that one is passed over that goes on to the end of the input, and of which packet its
--- fault is. kept is what was kept of the rest when that was found, and looked how many bytes count as
--- looked at before
-abbrev pub IsLast : Option Packets → (cut : Option (Option ℕ)) → Settings → Limits → (offset looked : ℕ) → (kept rest : List ℕ) → CutOutcome → Type 0 → Type 0
-IsLast packets None settings limits offset looked kept rest Ended at_end = (rest ≡ kept) × at_end
-IsLast packets None settings limits offset looked kept rest Unfinished at_end =
-    (rest ≡ kept) × at_end × (settings.keeps_going ≡ true → IsCutUnpassed packets (seek_of settings.resync offset (looked + length kept)) limits offset kept rest at_end)
-IsLast packets None settings limits offset looked kept rest (Refused fault) at_end =
-    IsPrefixTo kept rest × (settings.keeps_going ≡ false → rest ≡ kept)
-    × (settings.keeps_going ≡ true → is_truncated fault.reason ≡ false → IsUnpassed packets (seek_of settings.resync offset (looked + fault.at)) limits offset kept rest at_end)
-IsLast packets (Some by) settings limits offset looked kept rest (Refused fault) at_end =
-    IsCutOff packets (seek_of settings.resync offset (looked + fault.at)) limits offset kept rest by × at_end × (settings.keeps_going ≡ true)
-IsLast packets (Some by) settings limits offset looked kept rest outcome at_end = ⊥
+-- fault is. looked is how many bytes count as looked at before
+abbrev pub IsLast : Option Packets → (cut : Option (Option ℕ)) → Settings → Limits → (offset looked : ℕ) → (rest : List ℕ) → CutOutcome → Type 0 → Type 0
+IsLast packets None settings limits offset looked rest Ended at_end = at_end
+IsLast packets None settings limits offset looked rest Unfinished at_end =
+    at_end × (settings.keeps_going ≡ true → IsCutUnpassed packets (seek_of settings.resync offset (looked + length rest)) limits offset rest at_end)
+IsLast packets None settings limits offset looked rest (Refused fault) at_end =
+    settings.keeps_going ≡ true → is_truncated fault.reason ≡ false → IsUnpassed packets (seek_of settings.resync offset (looked + fault.at)) limits offset rest at_end
+IsLast packets (Some by) settings limits offset looked rest (Refused fault) at_end =
+    IsCutOff packets (seek_of settings.resync offset (looked + fault.at)) limits offset rest by × at_end × (settings.keeps_going ≡ true)
+IsLast packets (Some by) settings limits offset looked rest outcome at_end = ⊥
 
 -- ---- the messages among the parts
 
@@ -249,7 +244,7 @@ abbrev pub ArePlaced : Option Packets → (n offset : ℕ) → List Part → Lis
 ArePlaced packets n offset [] messages = messages ≡ []
 ArePlaced packets n offset (Whole item ∷ parts) [] = ⊥
 ArePlaced packets n offset (Whole item ∷ parts) (m ∷ messages) = IsPlaced packets n offset item m × ArePlaced packets (n + 1) (offset + item.size) parts messages
-ArePlaced packets n offset (PassedOver kept fault by size ∷ parts) messages = ArePlaced packets (n + 1) (offset + size) parts messages
+ArePlaced packets n offset (PassedOver front fault by size ∷ parts) messages = ArePlaced packets (n + 1) (offset + size) parts messages
 
 -- messages alone, as parts
 abbrev pub wholes : List CutMessage → List Part

@@ -11,12 +11,15 @@ use Rattle.cli_options.specs.declared.command.Command.TheVariants.{Filter, Swap}
 use Rattle.cli_options.specs.declared.file_form.FileForm.TheVariants.{AsRead, Raw}
 use Rattle.cli_options.specs.declared.window.Window.{Window}
 use Rattle.dbus_capture.specs.Reading.{IsRead}
+use Rattle.dbus_header.specs.NoMessage.{IsFaultAtEnd}
 use Rattle.dbus_message_model.specs.Messages.{IsValidMessage}
+use Rattle.dbus_explain.specs.Laws.{HeaderHasNoDouble}
 use Rattle.dbus_names.specs.NameStates.{NameState}
 use Rattle.cli_options.specs.declared.resync.Resync.TheVariants.{Within}
 use Rattle.cli_options.specs.declared.settings.Settings.{Settings}
 use Rattle.cli_report.specs.Devices.{reading, writing, Reading, Writing}
 use Rattle.cli_report.specs.declared.ending.ExitStatus.{ExitStatus}
+use Rattle.cli_report.specs.FaultFronts.{IsFaultFront}
 use Rattle.cli_report.specs.Gathering.{IsPrefixTo}
 use Rattle.dbus_device.specs.Device.{Wrote}
 use Rattle.dbus_device.specs.Packets.{Packets}
@@ -28,15 +31,14 @@ use Rattle.dbus_count.specs.declared.span.Span.{Span}
 use Rattle.cli_options.specs.Selections.{AreSameCommand}
 use Rattle.cli_report.specs.declared.ending.ExitStatus.TheVariants as status
 use Rattle.cli_run.specs.Running.{Runs, RunsWith, Writes}
-use Rattle.cli_run.specs.Going.{AreTold, ShowsNone}
+use Rattle.cli_run.specs.Going.{AreTold}
 use Rattle.cli_run.specs.Output.{AreAlike, IsExact, IsFirstOutput, IsFront, IsOutputOfAll, form_of, output_of}
 use Rattle.dbus_call_lines.specs.Listing.{AreNames}
 use Rattle.dbus_call_lines.specs.declared.wanted.Wanted.{Wanted}
 use Rattle.cli_run.specs.ByName.{CountsByName}
 use Rattle.cli_run.specs.CallListing.{ListsCalls, all_named}
 use Rattle.cli_run.specs.CallSumming.{SumsCalls}
-use Rattle.cli_run.specs.Inputs.{Part, Placed, looked_in, sizes_of}
-use Rattle.cli_run.specs.Shown.{AllShown, AreShownAlike, shown_after, shown_by}
+use Rattle.cli_run.specs.Inputs.{BeginWithParts, Part, Placed, looked_in, sizes_of}
 use Rattle.cli_run.specs.LineListing.{AreLinesOf, ListsLines, WritesLines}
 use Rattle.cli_run.specs.LineNames.{first_names}
 use Rattle.cli_options.specs.declared.wanted_lines.WantedLines.{WantedLines}
@@ -97,11 +99,6 @@ ReadAlike r s = (input : List ℕ) × IsBytes input × (r.left r.old ≡ Some in
 abbrev pub GotAlike : {W V : Type 0} → Writing W → Writing V → Type 0
 GotAlike w v = (text : List ℕ) × Wrote w.held w.failures w.old text w.new × Wrote v.held v.failures v.old text v.new
 
--- nothing is explained: neither that nor JSON is asked for, or nothing was refused. What is shown of
--- a refused message's bytes are those that happened to be read
-abbrev pub ExplainsNone : Settings → ExitStatus → Type 0
-ExplainsNone settings end = ShowsNone settings ⊎ (end ≡ status.Done)
-
 -- two runs end with one status, and both writers of the one got what those of the other did
 pub record EndAlike {W V E F : Type 0} (w : Writing W) (v : Writing V) (e : Writing E) (f : Writing F) (end other : ExitStatus) : Type 0 where
   pub status_is : other ≡ end
@@ -129,17 +126,22 @@ pub record AreOfSamePackets {R S : Type 0} (r : Reading R) (s : Reading S) : Typ
 abbrev pub AreToldAlike : {R S : Type 0} → Reading R → Reading S → ExitStatus → Type 0
 AreToldAlike r s end = AreOfSamePackets r s ⊎ (end ≡ status.Done)
 
--- what is told of refused messages is the same: nothing is explained, or it is of as many bytes of
--- each
-abbrev pub TellAlike : Settings → ExitStatus → (one also : AllShown) → Type 0
-TellAlike settings end one also = ExplainsNone settings end ⊎ AreShownAlike settings one also
+-- the header of no message of these bytes that a run refuses has a DOUBLE, as far as it is whole
+-- before the fault: the bytes begin with parts that are told, and the message follows these
+abbrev pub HaveNoDouble : Option Packets → Settings → (n offset looked : ℕ) → (bytes : List ℕ) → Type 0
+HaveNoDouble packets settings n offset looked bytes = (parts : List Part) (told rest front : List ℕ) (fault : Fault) → BeginWithParts settings.limits bytes parts rest → AreTold packets settings n offset looked parts told
+    → IsFaultAtEnd settings.limits rest fault → IsFaultFront settings.limits rest front → HeaderHasNoDouble front fault
 
--- two runs by the same settings read the same input, and did not fail; these are the messages that
--- each refused
-pub record AreOfOneInput {R S : Type 0} (r : Reading R) (s : Reading S) (settings : Settings) (end other : ExitStatus) (one also : AllShown) : Type 0 where
+-- each refused message is told by one text: not as JSON, which may write a DOUBLE by other digits; or
+-- nothing is refused; or there is none
+abbrev pub TellsOne : Option Packets → Settings → (input : List ℕ) → ExitStatus → Type 0
+TellsOne packets settings input end = (settings.as_json ≡ false) ⊎ ((end ≡ status.Done) ⊎ HaveNoDouble packets settings 1 0 0 input)
+
+-- two runs by the same settings read the same input, and did not fail
+pub record AreOfOneInput {R S : Type 0} (r : Reading R) (s : Reading S) (settings : Settings) (end other : ExitStatus) : Type 0 where
   pub input : ReadAlike r s
   pub told : AreToldAlike r s end
-  pub shown : TellAlike settings end one also
+  pub one : TellsOne (r.packets r.old) settings input.0 end
   pub done : end ≢ status.Failed
   pub other_done : other ≢ status.Failed
 
@@ -152,7 +154,7 @@ RunAlike r s w v e f settings command copy end other =
 -- two runs of a command
 abbrev pub OneRun : (R S W V E F : Type 0) → Type 0
 OneRun R S W V E F = (r : Reading R) (s : Reading S) (w : Writing W) (v : Writing V) (e : Writing E) (f : Writing F) (settings : Settings) (most more : ℕ) (command copy : Command) (end other : ExitStatus)
-    → AreSameCommand command copy → (runs : RunsWith r w e settings most command end) → (ran : RunsWith s v f settings more copy other) → AreOfOneInput r s settings end other (shown_by runs) (shown_by ran)
+    → AreSameCommand command copy → RunsWith r w e settings most command end → RunsWith s v f settings more copy other → AreOfOneInput r s settings end other
     → RunAlike r s w v e f settings command copy end other
 
 -- two runs of a command under the same limits alone
@@ -175,19 +177,19 @@ pub record CountAlike {W V E F : Type 0} (w : Writing W) (v : Writing V) (e : Wr
 -- two runs that count messages by their names
 abbrev pub OneCount : (R S W V E F : Type 0) → Type 0
 OneCount R S W V E F = (r : Reading R) (s : Reading S) (w : Writing W) (v : Writing V) (e : Writing E) (f : Writing F) (settings : Settings) (form : Form) (most more : ℕ) (end other : ExitStatus)
-    → (counts : CountsByName r w e settings form most end) → (counted : CountsByName s v f settings form more other) → AreOfOneInput r s settings end other (shown_after counts) (shown_after counted)
+    → CountsByName r w e settings form most end → CountsByName s v f settings form more other → AreOfOneInput r s settings end other
     → CountAlike w v e f form end other × (AreOfSamePackets r s → EndAlike w v e f end other)
 
 -- two runs that list calls, of the same packets: a line has the time of its call's packet
 abbrev pub OneCalls : (R S W V E F : Type 0) → Type 0
 OneCalls R S W V E F = (r : Reading R) (s : Reading S) (w : Writing W) (v : Writing V) (e : Writing E) (f : Writing F) (settings : Settings) (wanted : Wanted) (most more : ℕ) (end other : ExitStatus)
-    → (lists : ListsCalls r w e settings wanted most end) → (listed : ListsCalls s v f settings wanted more other) → AreOfOneInput r s settings end other (shown_after lists) (shown_after listed)
+    → ListsCalls r w e settings wanted most end → ListsCalls s v f settings wanted more other → AreOfOneInput r s settings end other
     → AreOfSamePackets r s → EndAlike w v e f end other
 
 -- two runs that list messages, of the same packets: a line has the time of its message's packet
 abbrev pub OneListing : (R S W V E F : Type 0) → Type 0
 OneListing R S W V E F = (r : Reading R) (s : Reading S) (w : Writing W) (v : Writing V) (e : Writing E) (f : Writing F) (settings : Settings) (wanted : WantedLines) (most more : ℕ) (end other : ExitStatus)
-    → (lists : ListsLines r w e settings wanted most end) → (listed : ListsLines s v f settings wanted more other) → AreOfOneInput r s settings end other (shown_by lists) (shown_by listed)
+    → ListsLines r w e settings wanted most end → ListsLines s v f settings wanted more other → AreOfOneInput r s settings end other
     → AreOfSamePackets r s → MadeAlike (WritesLines w e settings wanted) (WritesLines v f settings wanted) end other
 
 -- of each list of messages `list` has lines
@@ -197,7 +199,7 @@ SomeLines = (wanted : WantedLines) (items : List Placed) → (lines : List (List
 -- two runs that sum up calls, of the same packets
 abbrev pub OneSums : (R S W V E F : Type 0) → Type 0
 OneSums R S W V E F = (r : Reading R) (s : Reading S) (w : Writing W) (v : Writing V) (e : Writing E) (f : Writing F) (settings : Settings) (wanted : Wanted) (most more : ℕ) (end other : ExitStatus)
-    → (sums : SumsCalls r w e settings wanted most end) → (summed : SumsCalls s v f settings wanted more other) → AreOfOneInput r s settings end other (shown_after sums) (shown_after summed)
+    → SumsCalls r w e settings wanted most end → SumsCalls s v f settings wanted more other → AreOfOneInput r s settings end other
     → AreOfSamePackets r s → EndAlike w v e f end other
 
 -- The names by which `calls` knows connections are bus names.

@@ -15,7 +15,6 @@ pub mod Onward
 pub mod PassingOn
 pub mod Going
 pub mod Making
-pub mod Shown
 pub mod Running
 pub mod CallListing
 pub mod LineNames

@@ -85,7 +85,7 @@ module _ {S : Type 0} (makes : S → List Placed → List ℕ → S → Type 0) 
     pub last : Result (String Global) Cause
     pub through : GoesThrough (taken r) settings most false WantsAll
         (λ items told. (made : WritesMade false (writing w.held w.failures w.old middle) (writing e.held e.failures e.old before) items told) × WritesLast ends made.then (writing w.held w.failures middle w.new) last) due
-    pub reads : ReadsToSee settings through.fault through.through.parts through.through.kept (IsReadFor r)
+    pub reads : ReadsToSee settings through.fault through.through.parts through.through.rest (IsReadFor r)
     pub ends_so : EndsSo (writing e.held e.failures before e.new) due end last
 
   -- that, or it was given up

@@ -22,10 +22,10 @@ abbrev pub IsReadFor : {R : Type 0} → Reading R → (size : ℕ) → Type 0
 IsReadFor r size = ReadsIf r.left r.calls (λ came. came < size) r.old r.new
 
 -- the bytes of a refused message that had come show no fault: it begins at this offset, and these
--- bytes were kept of it
-abbrev pub IsUnshown : Limits → (offset : ℕ) → (kept : List ℕ) → (came : ℕ) → Type 0
-IsUnshown limits offset kept came =
-    (came ≤ offset + length kept) × IsPartial limits (take (came - offset) kept)
+-- are its first bytes
+abbrev pub IsUnshown : Limits → (offset : ℕ) → (front : List ℕ) → (came : ℕ) → Type 0
+IsUnshown limits offset front came =
+    (came ≤ offset + length front) × IsPartial limits (take (came - offset) front)
 
 -- behind its offset so many bytes are looked ahead at for where messages begin again
 abbrev pub ahead_by : By → ℕ
@@ -39,14 +39,14 @@ ahead_by by = 0
 abbrev pub WantMore : Limits → (offset : ℕ) → List Part → (came : ℕ) → Type 0
 WantMore limits offset [] came = came < offset
 WantMore limits offset (Whole item ∷ parts) came = WantMore limits (offset + item.size) parts came
-WantMore limits offset (PassedOver kept fault by size ∷ parts) came =
-    IsUnshown limits offset kept came
+WantMore limits offset (PassedOver front fault by size ∷ parts) came =
+    IsUnshown limits offset front came
     ⊎ ((came < offset + 2 * ahead_by by) ⊎ WantMore limits (offset + size) parts came)
 
--- They are wanted to see what follows these parts, of which so much was kept when that showed: they
--- are wanted for the parts; or what had come of it shows no fault.
-abbrev pub WantToSee : Limits → List Part → (kept : List ℕ) → (came : ℕ) → Type 0
-WantToSee limits parts kept came = WantMore limits 0 parts came ⊎ IsUnshown limits (sizes_of parts) kept came
+-- They are wanted to see what follows these parts: they are wanted for the parts; or what had come of
+-- the rest shows no fault.
+abbrev pub WantToSee : Limits → List Part → (rest : List ℕ) → (came : ℕ) → Type 0
+WantToSee limits parts rest came = WantMore limits 0 parts came ⊎ IsUnshown limits (sizes_of parts) rest came
 
 -- a read was made only if this holds of how many bytes had come. needed says whether so many bytes
 -- were needed of the input
@@ -54,5 +54,5 @@ abbrev pub ReadsOnlyIf : (Wants : (came : ℕ) → Type 0) → (needed : (size :
 ReadsOnlyIf Wants needed = needed 0 ⊎ ((came : ℕ) × Wants came × needed (came + 1))
 
 -- no more is read once that shows; but a run that is to go on reads to pass over what is refused
-abbrev pub ReadsToSee : Settings → Option Fault → List Part → (kept : List ℕ) → (needed : (size : ℕ) → Type 0) → Type 0
-ReadsToSee settings fault parts kept needed = (settings.keeps_going ≡ true → fault ≡ None) → ReadsOnlyIf (WantToSee settings.limits parts kept) needed
+abbrev pub ReadsToSee : Settings → Option Fault → List Part → (rest : List ℕ) → (needed : (size : ℕ) → Type 0) → Type 0
+ReadsToSee settings fault parts rest needed = (settings.keeps_going ≡ true → fault ≡ None) → ReadsOnlyIf (WantToSee settings.limits parts rest) needed

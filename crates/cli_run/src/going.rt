@@ -1,11 +1,12 @@
 //! The messages of an input, handed on by settings: those that are refused are told, and may be
 //! passed over.
-ghost use Rattle.std.specs.Prelude.{◌≡◌, ◌≤◌, ◌^◌, IfOk, string_bytes, true};
+ghost use Rattle.std.specs.Prelude.{◌≡◌, ◌≤◌, ◌^◌, ◌++◌, ℕ, List, IfOk, string_bytes, true};
 ghost use Rattle.dbus_stream.specs.GoingOn.{HasFault};
 ghost use Rattle.dbus_stream.specs.Lasting.{is_truncated};
 ghost use Rattle.dbus_stream.specs.Next.{DeviceCounts};
 ghost use Rattle.dbus_stream.specs.RawReading.{IsNewReader, KeepsPackets, kept, looked_of, most_reads_of, source_of, stopped_of};
 ghost use Rattle.cli_report.specs.Devices.{reading};
+ghost use Rattle.cli_report.specs.FaultFronts.{IsFaultFront};
 ghost use Rattle.cli_run.specs.Going.{Closes, PassesAll, cause_of, IsTold};
 ghost use Rattle.cli_run.specs.PassingOn.{PassesInPacket, PassesLarger, PassesOn, Resyncing, ToPacket, way_of};
 ghost use Rattle.cli_run.specs.Told.{TellsStop};
@@ -201,10 +202,13 @@ fn tell<R: Source, A: Allocator + Copy, V: MessageVisitor>(
     visitor: &mut V,
 ) -> Result<(), RunStop>
     requires { V.settled visitor.old }
-    ensures tells { Tells V.takes V.leaves (IsTold settings refusal (kept messages.now)) visitor.old visitor.new result }
+    ensures tells { Tells V.takes V.leaves (IsTold settings refusal (kept messages.now))
+        visitor.old visitor.new result }
+    ensures front { (front : List ℕ) × IsFaultFront settings.limits (kept messages.now) front }
     ensures settled { IfOk result (λ _. V.settled visitor.new) }
 {
-    let Ok(text) = text_of(alloc, settings, refusal, messages) else {
+    let (held, part) = messages.kept();
+    let Ok(text) = text_of(alloc, settings, refusal, held, part) else {
         return Err(RunStop::Cause(Cause::Memory));
     };
     match visitor.tell(text.as_str()) {
@@ -213,25 +217,30 @@ fn tell<R: Source, A: Allocator + Copy, V: MessageVisitor>(
     }
 }
 
-// What is told of a refusal by the settings.
-fn text_of<R: Source, A: Allocator + Copy>(
+// What is told of a refusal by the settings: by those of the bytes that are kept, which are in two
+// slices, that show its fault.
+fn text_of<A: Allocator + Copy>(
     alloc: A,
     settings: Settings,
     refusal: RefusedMessage,
-    messages: &RawReader<R, A>,
+    held: &[u8],
+    part: &[u8],
 ) -> Result<String<A>, AllocError>
-    ensures { IfOk result (λ text.
-        IsTold settings refusal (kept messages.now) (string_bytes text)) }
+    ensures told { IfOk result (λ text.
+        IsTold settings refusal (held.now ++ part.now) (string_bytes text)) }
+    ensures front { (front : List ℕ) ×
+        IsFaultFront settings.limits (held.now ++ part.now) front }
 {
-    if settings.as_json {
-        return refusal_json(alloc, refusal, messages);
-    }
     let Settings {
         explains,
         keeps_going,
+        limits,
         ..
     } = settings;
-    refusal_text(alloc, keeps_going, explains, refusal, messages)
+    if settings.as_json {
+        return refusal_json(alloc, limits, refusal, (held, part));
+    }
+    refusal_text(alloc, keeps_going, explains, limits, refusal, (held, part))
 }
 
 // Has the visitor tell the last line. Returns the status that is due then.

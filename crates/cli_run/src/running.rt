@@ -123,7 +123,7 @@ pub fn run_within<A: Allocator + Copy, R: Source, W: Sink, E: Sink>(
 /// Does what [`run_within`] does, by more settings.
 ///
 /// If they explain, the line of a message that is refused is followed by the lines of
-/// `dbus_explain::explain_message`, by the bytes that were read from the message's start on.
+/// `dbus_explain::explain_message`, by the fewest of its bytes that are refused.
 ///
 /// If they keep going, a message that is refused is passed over: by a byte of a packet, up to the
 /// next packet; else if its first 16 bytes state a size within the limits, whatever else they say:

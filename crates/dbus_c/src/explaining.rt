@@ -50,7 +50,8 @@ pub struct Explained {
 
 /// Writes why the bytes begin with no message within the limits to the start of `out`, and a 0
 /// after it, as much of this as it has room for: the lines that `dbus-wire check --explain` writes
-/// of a message at this place of its input. Writes to `explained` where their parts are.
+/// of a message at this place of its input, with more of the bytes behind the fault. Writes to
+/// `explained` where their parts are.
 ///
 /// [`crate::WHOLE`] if there is room for the lines and the 0, and [`crate::NO_ROOM`] if there is not. If the
 /// bytes begin with a message, [`NO_VALUE`], and [`PARTIAL`] if they show no fault yet; then `out`

@@ -19,7 +19,7 @@ use Rattle.dbus_explain.proofs.VisibleLines.{line_visible}
 use Rattle.dbus_explain.specs.Explained.{IsMarkAt, lines_of, bytes_line, place_line, rule_line, mark_line, quoted_line, AreLines, byte_text, marked}
 use Rattle.dbus_explain.specs.Explained.{window}
 use Rattle.dbus_explain.specs.Heads.{head_part}
-use Rattle.dbus_explain.specs.Looks.{begins, is_letter, lacks_serial, look_of, look_text}
+use Rattle.dbus_explain.specs.Looks.{is_letter, lacks_serial, look_by, look_of, look_text}
 use Rattle.dbus_explain.specs.Names.{IsFieldName, in_field, behind_fields, text_part, IsValueName, in_value, behind_values, IsNameOf, first, missing}
 use Rattle.dbus_explain.specs.Names.{field, padding, value, code_name, first_part, path_text, step_text, is_missing}
 use Rattle.dbus_explain.specs.Rules.{rule_text as rule_of}
@@ -138,16 +138,20 @@ line_place refused at name is =
 line_rule : (rule : List ℕ) → line_feeds rule ≡ 0 → IsOneLine (rule_line rule)
 line_rule rule h = after_literal (codes "  ") rule refl (literal rule h)
 
-line_look_of : (bytes : List ℕ) → IsOneLine (look_of bytes)
-line_look_of bytes =
-    line_either (begins bytes (0 ∷ codes "AUTH")) _ _ (literal (codes "; the handshake of a client, which --handshake client passes over") refl)
-    (line_either (begins bytes (codes "OK ") || begins bytes (codes "REJECTED")) _ _ (literal (codes "; the handshake of a server, which --handshake server passes over") refl)
-    (line_either (begins bytes (127 ∷ codes "ELF")) _ _ (literal (codes "; an ELF program") refl)
-    (line_either (begins bytes (0x1F ∷ 0x8B ∷ [])) _ _ (literal (codes "; a gzip file, which zcat unpacks") refl)
-    (line_either (begins bytes (0xFD ∷ codes "7zXZ")) _ _ (literal (codes "; an xz file, which xzcat unpacks") refl)
-    (line_either (begins bytes (0x28 ∷ 0xB5 ∷ 0x2F ∷ 0xFD ∷ [])) _ _ (literal (codes "; a zstd file, which zstdcat unpacks") refl)
-    (line_either (list_all is_letter (take 8 bytes)) _ _ (literal (codes "; text, where dbus-monitor --binary and busctl capture write messages") refl)
+line_look_by : (b : ℕ) → IsOneLine (look_by b)
+line_look_by b =
+    line_either (nat_eq b 0) _ _ (literal (codes "; the handshake of a client begins so, and --handshake client passes over it") refl)
+    (line_either (nat_eq b 0x1F) _ _ (literal (codes "; a gzip file begins so, and zcat unpacks it") refl)
+    (line_either (nat_eq b 0x7F) _ _ (literal (codes "; an ELF program begins so") refl)
+    (line_either (nat_eq b 0xFD) _ _ (literal (codes "; an xz file begins so, and xzcat unpacks it") refl)
+    (line_either (nat_eq b 0x28) _ _ (literal (codes "; text begins so, or a zstd file, which zstdcat unpacks") refl)
+    (line_either (nat_eq b 79 || nat_eq b 82) _ _ (literal (codes "; text begins so, or the handshake of a server, which --handshake server passes over") refl)
+    (line_either (is_letter b) _ _ (literal (codes "; text begins so, but dbus-monitor --binary and busctl capture write messages") refl)
     (literal [] refl)))))))
+
+line_look_of : (bytes : List ℕ) → IsOneLine (look_of bytes)
+line_look_of [] = literal [] refl
+line_look_of (b ∷ bytes) = line_look_by b
 
 line_look : (refused : Refused) → IsOneLine (look_text refused)
 line_look refused =

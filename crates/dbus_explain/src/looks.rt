@@ -1,16 +1,15 @@
-//! What an input is that does not begin as a message does, and a signal that has no serial.
+//! What an input may be that does not begin as a message does, and a signal that has no serial.
 #![tactic(auto)]
 
-ghost use Rattle.std.specs.Prelude.{◌≡◌, take};
-ghost use Rattle.std.specs.List.{list_all};
-ghost use Rattle.dbus_explain.specs.Looks.{is_letter, lacks_serial, look_of, look_text};
+ghost use Rattle.std.specs.Prelude.{◌≡◌};
+ghost use Rattle.dbus_explain.specs.Looks.{is_letter, lacks_serial, look_by, look_of, look_text};
 
 use crate::message::Refused;
 use crate::search::is_printable;
 use dbus_value_model::Reason;
 
-/// What is said behind the rule: what the input is, if its very first byte is refused; or who makes
-/// a signal with serial 0.
+/// What is said behind the rule: what the input may be, if its very first byte is refused; or who
+/// makes a signal with serial 0.
 pub(crate) fn look_in(refused: &Refused) -> &'static str
     ensures { result.now ≡ look_text refused.now }
 {
@@ -36,32 +35,30 @@ fn lacks_serial(refused: &Refused) -> bool
 fn look_of(bytes: &[u8]) -> &'static str
     ensures { result.now ≡ look_of bytes.now }
 {
-    if bytes.starts_with(b"\0AUTH") {
-        "; the handshake of a client, which --handshake client passes over"
-    } else if bytes.starts_with(b"OK ") || bytes.starts_with(b"REJECTED") {
-        "; the handshake of a server, which --handshake server passes over"
-    } else if bytes.starts_with(b"\x7fELF") {
-        "; an ELF program"
-    } else if bytes.starts_with(b"\x1f\x8b") {
-        "; a gzip file, which zcat unpacks"
-    } else if bytes.starts_with(b"\xfd7zXZ") {
-        "; an xz file, which xzcat unpacks"
-    } else if bytes.starts_with(b"\x28\xb5\x2f\xfd") {
-        "; a zstd file, which zstdcat unpacks"
-    } else if is_text(bytes) {
-        "; text, where dbus-monitor --binary and busctl capture write messages"
-    } else {
-        ""
+    match bytes {
+        [first, ..] => look_by(*first),
+        [] => "",
     }
 }
 
-// Whether the first bytes, eight at most, are text in ASCII.
-fn is_text(bytes: &[u8]) -> bool
-    ensures { result ≡ list_all is_letter (take 8 bytes.now) }
+// What is said of an input that begins with this byte.
+fn look_by(byte: u8) -> &'static str
+    ensures { result.now ≡ look_by byte }
 {
-    bytes[..bytes.len().min(8)]
-        .iter()
-        .all(|byte| is_letter(*byte))
+    match byte {
+        0 => "; the handshake of a client begins so, and --handshake client passes over it",
+        0x1f => "; a gzip file begins so, and zcat unpacks it",
+        0x7f => "; an ELF program begins so",
+        0xfd => "; an xz file begins so, and xzcat unpacks it",
+        b'(' => "; text begins so, or a zstd file, which zstdcat unpacks",
+        b'O' | b'R' => {
+            "; text begins so, or the handshake of a server, which --handshake server passes over"
+        }
+        _ if is_letter(byte) => {
+            "; text begins so, but dbus-monitor --binary and busctl capture write messages"
+        }
+        _ => "",
+    }
 }
 
 // Whether a byte is a printable character of ASCII, a tab or an end of a line.

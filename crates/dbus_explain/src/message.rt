@@ -45,8 +45,8 @@ pub struct Refused<'a> {
 /// control characters of ASCII there are `\x1b` and hidden characters `\u{202e}`. The third has the
 /// bytes around the place in hexadecimal, and the one there between brackets, which are empty at
 /// the end of what was read. The last says what has to be there, and names the section of the D-Bus
-/// Specification; if the very first byte of the input is refused, it also says what that looks
-/// like, as a handshake, an ELF program, a gzip, xz or zstd file, or text, and what to do; and of a
+/// Specification; if the very first byte of the input is refused, it also says what begins with that
+/// byte, as a handshake, an ELF program, a gzip, xz or zstd file, or text, and what to do; and of a
 /// signal with serial 0 that libdbus makes it.
 ///
 /// ```text

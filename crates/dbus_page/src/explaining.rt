@@ -22,8 +22,8 @@ use dbus_value_model::Limits;
 
 /// Writes why the bytes, which are all that there is, begin with no message within the limits of
 /// the specification, to the start of the room, and the number of bytes of that to `count`: the
-/// lines that `dbus-wire check --explain` writes of a message of this number and offset,
-/// whose fault is that of [`crate::dbus_page_next`].
+/// lines that `dbus-wire check --explain` writes of a message of this number and offset, with more
+/// of the bytes behind the fault, which is that of [`crate::dbus_page_next`].
 ///
 /// [`crate::WHOLE`] if there is room for the lines. [`crate::NO_ROOM`] if there is not: then the
 /// room has as much of them as it can. [`NO_TEXT`] if the bytes begin with a message; then nothing

@@ -48,14 +48,14 @@ use Rattle.cli_report.specs.declared.ending.ExitStatus.{ExitStatus}
 use Rattle.cli_report.specs.declared.ending.ExitStatus.TheVariants as status
 use Rattle.cli_report.specs.Gathering.{Passes}
 use Rattle.cli_report.specs.declared.gathering.Unwritten.{Unwritten}
-use Rattle.cli_run.specs.Laws.{AreOfOneInput, AreOfSamePackets, AreToldAlike, EndAlike, GotAlike, ReadAlike, TellAlike}
+use Rattle.cli_run.specs.Laws.{AreOfOneInput, AreOfSamePackets, AreToldAlike, EndAlike, GotAlike, ReadAlike, TellsOne}
 use Rattle.dbus_call_lines.specs.declared.wanted.Wanted.{Wanted}
 use Rattle.cli_run.specs.Output.{AreAlike, IsExact, form_of}
 use Rattle.cli_run.proofs.SameOutputs.{acts_as}
 use Rattle.cli_run.specs.VisitorLaws.{wrote_both, wrote_nothing}
 use Rattle.cli_run.proofs.SameRuns.{one_calls, one_count, one_run, one_sums}
 use Rattle.cli_encode_laws.proofs.OneEncoding.{one_encoding}
-use Rattle.dbus_tool.specs.Alike.{AskAlike, IsOneWay, OneProgram, RunAlike, shown_for, shown_in, shown_in_calls, shown_in_task, shown_noted}
+use Rattle.dbus_tool.specs.Alike.{AskAlike, IsOneWay, OneProgram, RunAlike, TellsOneBehind}
 use Rattle.dbus_tool.specs.Handshaking.{TakesHandshake, TellsHandshake, ahead, handshake_line, EndsList, IsListed, Lengthens, Lists, WritesLines, last_line}
 use Rattle.dbus_tool.specs.Words.{Does, DoesBy, DoesCalls, DoesTask, Notes, RunsNoted, calls_wanted, encoding_wanted, owner_note, table_form}
 use Rattle.dbus_tool.specs.declared.words.Task.{Task}
@@ -93,10 +93,9 @@ no_fault (Some sub) (Encode wanted) refused p h = takes_none sub.0 sub.1 (mark (
 no_fault (Some sub) (Handshake side) refused p h = takes_none sub.0 sub.1 (mark (codes "handshake")) (ap mark p.0) (λ e. omega (arith, e)) (λ e. omega (arith, e)) h.0.named
 
 module _ {R W E : Type 0} (left : R → Option (List ℕ)) (calls failures : R → ℕ) (packets : R → Option Packets) (packet : R → Option Packet) (old new : ReadAhead R) (w : Writing W) (e : Writing E) (words : List Text) (named_one : Asked) (named_is : IsNamedBy words named_one) (faultless : fault_of wire_app words ≡ []) (end : ExitStatus) (done : end ≢ status.Failed) where
-  pub answer_is : (answer : Result Asked UsageFault) → IfOk answer (IsNamedBy words) → TellsFault words answer → (does : Does left calls failures packets packet old new w e answer end)
-      → (asked : Asked) × IsNamedBy words asked × (done : Does left calls failures packets packet old new w e (Ok asked) end)
-      × (shown_for left calls failures packets packet old new w e end answer does ≡ shown_for left calls failures packets packet old new w e end (Ok asked) done)
-  answer_is (Ok asked) named told does = (asked, named, does, refl)
+  pub answer_is : (answer : Result Asked UsageFault) → IfOk answer (IsNamedBy words) → TellsFault words answer → Does left calls failures packets packet old new w e answer end
+      → (asked : Asked) × IsNamedBy words asked × Does left calls failures packets packet old new w e (Ok asked) end
+  answer_is (Ok asked) named told does = (asked, named, does)
   answer_is (Err Memory) named told does = absurd (done does.2.0)
   answer_is (Err (Help text)) named told does = absurd (subst (λ l. IsAmong DisplayHelp l) faultless told)
   answer_is (Err (Version text)) named told does = absurd (subst (λ l. IsAmong DisplayVersion l) faultless told)
@@ -245,6 +244,10 @@ module _ {R S W V : Type 0} (one_table : OneTable) (left : R → Option (List �
   told_from : (r : ReadAhead R) (s : ReadAhead S) → FromHere r s → Told r0 s0 → Told r s
   told_from r s here told = elim told [ inl same ↦ inl (here.1 same) | inr all ↦ inr all ]
 
+  -- each refused message behind the handshake is told by one text
+  abbrev Behind : Settings → Type 0
+  Behind settings = TellsOneBehind left calls failures packets packet other_left other_calls other_failures other_packets other_packet r0 r1 s0 s1 end settings
+
   -- and so is what a command writes in this form
   abbrev Runs : FileForm → Type 0
   Runs form = RunAlike left calls failures packets packet other_left other_calls other_failures other_packets other_packet r0 r1 s0 s1 end form
@@ -260,46 +263,43 @@ module _ {R S W V : Type 0} (one_table : OneTable) (left : R → Option (List �
   module _ {E F : Type 0} (e : Writing E) (f : Writing F) (settings : Settings) where
     -- tasks end alike that do so with what follows a handshake
     tasks_alike : (task copy : Task)
-        → ((r : ReadAhead R) (s : ReadAhead S) → FromHere r s → (does : DoesBy (ahead left calls failures packets packet r r1) w e settings task end) → (doing : DoesBy (ahead other_left other_calls other_failures other_packets other_packet s s1) v f settings copy other)
-        → TellAlike settings end (shown_in (ahead left calls failures packets packet r r1) w e settings end task does) (shown_in (ahead other_left other_calls other_failures other_packets other_packet s s1) v f settings other copy doing) → EndAlike w v e f end other)
-        → (does : DoesTask left calls failures packets packet r0 r1 w e settings task end) → (doing : DoesTask other_left other_calls other_failures other_packets other_packet s0 s1 v f settings copy other)
-        → TellAlike settings end (shown_in_task left calls failures packets packet r0 r1 w e end settings task does) (shown_in_task other_left other_calls other_failures other_packets other_packet s0 s1 v f other settings copy doing) → EndAlike w v e f end other
-    tasks_alike task copy from (inl h) (inl k) tells = from h.0 k.0 (taken_alike settings.handshake h.0 k.0 (Ok tt) (Ok tt) tt tt h.1 k.1).1 h.2 k.2 tells
-    tasks_alike task copy from (inl h) (inr k) tells =
+        → ((r : ReadAhead R) (s : ReadAhead S) → FromHere r s → ((bytes : List ℕ) → (ahead left calls failures packets packet r r1).left r ≡ Some bytes → TellsOne (packets_of packets packet r) settings bytes end)
+        → DoesBy (ahead left calls failures packets packet r r1) w e settings task end → DoesBy (ahead other_left other_calls other_failures other_packets other_packet s s1) v f settings copy other → EndAlike w v e f end other)
+        → Behind settings → DoesTask left calls failures packets packet r0 r1 w e settings task end → DoesTask other_left other_calls other_failures other_packets other_packet s0 s1 v f settings copy other → EndAlike w v e f end other
+    tasks_alike task copy from tells (inl h) (inl k) = from h.0 k.0 (taken_alike settings.handshake h.0 k.0 (Ok tt) (Ok tt) tt tt h.1 k.1).1 (λ bytes is. tells h.0 bytes h.1 is) h.2 k.2
+    tasks_alike task copy from tells (inl h) (inr k) =
         let one = taken_alike settings.handshake h.0 s1 (Ok tt) (Err k.0) tt (fault_of_input f other other_done (Unit {0}) k.0 k.3) h.1 k.1 in
         absurd (let is : ◌≡◌ {A = Result (Unit {0}) HandshakeFault} (Ok tt) (Err k.0) = one.0 in cc)
-    tasks_alike task copy from (inr h) (inl k) tells =
+    tasks_alike task copy from tells (inr h) (inl k) =
         let one = taken_alike settings.handshake r1 k.0 (Err h.0) (Ok tt) (fault_of_input e end done (Unit {0}) h.0 h.3) tt h.1 k.1 in
         absurd (let is : ◌≡◌ {A = Result (Unit {0}) HandshakeFault} (Err h.0) (Ok tt) = one.0 in cc)
-    tasks_alike task copy from (inr h) (inr k) tells =
+    tasks_alike task copy from tells (inr h) (inr k) =
         let one = taken_alike settings.handshake r1 s1 (Err h.0) (Err k.0) (fault_of_input e end done (Unit {0}) h.0 h.3) (fault_of_input f other other_done (Unit {0}) k.0 k.3) h.1 k.1 in
         let same : h.0 ≡ k.0 = let is : ◌≡◌ {A = Result (Unit {0}) HandshakeFault} (Err h.0) (Err k.0) = one.0 in cc in
         let all = tells_alike e f end other done other_done h.0 k.0 same h.3 k.3 in
         record { status_is = all.0; first = ([], wrote_none w.held w.failures w.old w.new h.2, wrote_none v.held v.failures v.old v.new k.2); second = all.1 }
 
-    runs_alike : (c d : Command) → Runs (form_of c) → AreSameCommand c d → IsExact c → (does : DoesTask left calls failures packets packet r0 r1 w e settings (Run c) end) → (doing : DoesTask other_left other_calls other_failures other_packets other_packet s0 s1 v f settings (Run d) other)
-        → TellAlike settings end (shown_in_task left calls failures packets packet r0 r1 w e end settings (Run c) does) (shown_in_task other_left other_calls other_failures other_packets other_packet s0 s1 v f other settings (Run d) doing) → EndAlike w v e f end other
-    runs_alike c d run same exact = tasks_alike (Run c) (Run d) (λ r s here does doing tells.
+    runs_alike : (c d : Command) → Runs (form_of c) → AreSameCommand c d → IsExact c → Behind settings → DoesTask left calls failures packets packet r0 r1 w e settings (Run c) end → DoesTask other_left other_calls other_failures other_packets other_packet s0 s1 v f settings (Run d) other
+        → EndAlike w v e f end other
+    runs_alike c d run same exact = tasks_alike (Run c) (Run d) (λ r s here tells does doing.
         (one_run (ReadAhead R) (ReadAhead S) W V E F (ahead left calls failures packets packet r r1) (ahead other_left other_calls other_failures other_packets other_packet s s1) w v e f settings _ _ c d end other same does doing
-        (record { input = here.0; told = told_from r s here (told_of (form_of c) run); shown = tells; done = done; other_done = other_done })).1 exact (placed_alike (form_of c) run r s here))
+        (record { input = here.0; told = told_from r s here (told_of (form_of c) run); one = tells here.0.0 here.0.2; done = done; other_done = other_done })).1 exact (placed_alike (form_of c) run r s here))
 
-    counts_alike : Same r0 s0 → (does : DoesTask left calls failures packets packet r0 r1 w e settings CountAll end) → (doing : DoesTask other_left other_calls other_failures other_packets other_packet s0 s1 v f settings CountAll other)
-        → TellAlike settings end (shown_in_task left calls failures packets packet r0 r1 w e end settings CountAll does) (shown_in_task other_left other_calls other_failures other_packets other_packet s0 s1 v f other settings CountAll doing) → EndAlike w v e f end other
-    counts_alike same = tasks_alike CountAll CountAll (λ r s here does doing tells.
+    counts_alike : Same r0 s0 → Behind settings → DoesTask left calls failures packets packet r0 r1 w e settings CountAll end → DoesTask other_left other_calls other_failures other_packets other_packet s0 s1 v f settings CountAll other → EndAlike w v e f end other
+    counts_alike same = tasks_alike CountAll CountAll (λ r s here tells does doing.
         (one_count (ReadAhead R) (ReadAhead S) W V E F one_table (ahead left calls failures packets packet r r1) (ahead other_left other_calls other_failures other_packets other_packet s s1) w v e f settings (table_form settings.as_json) _ _ end other does doing
-        (record { input = here.0; told = inl (here.1 same); shown = tells; done = done; other_done = other_done })).1 (here.1 same))
+        (record { input = here.0; told = inl (here.1 same); one = tells here.0.0 here.0.2; done = done; other_done = other_done })).1 (here.1 same))
 
-    either_alike : (r : Reading (ReadAhead R)) (s : Reading (ReadAhead S)) (by_member : Bool) (wanted : Wanted) → AreOfSamePackets r s → (does : DoesCalls r w e settings by_member wanted end) → (doing : DoesCalls s v f settings by_member wanted other)
-        → AreOfOneInput r s settings end other (shown_in_calls r w e settings end by_member wanted does) (shown_in_calls s v f settings other by_member wanted doing) → EndAlike w v e f end other
+    either_alike : (r : Reading (ReadAhead R)) (s : Reading (ReadAhead S)) (by_member : Bool) (wanted : Wanted) → AreOfSamePackets r s → DoesCalls r w e settings by_member wanted end → DoesCalls s v f settings by_member wanted other
+        → AreOfOneInput r s settings end other → EndAlike w v e f end other
     either_alike r s true wanted same does doing is = one_sums (ReadAhead R) (ReadAhead S) W V E F r s w v e f settings wanted _ _ end other does doing is same
     either_alike r s false wanted same does doing is = one_calls (ReadAhead R) (ReadAhead S) W V E F r s w v e f settings wanted _ _ end other does doing is same
 
-    called_alike : (wanted : WantedCalls) → Same r0 s0 → (does : DoesTask left calls failures packets packet r0 r1 w e settings (ListAll wanted) end) → (doing : DoesTask other_left other_calls other_failures other_packets other_packet s0 s1 v f settings (ListAll wanted) other)
-        → TellAlike settings end (shown_in_task left calls failures packets packet r0 r1 w e end settings (ListAll wanted) does) (shown_in_task other_left other_calls other_failures other_packets other_packet s0 s1 v f other settings (ListAll wanted) doing)
+    called_alike : (wanted : WantedCalls) → Same r0 s0 → Behind settings → DoesTask left calls failures packets packet r0 r1 w e settings (ListAll wanted) end → DoesTask other_left other_calls other_failures other_packets other_packet s0 s1 v f settings (ListAll wanted) other
         → EndAlike w v e f end other
-    called_alike wanted same = tasks_alike (ListAll wanted) (ListAll wanted) (λ r s here does doing tells.
+    called_alike wanted same = tasks_alike (ListAll wanted) (ListAll wanted) (λ r s here tells does doing.
         either_alike (ahead left calls failures packets packet r r1) (ahead other_left other_calls other_failures other_packets other_packet s s1) wanted.by_member (calls_wanted settings.as_json wanted) (here.1 same) does doing
-        (record { input = here.0; told = inl (here.1 same); shown = tells; done = done; other_done = other_done }))
+        (record { input = here.0; told = inl (here.1 same); one = tells here.0.0 here.0.2; done = done; other_done = other_done }))
 
   module _ {E F : Type 0} (e : Writing E) (f : Writing F) where
     listed_alike : (side : Side) → Lists left calls failures packets packet r0 r1 w e side end → Lists other_left other_calls other_failures other_packets other_packet s0 s1 v f side other → EndAlike w v e f end other
@@ -313,12 +313,11 @@ module _ {R S W V : Type 0} (one_table : OneTable) (left : R → Option (List �
         record { status_is = ends.0; first = (h.text ++ last_line h.read, h.wrote, subst (λ l. Wrote v.held v.failures v.old l v.new) (sym all) k.wrote); second = ends.1 }
 
     -- after a note that is due, or is not
-    noted_alike : (c d : Command) (settings : Settings) → Runs (form_of c) → AreSameCommand c d → IsExact c
-        → (does : RunsNoted left calls failures packets packet r0 r1 w e settings (lacks_owner c) (Run c) end) → (doing : RunsNoted other_left other_calls other_failures other_packets other_packet s0 s1 v f settings (lacks_owner d) (Run d) other)
-        → TellAlike settings end (shown_noted left calls failures packets packet r0 r1 w e end settings (lacks_owner c) (Run c) does) (shown_noted other_left other_calls other_failures other_packets other_packet s0 s1 v f other settings (lacks_owner d) (Run d) doing)
+    noted_alike : (c d : Command) (settings : Settings) → Runs (form_of c) → AreSameCommand c d → IsExact c → Behind settings
+        → RunsNoted left calls failures packets packet r0 r1 w e settings (lacks_owner c) (Run c) end → RunsNoted other_left other_calls other_failures other_packets other_packet s0 s1 v f settings (lacks_owner d) (Run d) other
         → EndAlike w v e f end other
-    noted_alike c d settings run same exact (inl h) (inl k) tells =
-        let all = runs_alike (writing e.held e.failures h.0 e.new) (writing f.held f.failures k.0 f.new) settings c d run same exact h.2 k.2 tells in
+    noted_alike c d settings run same exact tells (inl h) (inl k) =
+        let all = runs_alike (writing e.held e.failures h.0 e.new) (writing f.held f.failures k.0 f.new) settings c d run same exact tells h.2 k.2 in
         let due = settings.explains && lacks_owner c in
         let here = noted e.held e.failures due e.old h.0 h.1 in
         let there = noted f.held f.failures due f.old k.0 (subst (λ (b : Bool). Notes f.held f.failures (settings.explains && b) f.old k.0 (Ok tt)) (sym (same_lacks c d same)) k.1) in
@@ -328,14 +327,13 @@ module _ {R S W V : Type 0} (one_table : OneTable) (left : R → Option (List �
           first = all.first;
           second = (note_if due ++ told.0, wrote_both e.held e.failures (note_if due) told.0 e.old h.0 e.new here told.1, wrote_both f.held f.failures (note_if due) told.0 f.old k.0 f.new there told.2);
         }
-    noted_alike c d settings run same exact (inl h) (inr k) tells = absurd (other_done k.2)
-    noted_alike c d settings run same exact (inr h) doing tells = absurd (done h.2)
+    noted_alike c d settings run same exact tells (inl h) (inr k) = absurd (other_done k.2)
+    noted_alike c d settings run same exact tells (inr h) doing = absurd (done h.2)
 
     -- two that ask for the same
     abbrev DoAlike : Asked → Asked → Type 0
-    DoAlike a b = IsOneWay end a → (does : Does left calls failures packets packet r0 r1 w e (Ok a) end) → (doing : Does other_left other_calls other_failures other_packets other_packet s0 s1 v f (Ok b) other)
-        → AskAlike left calls failures packets packet other_left other_calls other_failures other_packets other_packet r0 r1 s0 s1 end (shown_for left calls failures packets packet r0 r1 w e end (Ok a) does)
-        (shown_for other_left other_calls other_failures other_packets other_packet s0 s1 v f other (Ok b) doing) a → EndAlike w v e f end other
+    DoAlike a b = IsOneWay end a → Does left calls failures packets packet r0 r1 w e (Ok a) end → Does other_left other_calls other_failures other_packets other_packet s0 s1 v f (Ok b) other
+        → AskAlike left calls failures packets packet other_left other_calls other_failures other_packets other_packet r0 r1 s0 s1 end a → EndAlike w v e f end other
 
     encoded_alike : (wanted : WantedEncoding) → DoAlike (Encode wanted) (Encode wanted)
     encoded_alike wanted one does doing told =
@@ -343,13 +341,12 @@ module _ {R S W V : Type 0} (one_table : OneTable) (left : R → Option (List �
         record { status_is = both.status_is; first = both.first; second = both.second one }
 
     alike : (a b : Asked) → AreSameAsked a b → DoAlike a b
-    alike = same_by DoAlike (λ c d settings same one does doing told. noted_alike c d settings told.0 same one does doing told.1) (λ settings one does doing told. counts_alike e f settings told.0 does doing told.1)
-        (λ settings a b same one does doing told. absurd one) (λ settings wanted one does doing told. called_alike e f settings wanted told.0 does doing told.1) encoded_alike (λ side one does doing told. listed_alike side does doing)
+    alike = same_by DoAlike (λ c d settings same one does doing told. noted_alike c d settings told.0 same one told.1 does doing) (λ settings one does doing told. counts_alike e f settings told.0 told.1 does doing)
+        (λ settings a b same one does doing told. absurd one) (λ settings wanted one does doing told. called_alike e f settings wanted told.0 told.1 does doing) encoded_alike (λ side one does doing told. listed_alike side does doing)
 
 pub one_program : (R S W V E F : Type 0) → OneTable → OneProgram R S W V E F
 one_program R S W V E F one_table left calls failures packets packet other_left other_calls other_failures other_packets other_packet r0 r1 s0 s1 w v e f words end other one input done other_done runs ran told =
     let a = answer_is left calls failures packets packet r0 r1 w e words one.asked one.named one.faultless end done runs.answer runs.named runs.told runs.does in
     let b = answer_is other_left other_calls other_failures other_packets other_packet s0 s1 v f words one.asked one.named one.faultless other other_done ran.answer ran.named ran.told ran.does in
-    let tells = transport (λ i. AskAlike left calls failures packets packet other_left other_calls other_failures other_packets other_packet r0 r1 s0 s1 end (a.3 i) (b.3 i) a.0) (told a.0 a.1) in
     alike one_table left calls failures packets packet other_left other_calls other_failures other_packets other_packet r0 r1 s0 s1 w v end other input done other_done e f a.0 b.0 (same_asked words a.0 b.0 a.1 b.1)
-    (one_way_too end one.asked a.0 (same_asked words one.asked a.0 one.named a.1) one.one_way) a.2 b.2 tells
+    (one_way_too end one.asked a.0 (same_asked words one.asked a.0 one.named a.1) one.one_way) a.2 b.2 (told a.0 a.1)

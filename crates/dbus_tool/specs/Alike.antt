@@ -1,31 +1,25 @@
 -- One law for the program: words that name something, and an input, have one output and one status.
-use Rattle.std.specs.Prelude.{◌≡◌, ◌≢◌, ℕ, Bool, true, false, List, [], Option, Result, Ok}
-use mathlib.Core.Logic.{inl, inr}
+use Rattle.std.specs.Prelude.{◌≡◌, ◌≢◌, ℕ, List, [], Option, Some, Ok}
 use Rattle.clap.specs.Words.{Text}
 use Rattle.clap.specs.Faults.{fault_of}
 use Rattle.dbus_device.specs.Packets.{Packets}
 use Rattle.dbus_device.specs.declared.packet.Packet.{Packet}
+use Rattle.dbus_handshake_input.specs.Ahead.{packets_of}
 use Rattle.dbus_handshake_input.specs.declared.read_ahead.ReadAhead.{ReadAhead}
-use Rattle.dbus_call_lines.specs.declared.wanted.Wanted.{Wanted}
 use Rattle.cli_options.specs.CommandLine.{wire_app}
 use Rattle.cli_options.specs.Named.{IsNamedBy}
-use Rattle.cli_options.specs.Owners.{lacks_owner, selection_lacks_owner}
 use Rattle.cli_options.specs.declared.asked.Asked.{Asked}
 use Rattle.cli_options.specs.declared.file_form.FileForm.{FileForm}
 use Rattle.cli_options.specs.declared.file_form.FileForm.TheVariants.{AsRead, Raw}
 use Rattle.cli_options.specs.declared.asked.Asked.TheVariants.{Messages, Count, List as Listing, Calls, Encode, Handshake}
 use Rattle.cli_options.specs.declared.settings.Settings.{Settings}
-use Rattle.cli_options.specs.declared.usage_fault.UsageFault.{UsageFault}
-use Rattle.cli_report.specs.Devices.{Reading, Writing, writing}
+use Rattle.cli_report.specs.Devices.{Reading, Writing}
 use Rattle.cli_report.specs.declared.ending.ExitStatus.{ExitStatus}
 use Rattle.cli_report.specs.declared.ending.ExitStatus.TheVariants as status
-use Rattle.cli_run.specs.Laws.{AreOfSamePackets, AreToldAlike, EndAlike, ReadAlike, TellAlike}
+use Rattle.cli_run.specs.Laws.{AreOfSamePackets, AreToldAlike, EndAlike, ReadAlike, TellsOne}
 use Rattle.cli_run.specs.Output.{IsExact, form_of}
-use Rattle.cli_run.specs.Shown.{AllShown, none_shown, shown_after, shown_by}
-use Rattle.dbus_tool.specs.Handshaking.{ahead}
-use Rattle.dbus_tool.specs.Words.{Does, DoesBy, DoesCalls, DoesTask, RunsNoted, RunsWords, calls_wanted}
-use Rattle.dbus_tool.specs.declared.words.Task.{Task}
-use Rattle.dbus_tool.specs.declared.words.Task.TheVariants.{Run, CountAll, ListAll, ListLines}
+use Rattle.dbus_tool.specs.Handshaking.{TakesHandshake, ahead}
+use Rattle.dbus_tool.specs.Words.{RunsWords}
 
 -- what is asked for is done in one way: it is neither `json` nor `list`, and no `show` with times,
 -- and `encode` refuses no line
@@ -44,36 +38,6 @@ pub record NameOneWay (words : List Text) (end : ExitStatus) : Type 0 where
   pub one_way : IsOneWay end asked
   pub faultless : fault_of wire_app words ≡ []
 
--- Which messages a run has refused, and how much of each it had read.
-
-module _ {R W E : Type 0} (r : Reading R) (w : Writing W) (e : Writing E) (settings : Settings) (end : ExitStatus) where
-  abbrev pub shown_in_calls : (by_member : Bool) (wanted : Wanted) → DoesCalls r w e settings by_member wanted end → AllShown
-  shown_in_calls true wanted does = shown_after does
-  shown_in_calls false wanted does = shown_after does
-
-  abbrev pub shown_in : (task : Task) → DoesBy r w e settings task end → AllShown
-  shown_in (Run command) does = shown_by does
-  shown_in CountAll does = shown_after does
-  shown_in (ListAll wanted) does = shown_in_calls wanted.by_member (calls_wanted settings.as_json wanted) does
-  shown_in (ListLines wanted) does = shown_by does
-
-module _ {R W E : Type 0} (left : R → Option (List ℕ)) (calls failures : R → ℕ) (packets : R → Option Packets) (packet : R → Option Packet) (old new : ReadAhead R) (w : Writing W) (e : Writing E) (end : ExitStatus) where
-  abbrev pub shown_in_task : (settings : Settings) (task : Task) → DoesTask left calls failures packets packet old new w e settings task end → AllShown
-  shown_in_task settings task (inl begun) = shown_in (ahead left calls failures packets packet begun.0 new) w e settings end task begun.2
-  shown_in_task settings task (inr refused) = none_shown
-
-module _ {R W E : Type 0} (left : R → Option (List ℕ)) (calls failures : R → ℕ) (packets : R → Option Packets) (packet : R → Option Packet) (old new : ReadAhead R) (w : Writing W) (e : Writing E) (end : ExitStatus) where
-  abbrev pub shown_noted : (settings : Settings) (lacks_owner : Bool) (task : Task) → RunsNoted left calls failures packets packet old new w e settings lacks_owner task end → AllShown
-  shown_noted settings lacks_owner task (inl noted) = shown_in_task left calls failures packets packet old new w (writing e.held e.failures noted.0 e.new) end settings task noted.2
-  shown_noted settings lacks_owner task (inr failed) = none_shown
-
-  abbrev pub shown_for : (answer : Result Asked UsageFault) → Does left calls failures packets packet old new w e answer end → AllShown
-  shown_for (Ok (Messages command settings)) does = shown_noted settings (lacks_owner command) (Run command) does
-  shown_for (Ok (Listing settings wanted)) does = shown_noted settings (selection_lacks_owner wanted.selection) (ListLines wanted) does
-  shown_for (Ok (Count settings)) does = shown_in_task left calls failures packets packet old new w e end settings CountAll does
-  shown_for (Ok (Calls settings wanted)) does = shown_in_task left calls failures packets packet old new w e end settings (ListAll wanted) does
-  shown_for answer does = none_shown
-
 module _ {R S : Type 0} (left : R → Option (List ℕ)) (calls failures : R → ℕ) (packets : R → Option Packets) (packet : R → Option Packet) (other_left : S → Option (List ℕ)) (other_calls other_failures : S → ℕ)
     (other_packets : S → Option Packets) (other_packet : S → Option Packet) (r0 r1 : ReadAhead R) (s0 s1 : ReadAhead S) (end : ExitStatus) where
   -- both inputs are of the same packets
@@ -86,15 +50,19 @@ module _ {R S : Type 0} (left : R → Option (List ℕ)) (calls failures : R →
   RunAlike Raw = AreToldAlike (ahead left calls failures packets packet r0 r1) (ahead other_left other_calls other_failures other_packets other_packet s0 s1) end
   RunAlike AsRead = SamePackets
 
-  -- what is asked for has one output, if these messages were refused: `count`, `list` and `calls`
-  -- write times of packets too
-  abbrev pub AskAlike : (one also : AllShown) → Asked → Type 0
-  AskAlike one also (Messages command settings) = RunAlike (form_of command) × TellAlike settings end one also
-  AskAlike one also (Count settings) = SamePackets × TellAlike settings end one also
-  AskAlike one also (Listing settings wanted) = SamePackets × TellAlike settings end one also
-  AskAlike one also (Calls settings wanted) = SamePackets × TellAlike settings end one also
-  AskAlike one also (Encode wanted) = Unit {0}
-  AskAlike one also (Handshake side) = Unit {0}
+  -- each refused message of what follows the handshake of a side is told by one text
+  abbrev pub TellsOneBehind : Settings → Type 0
+  TellsOneBehind settings = (begun : ReadAhead R) (bytes : List ℕ) → TakesHandshake left calls failures packets packet settings.handshake r0 begun (Ok tt) → (ahead left calls failures packets packet begun r1).left begun ≡ Some bytes
+      → TellsOne (packets_of packets packet begun) settings bytes end
+
+  -- what is asked for has one output: `count`, `list` and `calls` write times of packets too
+  abbrev pub AskAlike : Asked → Type 0
+  AskAlike (Messages command settings) = RunAlike (form_of command) × TellsOneBehind settings
+  AskAlike (Count settings) = SamePackets × TellsOneBehind settings
+  AskAlike (Listing settings wanted) = SamePackets × TellsOneBehind settings
+  AskAlike (Calls settings wanted) = SamePackets × TellsOneBehind settings
+  AskAlike (Encode wanted) = Unit {0}
+  AskAlike (Handshake side) = Unit {0}
 
 -- two runs of the program by such words that read the same input, and did not fail, end alike
 abbrev pub OneProgram : (R S W V E F : Type 0) → Type 0
@@ -103,6 +71,5 @@ OneProgram R S W V E F = (left : R → Option (List ℕ)) (calls failures : R �
     (w : Writing W) (v : Writing V) (e : Writing E) (f : Writing F) (words : List Text) (end other : ExitStatus)
     → NameOneWay words end → ReadAlike (ahead left calls failures packets packet r0 r1) (ahead other_left other_calls other_failures other_packets other_packet s0 s1)
     → end ≢ status.Failed → other ≢ status.Failed
-    → (runs : RunsWords left calls failures packets packet r0 r1 w e words end) → (ran : RunsWords other_left other_calls other_failures other_packets other_packet s0 s1 v f words other)
-    → ((asked : Asked) → IsNamedBy words asked → AskAlike left calls failures packets packet other_left other_calls other_failures other_packets other_packet r0 r1 s0 s1 end
-    (shown_for left calls failures packets packet r0 r1 w e end runs.answer runs.does) (shown_for other_left other_calls other_failures other_packets other_packet s0 s1 v f other ran.answer ran.does) asked) → EndAlike w v e f end other
+    → RunsWords left calls failures packets packet r0 r1 w e words end → RunsWords other_left other_calls other_failures other_packets other_packet s0 s1 v f words other
+    → ((asked : Asked) → IsNamedBy words asked → AskAlike left calls failures packets packet other_left other_calls other_failures other_packets other_packet r0 r1 s0 s1 end asked) → EndAlike w v e f end other

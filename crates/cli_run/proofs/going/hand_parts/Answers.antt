@@ -62,7 +62,7 @@ returns-in-Err-tell-clause-passes g c =
     let laws = g.met.V.MessageVisitor.adds_up in
     let r = reach c.parts.invariant.0 laws c.parts.invariant.4 c.hand_all.new.messages c.hand_all.new.visitor
     (known_still g.R.Source.packets g.R.Source.packet c.parts.messages c.hand_all.new.messages _ c.hand_all.ensures.packets c.parts.invariant.4) c.hand_all.ensures.looked c.in-Ok.counted c.up_to-tally.result c.up_to-tally.ensures (at_fault c.parts.invariant.0 g.met.V.MessageVisitor.adds_up c.parts.invariant.4 c.hand_all.new.messages c.hand_all.new.visitor c.in-Ok.counted _ c.in-Some.is c.in-Ok.ensures.hands) in
-    not_told laws r c.in-Some.is c.number_of.result (c.number_of.ensures ∙ ap number_of c.packet.ensures) c.in-Ok.ensures.settled c.tell.new.visitor c.in-Err-tell.stop c.in-Err-tell.ensures.tells
+    not_told laws r c.in-Some.is c.number_of.result (c.number_of.ensures ∙ ap number_of c.packet.ensures) c.tell.ensures.front.0 c.tell.ensures.front.1 c.in-Ok.ensures.settled c.tell.new.visitor c.in-Err-tell.stop c.in-Err-tell.ensures.tells
 
 pub returns-then-not-settings-clause-passes : goal.returns-then-not-settings-clause-passes
 returns-then-not-settings-clause-passes g c =
@@ -70,7 +70,7 @@ returns-then-not-settings-clause-passes g c =
     let r = reach c.parts.invariant.0 laws c.parts.invariant.4 c.hand_all.new.messages c.hand_all.new.visitor
     (known_still g.R.Source.packets g.R.Source.packet c.parts.messages c.hand_all.new.messages _ c.hand_all.ensures.packets c.parts.invariant.4) c.hand_all.ensures.looked c.in-Ok.counted c.up_to-tally.result c.up_to-tally.ensures (at_fault c.parts.invariant.0 g.met.V.MessageVisitor.adds_up c.parts.invariant.4 c.hand_all.new.messages c.hand_all.new.visitor c.in-Ok.counted _ c.in-Some.is c.in-Ok.ensures.hands) in
     let told = c.in-Ok-tell.ensures.tells in
-    let ended = halts laws r c.in-Some.is c.number_of.result (c.number_of.ensures ∙ ap number_of c.packet.ensures) told.0 told.1 told.2 (unset c.args.settings.keeps_going c.if-not-settings.true) in
+    let ended = halts laws r c.in-Some.is c.number_of.result (c.number_of.ensures ∙ ap number_of c.packet.ensures) c.tell.ensures.front.0 c.tell.ensures.front.1 told.0 told.1 told.2 (unset c.args.settings.keeps_going c.if-not-settings.true) in
     closes ended laws c.in-Ok-tell.ensures.settled c.close-then-not-settings.new.visitor c.close-then-not-settings.result c.close-then-not-settings.ensures.closes
 
 pub returns-in-Ok-CutOff-clause-passes : goal.returns-in-Ok-CutOff-clause-passes
@@ -79,7 +79,7 @@ returns-in-Ok-CutOff-clause-passes g c =
     let r = reach c.parts.invariant.0 laws c.parts.invariant.4 c.hand_all.new.messages c.hand_all.new.visitor
     (known_still g.R.Source.packets g.R.Source.packet c.parts.messages c.hand_all.new.messages _ c.hand_all.ensures.packets c.parts.invariant.4) c.hand_all.ensures.looked c.in-Ok.counted c.up_to-tally.result c.up_to-tally.ensures (at_fault c.parts.invariant.0 g.met.V.MessageVisitor.adds_up c.parts.invariant.4 c.hand_all.new.messages c.hand_all.new.visitor c.in-Ok.counted _ c.in-Some.is c.in-Ok.ensures.hands) in
     let told = c.in-Ok-tell.ensures.tells in
-    let ended = ends_short laws r c.in-Some.is c.number_of.result (c.number_of.ensures ∙ ap number_of c.packet.ensures) told.0 told.1 told.2 c.pass.new.messages (known_still g.R.Source.packets g.R.Source.packet c.parts.messages c.hand_all.new.messages _ c.hand_all.ensures.packets c.parts.invariant.4) c.at_end-ended.result c.done-in-Ok-CutOff.result c.is_none.result (none_if c.number_of.result c.is_none.result c.is_none.ensures) c.done-in-Ok-CutOff.ensures c.at_end-ended.ensures (set c.args.settings.keeps_going c.if-not-settings.false) (rw c.in-Ok-CutOff.field-0-is at c.in-Ok-CutOff.ensures.passes) (rw c.in-Ok-CutOff.field-0-is at c.in-Ok-CutOff.ensures.in_packet) c.in-Ok-CutOff.ensures.failed in
+    let ended = ends_short laws r c.in-Some.is c.number_of.result (c.number_of.ensures ∙ ap number_of c.packet.ensures) c.tell.ensures.front.0 c.tell.ensures.front.1 told.0 told.1 told.2 c.pass.new.messages (known_still g.R.Source.packets g.R.Source.packet c.parts.messages c.hand_all.new.messages _ c.hand_all.ensures.packets c.parts.invariant.4) c.at_end-ended.result c.done-in-Ok-CutOff.result c.is_none.result (none_if c.number_of.result c.is_none.result c.is_none.ensures) c.done-in-Ok-CutOff.ensures c.at_end-ended.ensures (set c.args.settings.keeps_going c.if-not-settings.false) (rw c.in-Ok-CutOff.field-0-is at c.in-Ok-CutOff.ensures.passes) (rw c.in-Ok-CutOff.field-0-is at c.in-Ok-CutOff.ensures.in_packet) c.in-Ok-CutOff.ensures.failed in
     closes ended laws c.in-Ok-tell.ensures.settled c.close-in-Ok-CutOff.new.visitor c.close-in-Ok-CutOff.result c.close-in-Ok-CutOff.ensures.closes
 
 pub returns-in-Ok-Not-clause-passes : goal.returns-in-Ok-Not-clause-passes
@@ -88,7 +88,7 @@ returns-in-Ok-Not-clause-passes g c =
     let r = reach c.parts.invariant.0 laws c.parts.invariant.4 c.hand_all.new.messages c.hand_all.new.visitor
     (known_still g.R.Source.packets g.R.Source.packet c.parts.messages c.hand_all.new.messages _ c.hand_all.ensures.packets c.parts.invariant.4) c.hand_all.ensures.looked c.in-Ok.counted c.up_to-tally.result c.up_to-tally.ensures (at_fault c.parts.invariant.0 g.met.V.MessageVisitor.adds_up c.parts.invariant.4 c.hand_all.new.messages c.hand_all.new.visitor c.in-Ok.counted _ c.in-Some.is c.in-Ok.ensures.hands) in
     let told = c.in-Ok-tell.ensures.tells in
-    let ended = stays laws r c.in-Some.is c.number_of.result (c.number_of.ensures ∙ ap number_of c.packet.ensures) told.0 told.1 told.2 c.pass.new.messages (known_still g.R.Source.packets g.R.Source.packet c.parts.messages c.hand_all.new.messages _ c.hand_all.ensures.packets c.parts.invariant.4) (set c.args.settings.keeps_going c.if-not-settings.false) (rw c.in-Ok-Not.field-0-is at c.in-Ok-Not.ensures.passes) (rw c.in-Ok-Not.field-0-is at c.in-Ok-Not.ensures.in_packet) c.in-Ok-Not.ensures.failed in
+    let ended = stays laws r c.in-Some.is c.number_of.result (c.number_of.ensures ∙ ap number_of c.packet.ensures) c.tell.ensures.front.0 c.tell.ensures.front.1 told.0 told.1 told.2 c.pass.new.messages (known_still g.R.Source.packets g.R.Source.packet c.parts.messages c.hand_all.new.messages _ c.hand_all.ensures.packets c.parts.invariant.4) (set c.args.settings.keeps_going c.if-not-settings.false) (rw c.in-Ok-Not.field-0-is at c.in-Ok-Not.ensures.passes) (rw c.in-Ok-Not.field-0-is at c.in-Ok-Not.ensures.in_packet) c.in-Ok-Not.ensures.failed in
     closes ended laws c.in-Ok-tell.ensures.settled c.close-in-Ok-Not.new.visitor c.close-in-Ok-Not.result c.close-in-Ok-Not.ensures.closes
 
 pub returns-in-Err-pass-clause-passes : goal.returns-in-Err-pass-clause-passes
@@ -98,7 +98,7 @@ returns-in-Err-pass-clause-passes g c =
     (known_still g.R.Source.packets g.R.Source.packet c.parts.messages c.hand_all.new.messages _ c.hand_all.ensures.packets c.parts.invariant.4) c.hand_all.ensures.looked c.in-Ok.counted c.up_to-tally.result c.up_to-tally.ensures (at_fault c.parts.invariant.0 g.met.V.MessageVisitor.adds_up c.parts.invariant.4 c.hand_all.new.messages c.hand_all.new.visitor c.in-Ok.counted _ c.in-Some.is c.in-Ok.ensures.hands) in
     let told = c.in-Ok-tell.ensures.tells in
     rw c.cause_of.ensures
-    (breaks laws r c.in-Some.is c.number_of.result (c.number_of.ensures ∙ ap number_of c.packet.ensures) told.0 told.1 told.2 c.pass.new.messages (known_still g.R.Source.packets g.R.Source.packet c.parts.messages c.hand_all.new.messages _ c.hand_all.ensures.packets c.parts.invariant.4) c.in-Ok-tell.ensures.settled (set c.args.settings.keeps_going c.if-not-settings.false) c.in-Err-pass.fault
+    (breaks laws r c.in-Some.is c.number_of.result (c.number_of.ensures ∙ ap number_of c.packet.ensures) c.tell.ensures.front.0 c.tell.ensures.front.1 told.0 told.1 told.2 c.pass.new.messages (known_still g.R.Source.packets g.R.Source.packet c.parts.messages c.hand_all.new.messages _ c.hand_all.ensures.packets c.parts.invariant.4) c.in-Ok-tell.ensures.settled (set c.args.settings.keeps_going c.if-not-settings.false) c.in-Err-pass.fault
     c.in-Err-pass.ensures.passes c.in-Err-pass.ensures.in_packet c.in-Err-pass.ensures.failed)
 
 pub pass-requires : goal.pass-requires
@@ -112,7 +112,7 @@ at_end-ended-requires g c =
     let r = reach c.parts.invariant.0 g.met.V.MessageVisitor.adds_up c.parts.invariant.4 c.hand_all.new.messages c.hand_all.new.visitor
     (known_still g.R.Source.packets g.R.Source.packet c.parts.messages c.hand_all.new.messages _ c.hand_all.ensures.packets c.parts.invariant.4) c.hand_all.ensures.looked c.in-Ok.counted c.up_to-tally.result c.up_to-tally.ensures (at_fault c.parts.invariant.0 g.met.V.MessageVisitor.adds_up c.parts.invariant.4 c.hand_all.new.messages c.hand_all.new.visitor c.in-Ok.counted _ c.in-Some.is c.in-Ok.ensures.hands) in
     let far = within r.gone in
-    let on = not_less g.met.V.MessageVisitor.adds_up r c.in-Some.is c.number_of.result (c.number_of.ensures ∙ ap number_of c.packet.ensures) c.pass.new.messages (known_still g.R.Source.packets g.R.Source.packet c.parts.messages c.hand_all.new.messages _ c.hand_all.ensures.packets c.parts.invariant.4) (rw c.in-Ok-CutOff.field-0-is at c.in-Ok-CutOff.ensures.passes) (rw c.in-Ok-CutOff.field-0-is at c.in-Ok-CutOff.ensures.in_packet) in
+    let on = not_less g.met.V.MessageVisitor.adds_up r c.in-Some.is c.number_of.result (c.number_of.ensures ∙ ap number_of c.packet.ensures) c.tell.ensures.front.0 c.tell.ensures.front.1 c.pass.new.messages (known_still g.R.Source.packets g.R.Source.packet c.parts.messages c.hand_all.new.messages _ c.hand_all.ensures.packets c.parts.invariant.4) (rw c.in-Ok-CutOff.field-0-is at c.in-Ok-CutOff.ensures.passes) (rw c.in-Ok-CutOff.field-0-is at c.in-Ok-CutOff.ensures.in_packet) in
     let small = done_small c.pass.new.messages in
     let end : c.done-in-Ok-CutOff.result ≡ done_of c.pass.new.messages = c.done-in-Ok-CutOff.ensures in
     record {
@@ -127,7 +127,7 @@ past-tally-requires g c =
     let r = reach c.parts.invariant.0 g.met.V.MessageVisitor.adds_up c.parts.invariant.4 c.hand_all.new.messages c.hand_all.new.visitor
     (known_still g.R.Source.packets g.R.Source.packet c.parts.messages c.hand_all.new.messages _ c.hand_all.ensures.packets c.parts.invariant.4) c.hand_all.ensures.looked c.in-Ok.counted c.up_to-tally.result c.up_to-tally.ensures (at_fault c.parts.invariant.0 g.met.V.MessageVisitor.adds_up c.parts.invariant.4 c.hand_all.new.messages c.hand_all.new.visitor c.in-Ok.counted _ c.in-Some.is c.in-Ok.ensures.hands) in
     let far = within r.gone in
-    let on = grows g.met.V.MessageVisitor.adds_up r c.in-Some.is c.number_of.result (c.number_of.ensures ∙ ap number_of c.packet.ensures) c.pass.new.messages (known_still g.R.Source.packets g.R.Source.packet c.parts.messages c.hand_all.new.messages _ c.hand_all.ensures.packets c.parts.invariant.4) (rw c.in-Ok-Over.field-0-is at c.in-Ok-Over.ensures.passes) (rw c.in-Ok-Over.field-0-is at c.in-Ok-Over.ensures.in_packet) in
+    let on = grows g.met.V.MessageVisitor.adds_up r c.in-Some.is c.number_of.result (c.number_of.ensures ∙ ap number_of c.packet.ensures) c.tell.ensures.front.0 c.tell.ensures.front.1 c.pass.new.messages (known_still g.R.Source.packets g.R.Source.packet c.parts.messages c.hand_all.new.messages _ c.hand_all.ensures.packets c.parts.invariant.4) (rw c.in-Ok-Over.field-0-is at c.in-Ok-Over.ensures.passes) (rw c.in-Ok-Over.field-0-is at c.in-Ok-Over.ensures.in_packet) in
     let small = done_small c.pass.new.messages in
     let end : c.done.result ≡ done_of c.pass.new.messages = c.done.ensures in
     record {
@@ -146,9 +146,9 @@ parts-preserved g c =
     let known = known_still g.R.Source.packets g.R.Source.packet c.parts.messages c.hand_all.new.messages _ c.hand_all.ensures.packets c.parts.invariant.4 in
     let passes = rw c.in-Ok-Over.field-0-is at c.in-Ok-Over.ensures.passes in
     let input = rw c.in-Ok-Over.field-0-is at c.in-Ok-Over.ensures.in_packet in (
-      goes_on laws r c.in-Some.is c.number_of.result (c.number_of.ensures ∙ ap number_of c.packet.ensures) told.0 told.1 told.2 c.pass.new.messages known c.past-tally.result c.done.result c.done.ensures c.past-tally.ensures
+      goes_on laws r c.in-Some.is c.number_of.result (c.number_of.ensures ∙ ap number_of c.packet.ensures) c.tell.ensures.front.0 c.tell.ensures.front.1 told.0 told.1 told.2 c.pass.new.messages known c.past-tally.result c.done.result c.done.ensures c.past-tally.ensures
           (set c.args.settings.keeps_going c.if-not-settings.false) passes input c.in-Ok-Over.ensures.failed,
-      (grows laws r c.in-Some.is c.number_of.result (c.number_of.ensures ∙ ap number_of c.packet.ensures) c.pass.new.messages known passes input).0,
+      (grows laws r c.in-Some.is c.number_of.result (c.number_of.ensures ∙ ap number_of c.packet.ensures) c.tell.ensures.front.0 c.tell.ensures.front.1 c.pass.new.messages known passes input).0,
       c.in-Ok-tell.ensures.settled,
       c.pass.ensures.same_reference ∙ (c.hand_all.ensures.same_reference ∙ c.parts.invariant.3),
       known_still g.R.Source.packets g.R.Source.packet c.hand_all.new.messages c.pass.new.messages _ c.in-Ok-Over.ensures.packets
@@ -161,5 +161,5 @@ parts-smaller g c =
     let r = reach c.parts.invariant.0 g.met.V.MessageVisitor.adds_up c.parts.invariant.4 c.hand_all.new.messages c.hand_all.new.visitor
     (known_still g.R.Source.packets g.R.Source.packet c.parts.messages c.hand_all.new.messages _ c.hand_all.ensures.packets c.parts.invariant.4) c.hand_all.ensures.looked c.in-Ok.counted c.up_to-tally.result c.up_to-tally.ensures (at_fault c.parts.invariant.0 g.met.V.MessageVisitor.adds_up c.parts.invariant.4 c.hand_all.new.messages c.hand_all.new.visitor c.in-Ok.counted _ c.in-Some.is c.in-Ok.ensures.hands) in
     let all = (at_fault c.parts.invariant.0 g.met.V.MessageVisitor.adds_up c.parts.invariant.4 c.hand_all.new.messages c.hand_all.new.visitor c.in-Ok.counted _ c.in-Some.is c.in-Ok.ensures.hands).all in
-    let on = grows g.met.V.MessageVisitor.adds_up r c.in-Some.is c.number_of.result (c.number_of.ensures ∙ ap number_of c.packet.ensures) c.pass.new.messages (known_still g.R.Source.packets g.R.Source.packet c.parts.messages c.hand_all.new.messages _ c.hand_all.ensures.packets c.parts.invariant.4) (rw c.in-Ok-Over.field-0-is at c.in-Ok-Over.ensures.passes) (rw c.in-Ok-Over.field-0-is at c.in-Ok-Over.ensures.in_packet) in
+    let on = grows g.met.V.MessageVisitor.adds_up r c.in-Some.is c.number_of.result (c.number_of.ensures ∙ ap number_of c.packet.ensures) c.tell.ensures.front.0 c.tell.ensures.front.1 c.pass.new.messages (known_still g.R.Source.packets g.R.Source.packet c.parts.messages c.hand_all.new.messages _ c.hand_all.ensures.packets c.parts.invariant.4) (rw c.in-Ok-Over.field-0-is at c.in-Ok-Over.ensures.passes) (rw c.in-Ok-Over.field-0-is at c.in-Ok-Over.ensures.in_packet) in
     omega (arith, all.done, all.size_is, on.1, done_small c.pass.new.messages)
