@@ -2,7 +2,8 @@
 #                  ARGS='show' FILE=my.dbus for another command and capture
 # make quick-test  the tests, the cases and the examples of doc comments, without proofs: some minutes
 #                  It also holds the manual page and the completions against the texts of help; bench/options.py writes what it can of them
-# make api         prints docs/API.md, the calls of the libraries, out of the sources; make quick-test checks that it is current
+# make api         writes out/api.html, the calls of the libraries with their comments and contracts, out of the sources; make quick-test checks that
+#                  each has both
 # make graph       writes which crate uses which into docs/ARCHITECTURE.md; make definitions-check, and quick-test, check it
 # make definitions writes the tables of docs/DEFINITIONS.md and docs/WORKED-EXAMPLES.md out of the definitions and their examples, those of reasons out of
 #                  bench/reasons.txt, and docs/SPECIFICATION.md; make definitions-check, and quick-test, check them

@@ -28,7 +28,8 @@ from trying import Rounds, due_edits
 NOT_COPIED = shutil.ignore_patterns(".git", "out", "target", "__pycache__")
 # What compares dbus-wire with the cases: of captures, listed messages, refused lines and damaged messages.
 READERS = ("captures", "lines", "refused_lines", "damaged")
-# What says whether the pages that scripts write are current, and the pages of options.
+# What says whether the pages that scripts write are current, and the pages of options; and whether each call has a
+# comment and a contract.
 PAGES = "graph.py definitions.py worked_examples.py reasons.py api.py options.py ../cases/specification.py".split()
 COUNT = re.compile(r"(\d+) passed, (\d+) failed")
 

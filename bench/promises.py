@@ -60,7 +60,7 @@ def own_of_traits():
 def promises():
     """The function of each promise by its name, in order."""
     named = dict(own_of_traits()) | {f"{item.crate}::{name}": item for _, name, item in calls()}
-    named |= {f"{it.crate}::{it.file.removesuffix('.rt')}::{it.name}": it for it in laws()}
+    named |= {f"{crate}::{name}": item for crate, name, item in laws()}
     return dict(sorted(named.items()))
 
 

@@ -4,7 +4,7 @@
 A command is a line `$ ..` of an indented block, and the next line too if it ends in a backslash or within single quotes; what it writes, on standard
 output and standard error, are the lines after it. `dbus-wire` is the program that was built by `make build`. Without it README's commands are run by
 `rt try`, which builds the program without proofs for each run: some minutes in all. A command with `jq` is passed over if there is none. The exit status is 1 if a command writes something else, or if code of
-docs/EXAMPLES.md that is said to be from a crate is not there.
+docs/GUIDE.md that is said to be from an example is not there.
 """
 
 import difflib
@@ -19,7 +19,7 @@ import tempfile
 from crate_list import ROOT, folder_of
 
 README, CASES = ROOT / "README.md", ROOT / "cases" / "README.md"
-RECIPES, EXAMPLES = ROOT / "docs" / "RECIPES.md", ROOT / "docs" / "EXAMPLES.md"
+RECIPES, GUIDE = ROOT / "docs" / "RECIPES.md", ROOT / "docs" / "GUIDE.md"
 BUILT, TRIED = folder_of("dbus_wire") / "out" / "dbus_wire", ROOT / "bench" / "try_dbus_wire.sh"
 
 
@@ -40,11 +40,10 @@ def bare(code):
 
 
 def misquoted(text):
-    """The crates from which a paragraph of the page says that the block after it is, if it is not."""
-    for crate, block in re.findall(r"^In code, from `crates/(\w+)`.*\n\n((?: {4}.*\n|\n(?= {4}))+)", text, re.M):
-        sources = (bare(it.read_text()) for it in (folder_of(crate) / "src").glob("*.rt"))
-        if not any(bare(block) in source for source in sources):
-            yield crate
+    """The files of examples from which the page says that the block after their name is, if it is not."""
+    for file, block in re.findall(r"^\w+, `((?:examples|rust)/[\w/.]+)`:\n\n((?: {4}.*\n|\n(?= {4}))+)", text, re.M):
+        if bare(block) not in bare((ROOT / file).read_text()):
+            yield file
 
 
 def is_as_shown(command, wanted, folder):
@@ -62,8 +61,8 @@ def is_as_shown(command, wanted, folder):
 
 def main():
     text = "".join(page.read_text() for page in ((README, CASES, RECIPES) if BUILT.exists() else (README, CASES)))
-    misquotes = list(misquoted(EXAMPLES.read_text()))
-    print(*(f"the code from {crate} is not there\n" for crate in misquotes), sep="", end="")
+    misquotes = list(misquoted(GUIDE.read_text()))
+    print(*(f"the code from {file} is not there\n" for file in misquotes), sep="", end="")
     with tempfile.TemporaryDirectory() as folder:
         (pathlib.Path(folder) / "dbus-wire").symlink_to(BUILT if BUILT.exists() else TRIED)
         right = [is_as_shown(command, wanted, folder) for command, wanted in shown(text)]

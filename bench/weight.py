@@ -45,7 +45,7 @@ PAGES = "*.md docs/*.md cases/*.md cases/peers/*.md python/*.md rust/*.md sample
 # What scripts write of a page, without the groups.
 WHOLE = (re.compile(r".+", re.S),)
 GENERATED = {
-    **dict.fromkeys(("docs/API.md", "docs/PEERS.md", "docs/SPECIFICATION.md", "docs/WORKED-EXAMPLES.md"), WHOLE),
+    **dict.fromkeys(("docs/PEERS.md", "docs/SPECIFICATION.md", "docs/WORKED-EXAMPLES.md"), WHOLE),
     "docs/ARCHITECTURE.md": (graph.PICTURE,),
     "docs/DEFINITIONS.md": (definitions.TABLE,),
     **{file: [it for name, it, _ in reasons.tables() if name == file] for file in reasons.LISTS},
@@ -57,7 +57,7 @@ TEXTS = {
 }
 # Tests, cases, and what scripts write.
 ASIDE = re.compile(
-    r"cases/|examples/|\w+/tests/|bench/\w+\.txt|docs/(API|PEERS|SPEC|WORKED)"
+    r"cases/|examples/|\w+/tests/|bench/\w+\.txt|docs/(PEERS|SPEC|WORKED)"
     r"|crates/(\w+/(wrong|runs)|case_\w+|library_tests|examples)"
 )
 

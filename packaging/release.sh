@@ -29,9 +29,11 @@ mkdir -p "$pages"
 how=(--from=gfm --to=html5 --standalone --include-after-body=packaging/footer.html)
 for page in *.md docs/*.md; do
     # Pages name each other by their files.
-    sed -E 's#`?docs/([A-Z-]+)\.md`?|`([A-Z]+)\.md`#[\1\2](\1\2.html)#g' "$page" |
+    sed -E 's#`?docs/([A-Z-]+)\.md`?|`([A-Z]+)\.md`#[\1\2](\1\2.html)#g; s#`out/(api\.html)`#[\1](\1)#' "$page" |
         pandoc "${how[@]}" --metadata=pagetitle="$(head -1 "$page" | cut -c3-)" --output="$pages/$(basename "$page" .md).html"
 done
+make --no-print-directory api
+mv out/api.html "$pages"
 packed out/stage "dbus-wire-docs-$version" "$room/dbus-wire-docs-$version.tar.gz"
 rm -rf out/stage
 (cd "$room" && sha256sum -- * > ../SHA256SUMS && mv ../SHA256SUMS .)

@@ -8,7 +8,7 @@
 //! * [`Compose::call`] and its like, called as `Message::call`, make a message in a line;
 //!   [`Build::new`], called as `Message::new`, makes one of its [`Parts`].
 //!
-//! These calls have examples; `crates/examples` has whole programs. docs/API.md lists all calls.
+//! These calls have examples; `crates/examples` has whole programs. `make api` lists all calls.
 //!
 //! It is one name for ten crates: the messages and the relation that spells them
 //! (`dbus_message_model`), how they are made of their parts (`dbus_build`) and in a line
