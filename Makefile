@@ -83,6 +83,8 @@ HEAP = cd $(ROOM) && $(AR) x $(dir $(firstword $(shell rt doc)))c/liblibc_c.a $(
 # What the kit names those calls, and what the library does.
 HEAP_NAMES = $(foreach call,alloc realloc dealloc,--redefine-sym rattle_$(call)=dbus_wire_$(call))
 OBJCOPY ?= objcopy
+# The header's types as an object for debuggers and `abidiff --non-reachable-types`, since the kit's compiler writes none. It has no code.
+TYPES = $(CC) -std=c99 -g -fno-eliminate-unused-debug-types -ffile-prefix-map=$(CURDIR)=. -Iinclude -fPIC -x c -c
 # Another system that the library is built for, by GNU's name: the kit's name of it, its tools, and what runs its programs here.
 ifeq ($(origin TARGET),command line)
 ifneq ($(TARGET) $(filter-out library test-c install-c install-shared install-dev,$(or $(MAKECMDGOALS),run)),aarch64-linux-gnu )
@@ -149,7 +151,8 @@ library: kit
 	$(HEAP)
 	cd $(ROOM) && $(AR) r $(notdir $(ARCHIVE)) $(HEAP_OBJECT) && rm $(HEAP_OBJECT)
 	$(OBJCOPY) $(HEAP_NAMES) $(ARCHIVE)
-	$(CC) -shared -o $(SHARED) -Wl,-soname,$(SONAME) -Wl,--whole-archive $(ARCHIVE) -Wl,--no-whole-archive \
+	echo '#include <dbus_wire.h>' | $(TYPES) -o $(ROOM)/types.o -
+	$(CC) -shared -o $(SHARED) -Wl,-soname,$(SONAME) -Wl,--whole-archive $(ARCHIVE) -Wl,--no-whole-archive $(ROOM)/types.o \
 		-Wl,--version-script=include/libdbus_wire.map -Wl,--no-undefined-version -Wl,-z,defs -Wl,-z,text -Wl,-z,now
 
 test: kit

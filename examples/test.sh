@@ -40,6 +40,14 @@ sed -n 's/^\(DBUS_WIRE_[A-Z_]*((.*)) \)\{0,1\}\(void\|uint[0-9]*_t\|size_t\) \(d
 "${tools}nm" -D --defined-only "$shared" | sed -n 's/.* T \([a-z_]*\).*/\1/p' | sort | diff "$built/declared" -
 test "$("${tools}objdump" -p "$shared" | grep -c NEEDED)" = 1
 "$here/stack.py" "$shared" 131072 $target
+# It has the header's types, so that abidiff, if it is there, sees a struct that grows.
+if [ -z "$target" ] && command -v abidiff > /dev/null; then
+	mkdir -p "$built/grown"
+	sed 's/^struct dbus_wire_checked {/&\n    uint64_t more;/' "$here/../include/dbus_wire.h" > "$built/grown/dbus_wire.h"
+	printf '#include <dbus_wire.h>\nint grown;\n' | "$CC" -std=c99 -g -fno-eliminate-unused-debug-types -I"$built/grown" -fPIC -shared -o "$built/grown.so" -x c -
+	must_fail abidiff --non-reachable-types "$shared" "$built/grown.so" > "$built/said"
+	grep -q "'struct dbus_wire_checked' changed" "$built/said"
+fi
 # The deepest messages take less of it.
 "$CC" -std=c99 -O2 $flags -pthread -o "$built/stack" "$here/c/stack.c" "$archive"
 $run "$built/stack" | awk '{ print } $3 > ($1 == "dbus_wire_from_json" ? 131072 : 65536) { is_more = 1 } END { exit is_more }'
