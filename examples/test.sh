@@ -1,8 +1,8 @@
 #!/bin/sh
 # test.sh PROGRAM ARCHIVE SHARED [TARGET WORD..]: builds the examples over the archive, and compares what they write with what `PROGRAM check` does:
 # of the captures in samples/ and of messages of which a byte is changed; the C example once more under AddressSanitizer, and over
-# the shared library; the callers in C under valgrind, if it is there. Compares the header's numbers with the crates', and what is said
-# of texts and of a handshake's lines with their cases. Runs the fuzz target over the captures and changed copies of their messages;
+# the shared library; the callers in C under valgrind, if it is there, and threads that ask one set of rules under ThreadSanitizer. Compares the
+# header's numbers with the crates', and what is said of texts and of a handshake's lines with their cases. Runs the fuzz target over the captures and changed copies of their messages;
 # shakes hands with a bus and with a client, if they are there; tests the Rust crate, and compares what its examples write. Of a library for another
 # system, by GNU's name TARGET, whose programs the words run, it tries the callers in C alone, and without sanitizers and valgrind.
 set -eu
@@ -73,6 +73,11 @@ for sample in session big-endian; do
 	for name in room threads "sharing type='signal' member='NameAcquired' sender='org.a.B'"; do $run "$built/"$name < "$here/../samples/$sample.dbus"; done
 	for length in 1 64 4096; do $run "$built/pieces" $length < "$here/../samples/$sample.dbus"; done
 done
+# Threads ask one set of rules, and no byte that one reads is written. ThreadSanitizer sees the caller, and what the library passes to the C library.
+if [ -z "$target" ]; then
+	"$CC" -std=c99 -g -fsanitize=thread $flags -pthread -o "$built/sharing_threads" "$here/c/sharing.c" -L"$built" -ldbus_wire
+	"$built/sharing_threads" "type='signal'" "path='/org/a'" "member='NameAcquired'" < "$here/../samples/session.dbus"
+fi
 # A program that defines the three calls for memory has those, and not the archive's.
 "$CC" $sanitized -o "$built/own_heap" "$here/c/rules.c" "$here/../packaging/heap.c" -L"$built" -ldbus_wire
 "${tools}nm" "$built/own_heap" | grep -q ' T dbus_wire_alloc'
@@ -218,6 +223,7 @@ if [ -z "$target" ] && command -v valgrind > /dev/null; then
 	for words in list json "swap B" "rules member='NameAcquired'" "build again" habits "pieces 64" threads "sharing type='signal'"; do
 		under_valgrind "$built/plain_"$words < "$here/../samples/session.dbus" > "$built/said"
 	done
+	valgrind --quiet --tool=helgrind --error-exitcode=9 "$built/plain_sharing" "type='signal'" "member='NameAcquired'" < "$here/../samples/session.dbus" > "$built/said"
 	under_valgrind "$built/handshake_plain" pieces 7
 	printf '\0AUTH EXTERNAL 31303030\r\nBEGIN\r\nl' | under_valgrind "$built/plain_lines" client > "$built/said"
 	status=0

@@ -24,7 +24,6 @@ NO_VALUE = 5
 NO_CHECKER = 7
 NO_RULE = 8
 NO_HANDSHAKE = 9
-SHARED = 10
 EXTERNAL_AS_USER = 1
 EXTERNAL_AS_REPORTED = 2
 REPLY_ROOM = 528
@@ -187,7 +186,6 @@ _CALLS = {
     "rules_add": (c_uint32, POINTER(Rules), c_char_p, c_size_t, POINTER(RuleId), POINTER(RuleRefused)),
     "rules_remove": (c_uint32, POINTER(Rules), POINTER(RuleId)),
     "rules_owner": (c_uint32, POINTER(Rules), c_char_p, c_size_t, c_char_p, c_size_t),
-    "rules_share": (c_uint32, POINTER(Rules), POINTER(Rules)),
     "rules_matching": (c_uint32, POINTER(Rules), *_MESSAGE, POINTER(RuleId), c_size_t, POINTER(c_uint64), POINTER(Checked)),
     "rules_may_match": (c_uint32, POINTER(Rules), *_MESSAGE, c_char_p, c_size_t, POINTER(c_uint32), POINTER(Checked)),
     "rules_text": (c_uint32, POINTER(Rules), POINTER(RuleId), c_char_p, c_size_t, POINTER(c_uint64)),

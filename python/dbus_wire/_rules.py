@@ -12,7 +12,7 @@ from types import TracebackType
 from typing import TypeVar
 
 from . import _library
-from ._library import NO_MEMORY, NO_ROOM, REFUSED, SHARED, Bytes, as_bytes, library
+from ._library import NO_MEMORY, NO_ROOM, REFUSED, Bytes, as_bytes, library
 from ._limits import limits_struct
 from ._messages import Message
 
@@ -39,9 +39,9 @@ class RuleSet:
     """Match rules, each with a number, and the owners of names, which a rule's `sender` is compared
     with; the rules that match a message are found without asking each of them.
 
-    It may be shared by threads, whose calls wait for each other; those of sets that `share` makes
-    do not. `close`, or the end of a `with`, frees it; ValueError is raised by its other calls from
-    then on. Each call may raise MemoryError.
+    It may be shared by threads: those that ask it do not wait for each other, and a call that
+    changes it waits for them. `close`, or the end of a `with`, frees it; ValueError is raised by
+    its other calls from then on. Each call may raise MemoryError.
 
         rules = RuleSet()
         number = rules.add("type='signal',sender='org.a.B'")
@@ -49,12 +49,13 @@ class RuleSet:
         wanted = [message for message in messages(capture) if number in rules.matching(message)]
     """
 
-    __slots__ = ("_handle", "_ids", "_lock", "_free", "__weakref__")
+    __slots__ = ("_handle", "_ids", "_asking", "_idle", "_free", "__weakref__")
 
     def __init__(self) -> None:
         self._handle = _library.Rules()
         self._ids: dict[int, _library.RuleId] = {}
-        self._lock = threading.Lock()
+        self._asking = 0
+        self._idle = threading.Condition(threading.Lock())
         self._free = weakref.finalize(self, library.dbus_wire_rules_free, byref(self._handle))
 
     def add(self, text: str | Bytes) -> int:
@@ -62,7 +63,7 @@ class RuleSet:
         set has had. Raises BadRule if it spells none."""
         data = text.encode("utf-8", "surrogatepass") if isinstance(text, str) else as_bytes(text)
         told, added = _library.RuleRefused(), _library.RuleId()
-        with self._open():
+        with self._changed():
             answer = library.dbus_wire_rules_add(byref(self._handle), data, len(data), byref(added), byref(told))
             _raise_if_failed(answer)
             if answer == REFUSED:
@@ -72,7 +73,7 @@ class RuleSet:
 
     def remove(self, number: int) -> None:
         """Removes the rule of this number. Raises KeyError if there is none."""
-        with self._open():
+        with self._changed():
             _raise_if_failed(library.dbus_wire_rules_remove(byref(self._handle), byref(self._ids[number])))
             del self._ids[number]
 
@@ -81,28 +82,18 @@ class RuleSet:
         None or an empty text: the name has none from then on. Raises ValueError if one of the two
         is no bus name."""
         names = [text.encode("utf-8", "surrogatepass") for text in (name, owner or "")]
-        with self._open():
+        with self._changed():
             answer = library.dbus_wire_rules_owner(byref(self._handle), *(word for data in names for word in (data, len(data))))
         _raise_if_failed(answer)
         if answer == REFUSED:
             raise ValueError(f"{name!r} or {owner!r} is no bus name")
-
-    def share(self) -> RuleSet:
-        """A set of the same rules, by the same numbers, with the same owners of names, for another
-        thread: nothing is copied. From then on neither changes: `add`, `remove` and `set_owner`
-        raise ValueError."""
-        other = RuleSet()
-        with self._open():
-            _raise_if_failed(library.dbus_wire_rules_share(byref(self._handle), byref(other._handle)))
-            other._ids.update(self._ids)
-        return other
 
     def matching(self, message: Message) -> list[int]:
         """The numbers of the rules each key of which holds of the message. A `sender` that is a
         well-known name matches a message whose sender is that name itself, or the owner of it that
         `set_owner` noted."""
         data, count = message.data, ctypes.c_uint64()
-        with self._open():
+        with self._asked():
             found = (_library.RuleId * len(self._ids))()
             answer = library.dbus_wire_rules_matching(
                 byref(self._handle), data, len(data), byref(limits_struct(None)), found, len(found), byref(count), byref(_library.Checked())
@@ -121,7 +112,7 @@ class RuleSet:
         data, name = message.data, (sender or "").encode("utf-8", "surrogatepass")
         # What cannot be asked is denied.
         limits, may, told = limits_struct(None), ctypes.c_uint32(1), _library.Checked()
-        with self._open():
+        with self._asked():
             library.dbus_wire_rules_may_match(
                 byref(self._handle), data, len(data), byref(limits), name, len(name), byref(may), byref(told)
             )
@@ -132,7 +123,7 @@ class RuleSet:
         room, length = 256, ctypes.c_uint64()
         while True:
             text = ctypes.create_string_buffer(room)
-            with self._open():
+            with self._asked():
                 rule = byref(self._ids[number])
                 answer = library.dbus_wire_rules_text(byref(self._handle), rule, text, room, byref(length))
             _raise_if_failed(answer)
@@ -145,7 +136,8 @@ class RuleSet:
 
     def close(self) -> None:
         """Frees the rules. Once more does nothing."""
-        with self._lock:
+        with self._idle:
+            self._idle.wait_for(lambda: self._asking == 0)
             self._free()
 
     def __enter__(self: _Set) -> _Set:
@@ -155,11 +147,29 @@ class RuleSet:
         self.close()
 
     @contextmanager
-    def _open(self) -> Iterator[None]:
-        with self._lock:
-            if not self._free.alive:
-                raise ValueError("the rules are closed")
+    def _changed(self) -> Iterator[None]:
+        """While no other call is under way."""
+        with self._idle:
+            self._idle.wait_for(lambda: self._asking == 0)
+            self._raise_if_closed()
             yield
+
+    @contextmanager
+    def _asked(self) -> Iterator[None]:
+        """While calls that ask may be under way, and none that changes the set."""
+        with self._idle:
+            self._raise_if_closed()
+            self._asking += 1
+        try:
+            yield
+        finally:
+            with self._idle:
+                self._asking -= 1
+                self._idle.notify_all()
+
+    def _raise_if_closed(self) -> None:
+        if not self._free.alive:
+            raise ValueError("the rules are closed")
 
 
 class Rule:
@@ -215,5 +225,3 @@ def _name_of(reason: int) -> str:
 def _raise_if_failed(answer: int) -> None:
     if answer == NO_MEMORY:
         raise MemoryError
-    if answer == SHARED:
-        raise ValueError("the rules are shared")

@@ -811,19 +811,21 @@ class Threads(unittest.TestCase):
     def test_rules_that_threads_ask_at_once(self):
         rules = RuleSet()
         signals = rules.add("type='signal'")
-        sets = [rules, *(rules.share() for _ in range(3))]
 
-        def work(shared):
-            return [shared.matching(message) for message in messages(SESSION)]
+        def ask(_):
+            return [rules.matching(message) for message in messages(SESSION)], rules.text(signals)
 
-        with ThreadPoolExecutor(4) as pool:
-            found = list(pool.map(work, sets))
-        self.assertTrue(any(found[0]) and all(one == found[0] for one in found))
-        for shared in sets:
-            self.assertRaises(ValueError, shared.add, "")
-            self.assertRaises(ValueError, shared.remove, signals)
-            self.assertEqual(shared.text(signals), "type='signal'")
-            shared.close()
+        def change(_):
+            rules.remove(rules.add("type='error',member='None'"))
+
+        with ThreadPoolExecutor(8) as pool:
+            found, changes = pool.map(ask, range(8)), pool.map(change, range(200))
+            found = list(found)
+            list(changes)
+        self.assertTrue(any(found[0][0]) and all(one == found[0] for one in found))
+        self.assertEqual((found[0][1], len(rules)), ("type='signal'", 1))
+        rules.close()
+        self.assertRaises(ValueError, rules.text, signals)
 
 
 if __name__ == "__main__":

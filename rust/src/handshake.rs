@@ -76,7 +76,7 @@ struct Handshake {
 }
 
 // SAFETY: the header allows calls on an end from any thread, if one returns before the next begins.
-// Each takes the end by a mutable reference, which sees to that.
+// Each takes the end by a reference, and it is not `Sync`, which sees to that.
 unsafe impl Send for Handshake {}
 
 impl Handshake {
@@ -174,9 +174,10 @@ macro_rules! ends {
             }
 
             /// Whether both ends agreed to pass Unix file descriptors, once the handshake succeeded.
-            pub fn agreed(&mut self) -> bool {
+            #[must_use]
+            pub fn agreed(&self) -> bool {
                 // SAFETY: a reference, as `sys` says; only calls write `raw`.
-                unsafe { sys::dbus_wire_handshake_agreed(&raw mut self.0.raw) == sys::DBUS_WIRE_OK }
+                unsafe { sys::dbus_wire_handshake_agreed(&raw const self.0.raw) == sys::DBUS_WIRE_OK }
             }
         }
     )*};
@@ -328,10 +329,11 @@ impl Client {
     }
 
     /// The server's GUID, as 32 hexadecimal digits in lower case, once it accepted the client.
-    pub fn guid(&mut self) -> Option<String> {
+    #[must_use]
+    pub fn guid(&self) -> Option<String> {
         let mut text = [0; GUID_LENGTH];
         // SAFETY: a slice and a reference, as `sys` says; only calls write `raw`.
-        let answer = unsafe { sys::dbus_wire_handshake_guid(&raw mut self.0.raw, text.as_mut_ptr(), text.len()) };
+        let answer = unsafe { sys::dbus_wire_handshake_guid(&raw const self.0.raw, text.as_mut_ptr(), text.len()) };
         (answer == sys::DBUS_WIRE_OK).then(|| text.iter().copied().map(char::from).collect())
     }
 }

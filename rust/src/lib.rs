@@ -34,7 +34,7 @@
 //! * [`byteswap`] writes a message in the other byte order, and [`check_text`] checks names,
 //!   signatures and other texts.
 //! * A match [`Rule`], or a [`RuleSet`] of many, says which messages a program wants, and keeps who
-//!   owns the names that they ask for. Threads ask [`SharedRules`] at the same time.
+//!   owns the names that they ask for. Threads may ask one at the same time.
 //! * [`Server`] and [`Client`] are the ends of the authentication handshake, and [`client_line`]
 //!   and [`server_line`] give the lines of one between others, which a [`Watch`] passes on.
 //! * [`parse_addresses`] reads server addresses, and [`connect`] connects to a bus by them.
@@ -94,7 +94,7 @@ pub use line::{client_line, server_line, Command, Line, LineFault};
 pub use message::{Flags, Kind, Message, OwnedMessage};
 pub use messages::{messages, Messages, ReadError};
 pub use owned_value::OwnedValue;
-pub use rule::{OwnerError, Rule, RuleError, RuleId, RuleSet, SharedRules};
+pub use rule::{OwnerError, Rule, RuleError, RuleId, RuleSet};
 pub use swap::{byteswap, SwapError};
 pub use sys::dbus_wire_flat_item as FlatItem;
 pub use text::{check_text, TextFault, TextKind};

@@ -55,7 +55,8 @@ impl Error for OwnerError {}
 pub struct RuleId(sys::dbus_wire_rule_id);
 
 /// Match rules, and the owners of names, which a rule's `sender` is compared with. The rules that
-/// match a message are found without asking each of them.
+/// match a message are found without asking each of them. Threads may ask one set at the same time:
+/// that is tested, and not proved.
 ///
 /// ```
 /// use dbus_wire::{Message, RuleSet};
@@ -76,10 +77,11 @@ pub struct RuleSet {
     count: usize,
 }
 
-// SAFETY: the header allows calls on rules from any thread, if one returns before the next begins.
-// Each takes them by a mutable reference, which sees to that. Calls on two structs may overlap,
-// also if these share rules.
+// SAFETY: the header allows calls on rules from any thread, if one returns before the next begins,
+// which a mutable reference sees to; and calls that only ask them, by a shared one, at the same time.
 unsafe impl Send for RuleSet {}
+// SAFETY: as above.
+unsafe impl Sync for RuleSet {}
 
 impl Default for RuleSet {
     fn default() -> Self {
@@ -143,13 +145,13 @@ impl RuleSet {
     /// # Errors
     ///
     /// If memory runs out.
-    pub fn matching(&mut self, message: &Message<'_>) -> Result<Vec<RuleId>, OutOfMemory> {
+    pub fn matching(&self, message: &Message<'_>) -> Result<Vec<RuleId>, OutOfMemory> {
         let (bytes, mut count, mut told) = (message.bytes(), 0, Default::default());
         let mut ids = vec![sys::dbus_wire_rule_id::default(); self.count];
         // SAFETY: slices and references, as `sys` says; only calls write `raw`.
         let answer = unsafe {
             sys::dbus_wire_rules_matching(
-                &raw mut self.raw,
+                &raw const self.raw,
                 bytes.as_ptr(),
                 bytes.len(),
                 &Limits::default().raw(),
@@ -177,12 +179,13 @@ impl RuleSet {
     /// Ok(!forbidden.may_match(message, Some(":1.7")))
     /// # }
     /// ```
-    pub fn may_match(&mut self, message: &Message<'_>, sender: Option<&str>) -> bool {
+    #[must_use]
+    pub fn may_match(&self, message: &Message<'_>, sender: Option<&str>) -> bool {
         let (bytes, sender, mut may, mut told) = (message.bytes(), sender.unwrap_or(""), 0, Default::default());
         // SAFETY: slices and references, as `sys` says; only calls write `raw`.
         let answer = unsafe {
             sys::dbus_wire_rules_may_match(
-                &raw mut self.raw,
+                &raw const self.raw,
                 bytes.as_ptr(),
                 bytes.len(),
                 &Limits::default().raw(),
@@ -202,13 +205,13 @@ impl RuleSet {
     /// # Errors
     ///
     /// If memory runs out.
-    pub fn text(&mut self, id: RuleId) -> Result<Option<String>, OutOfMemory> {
+    pub fn text(&self, id: RuleId) -> Result<Option<String>, OutOfMemory> {
         let mut text = vec![0; 256];
         loop {
             let mut length = 0;
             // SAFETY: a mutable slice and references, as `sys` says; only calls write `raw`.
             match unsafe {
-                sys::dbus_wire_rules_text(&raw mut self.raw, &raw const id.0, text.as_mut_ptr(), text.len(), &raw mut length)
+                sys::dbus_wire_rules_text(&raw const self.raw, &raw const id.0, text.as_mut_ptr(), text.len(), &raw mut length)
             } {
                 sys::DBUS_WIRE_OK => {
                     text.truncate(length as usize);
@@ -230,82 +233,13 @@ impl Drop for RuleSet {
     }
 }
 
-/// Match rules that stay as they are, and the owners of names with them, which many threads may ask
-/// at the same time: each by a `SharedRules` of its own, which [`SharedRules::share`] makes without
-/// copying a rule. The last of them frees the rules.
-///
-/// ```
-/// use std::thread;
-/// use dbus_wire::{Message, RuleSet, SharedRules};
-///
-/// # let signal = b"l\x04\0\x01\0\0\0\0\x01\0\0\0\x2a\0\0\0\x01\x01o\0\x01\0\0\0/\0\0\0\0\0\0\0\x02\x01s\0\x03\0\0\0a.b\0\0\0\0\0\x03\x01s\0\x01\0\0\0c\0\0\0\0\0\0\0";
-/// let mut rules = RuleSet::default();
-/// let signals = rules.add("type='signal',member=c")?;
-/// let mut one = SharedRules::from(rules);
-/// let mut other = one.share()?;
-/// let message = Message::parse(signal)?;
-/// thread::scope(|scope| {
-///     scope.spawn(|| assert_eq!(one.matching(&message), Ok(vec![signals])));
-///     assert_eq!(other.matching(&message), Ok(vec![signals]));
-/// });
-/// # Ok::<(), Box<dyn std::error::Error>>(())
-/// ```
-#[derive(Debug)]
-pub struct SharedRules {
-    // No rule is added to it or removed.
-    rules: RuleSet,
-}
-
-impl From<RuleSet> for SharedRules {
-    fn from(rules: RuleSet) -> Self {
-        Self { rules }
-    }
-}
-
-impl SharedRules {
-    /// The same rules, by the same ids, for another thread.
-    ///
-    /// # Errors
-    ///
-    /// If memory runs out.
-    pub fn share(&mut self) -> Result<Self, OutOfMemory> {
-        let mut rules = RuleSet::default();
-        // SAFETY: references to two structs, as `sys` says; only calls write what they are of.
-        match unsafe { sys::dbus_wire_rules_share(&raw mut self.rules.raw, &raw mut rules.raw) } {
-            sys::DBUS_WIRE_OK => {
-                rules.count = self.rules.count;
-                Ok(Self { rules })
-            }
-            _ => Err(OutOfMemory),
-        }
-    }
-
-    /// The rules each key of which holds of the message, as [`RuleSet::matching`] says.
-    ///
-    /// # Errors
-    ///
-    /// If memory runs out.
-    pub fn matching(&mut self, message: &Message<'_>) -> Result<Vec<RuleId>, OutOfMemory> {
-        self.rules.matching(message)
-    }
-
-    /// The canonical text of the rule, as [`RuleSet::text`] gives it.
-    ///
-    /// # Errors
-    ///
-    /// If memory runs out.
-    pub fn text(&mut self, id: RuleId) -> Result<Option<String>, OutOfMemory> {
-        self.rules.text(id)
-    }
-}
-
 /// A match rule by itself: which messages a program wants. It is a [`RuleSet`] of one rule.
 ///
 /// ```
 /// use dbus_wire::{Message, Rule};
 ///
 /// # let signal = b"l\x04\0\x01\0\0\0\0\x01\0\0\0\x2a\0\0\0\x01\x01o\0\x01\0\0\0/\0\0\0\0\0\0\0\x02\x01s\0\x03\0\0\0a.b\0\0\0\0\0\x03\x01s\0\x01\0\0\0c\0\0\0\0\0\0\0";
-/// let mut rule = Rule::parse("type='signal',member=c")?;
+/// let rule = Rule::parse("type='signal',member=c")?;
 /// assert!(rule.matches(&Message::parse(signal)?)?);
 /// assert_eq!(rule.to_text()?, "type='signal',member='c'");
 /// # Ok::<(), Box<dyn std::error::Error>>(())
@@ -342,7 +276,7 @@ impl Rule {
     /// # Errors
     ///
     /// If memory runs out.
-    pub fn matches(&mut self, message: &Message<'_>) -> Result<bool, OutOfMemory> {
+    pub fn matches(&self, message: &Message<'_>) -> Result<bool, OutOfMemory> {
         Ok(!self.rules.matching(message)?.is_empty())
     }
 
@@ -351,7 +285,7 @@ impl Rule {
     /// # Errors
     ///
     /// If memory runs out.
-    pub fn to_text(&mut self) -> Result<String, OutOfMemory> {
+    pub fn to_text(&self) -> Result<String, OutOfMemory> {
         Ok(self.rules.text(self.id)?.expect("the set has the rule"))
     }
 }

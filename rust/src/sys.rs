@@ -32,7 +32,6 @@ pub const DBUS_WIRE_NO_KIND: u32 = 6;
 pub const DBUS_WIRE_NO_CHECKER: u32 = 7;
 pub const DBUS_WIRE_NO_RULE: u32 = 8;
 pub const DBUS_WIRE_NO_HANDSHAKE: u32 = 9;
-pub const DBUS_WIRE_SHARED: u32 = 10;
 pub const DBUS_WIRE_WAITS: u32 = 11;
 
 pub const DBUS_WIRE_TYPE_METHOD_CALL: u32 = 1;
@@ -563,9 +562,8 @@ extern "C" {
         owner: *const u8,
         owner_length: usize,
     ) -> u32;
-    pub fn dbus_wire_rules_share(rules: *mut dbus_wire_rules, other: *mut dbus_wire_rules) -> u32;
     pub fn dbus_wire_rules_matching(
-        rules: *mut dbus_wire_rules,
+        rules: *const dbus_wire_rules,
         bytes: *const u8,
         length: usize,
         limits: *const dbus_wire_limits,
@@ -575,7 +573,7 @@ extern "C" {
         told: *mut dbus_wire_checked,
     ) -> u32;
     pub fn dbus_wire_rules_may_match(
-        rules: *mut dbus_wire_rules,
+        rules: *const dbus_wire_rules,
         bytes: *const u8,
         length: usize,
         limits: *const dbus_wire_limits,
@@ -585,7 +583,7 @@ extern "C" {
         told: *mut dbus_wire_checked,
     ) -> u32;
     pub fn dbus_wire_rules_text(
-        rules: *mut dbus_wire_rules,
+        rules: *const dbus_wire_rules,
         id: *const dbus_wire_rule_id,
         out: *mut u8,
         room: usize,
@@ -614,8 +612,8 @@ extern "C" {
         room: usize,
         out: *mut dbus_wire_handshake_step,
     ) -> u32;
-    pub fn dbus_wire_handshake_guid(handshake: *mut dbus_wire_handshake, out: *mut u8, room: usize) -> u32;
-    pub fn dbus_wire_handshake_agreed(handshake: *mut dbus_wire_handshake) -> u32;
+    pub fn dbus_wire_handshake_guid(handshake: *const dbus_wire_handshake, out: *mut u8, room: usize) -> u32;
+    pub fn dbus_wire_handshake_agreed(handshake: *const dbus_wire_handshake) -> u32;
     pub fn dbus_wire_handshake_free(handshake: *mut dbus_wire_handshake);
     pub fn dbus_wire_client_line(bytes: *const u8, length: usize, out: *mut dbus_wire_line) -> u32;
     pub fn dbus_wire_server_line(bytes: *const u8, length: usize, out: *mut dbus_wire_line) -> u32;

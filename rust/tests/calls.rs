@@ -6,8 +6,8 @@ use std::thread;
 use dbus_wire::{
     build, byteswap, check, check_text, client_line, explain, reply_to, server_line, wanted, Answer, Bounds, BuildError, Checker,
     Client, Command, Descriptors, External, Fault, HandshakeError, InputPlace, Kind, Limits, Line, LineFault, LinePlace, Message,
-    NotPassed, Order, OwnerError, ParseError, Parts, Passage, Reason, Rule, RuleError, RuleReason, RuleSet, Server, SharedRules,
-    StatedText, Status, SwapError, Taken, TextFault, TextKind, Value, Values, Watch,
+    NotPassed, Order, OwnerError, ParseError, Parts, Passage, Reason, Rule, RuleError, RuleReason, RuleSet, Server, StatedText,
+    Status, SwapError, Taken, TextFault, TextKind, Value, Values, Watch,
 };
 
 const CAPTURES: [&[u8]; 2] = [include_bytes!("data/session.dbus"), include_bytes!("data/big-endian.dbus")];
@@ -497,25 +497,21 @@ fn rules_match_messages_by_their_keys_and_owners() {
 }
 
 #[test]
-fn shared_rules_are_asked_by_many_threads() {
+fn one_set_of_rules_is_asked_by_many_threads() {
     let bytes = signal("s", b"\x02\0\0\0hi\0");
+    let message = Message::parse(&bytes).unwrap();
     let mut rules = RuleSet::default();
     let [all, errors] = ["", "type='error'"].map(|text| rules.add(text).unwrap());
-    let mut first = SharedRules::from(rules);
-    let threads: Vec<_> = (0..4)
-        .map(|_| {
-            let (mut shared, bytes) = (first.share().unwrap(), bytes.clone());
-            thread::spawn(move || {
-                let message = Message::parse(&bytes).unwrap();
-                (0..1000).for_each(|_| assert_eq!(shared.matching(&message).unwrap(), [all]));
-                shared
-            })
-        })
-        .collect();
-    drop(first);
-    for thread in threads {
-        assert_eq!(thread.join().unwrap().text(errors).unwrap().unwrap(), "type='error'");
-    }
+    let rules = &rules;
+    thread::scope(|scope| {
+        for _ in 0..4 {
+            scope.spawn(|| {
+                (0..1000).for_each(|_| assert_eq!(rules.matching(&message).unwrap(), [all]));
+                assert!(rules.may_match(&message, None));
+                assert_eq!(rules.text(errors).unwrap().unwrap(), "type='error'");
+            });
+        }
+    });
 }
 
 #[test]
@@ -523,7 +519,7 @@ fn rules_have_a_canonical_text_or_a_fault() {
     let long = format!("arg0='{}',type=error", "x".repeat(1000));
     let text = Rule::parse(&long).unwrap().to_text().unwrap();
     assert_eq!(text, format!("type='error',arg0='{}'", "x".repeat(1000)));
-    let mut rule = thread::spawn(move || Rule::parse(&text).unwrap()).join().unwrap();
+    let rule = thread::spawn(move || Rule::parse(&text).unwrap()).join().unwrap();
     assert!(!rule.matches(&Message::parse(&signal("", b"")).unwrap()).unwrap());
     for (text, at, reason) in [("a", 1, RuleReason::NoEquals), ("arg0='a", 5, RuleReason::OpenQuote), ("a\0", 1, RuleReason::Nul)]
     {

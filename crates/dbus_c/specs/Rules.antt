@@ -18,11 +18,10 @@ use Rattle.dbus_rule.specs.declared.rule.Rule.{Rule}
 use Rattle.dbus_rule_set.specs.Held.{Collects, EntryMatches}
 use Rattle.dbus_rule_set.specs.Owners.{OwnerSet}
 use Rattle.dbus_rule_set.specs.declared.handle.RuleHandle.{RuleHandle}
-use Rattle.dbus_c_handle.specs.Rules.{Adds, KeepsAll, SetsOwner, SharesNone, SharesRules}
+use Rattle.dbus_c_handle.specs.Rules.{Adds, KeepsAll, SetsOwner}
 use Rattle.dbus_c_handle.specs.declared.kept.Kept.{Kept}
-use Rattle.dbus_c_handle.specs.declared.share_fault.ShareFault.TheVariants.{Memory, TooMany}
 use Rattle.dbus_c.specs.Outcomes.{IsTold}
-use Rattle.dbus_c.specs.declared.answers.TheConstants.{WHOLE, REFUSED, NO_MEMORY, NO_ROOM, NO_RULE, SHARED}
+use Rattle.dbus_c.specs.declared.answers.TheConstants.{WHOLE, REFUSED, NO_MEMORY, NO_ROOM, NO_RULE}
 use Rattle.dbus_c.specs.declared.rule_reasons.TheConstants.{NOT_UTF8}
 use Rattle.dbus_c.specs.declared.rules.RuleRefused.{RuleRefused}
 
@@ -78,14 +77,6 @@ pub data TellsOwner (name owner : List ℕ) (before after : Option Kept) (answer
   noted : IsKind BusName name → IsOwner owner → SetsOwner name owner before after → answer ≡ WHOLE → TellsOwner name owner before after answer
   no_name : (IsKind BusName name → IsOwner owner → ⊥) → after ≡ before → answer ≡ REFUSED → TellsOwner name owner before after answer
   no_memory : KeepsAll before after → answer ≡ NO_MEMORY → TellsOwner name owner before after answer
-
--- the rules are shared with another handle; or memory ran out, and all that both keep stays, so
--- rules that were not shared are not; or so many handles share the rules that no further one can,
--- and the rules of both stay
-pub data TellsSharing (before after other_before other_after : Option Kept) (answer : ℕ) : Type 0 where
-  shared : SharesRules before after other_after → answer ≡ WHOLE → TellsSharing before after other_before other_after answer
-  no_memory : SharesNone Memory before after other_before other_after → answer ≡ NO_MEMORY → TellsSharing before after other_before other_after answer
-  too_many : SharesNone TooMany before after other_before other_after → answer ≡ SHARED → TellsSharing before after other_before other_after answer
 
 -- all handles are told, at the start of a room that has room for them; or it has not
 pub data TellsAll (handles : List RuleHandle) (answer : ℕ) (old new : List RuleHandle) : Type 0 where

@@ -33,8 +33,5 @@ pub const NO_RULE: u32 = 8;
 /// There is no end of a handshake: none was made, or it was freed.
 pub const NO_HANDSHAKE: u32 = 9;
 
-/// The rules are shared, and no call changes them.
-pub const SHARED: u32 = 10;
-
 /// The line is not to be passed on yet: the server has lines to answer that came before it.
 pub const WAITS: u32 = 11;

@@ -64,7 +64,7 @@ pub use addresses::{
 };
 pub use answers::{
     NO_CHECKER, NO_HANDSHAKE, NO_KIND, NO_MEMORY, NO_ROOM, NO_RULE, NO_VALUE, PARTIAL, REFUSED,
-    SHARED, WAITS, WHOLE,
+    WAITS, WHOLE,
 };
 pub use building::{dbus_wire_build, dbus_wire_rebuild, dbus_wire_reply_to};
 pub use checkers::{
@@ -96,8 +96,7 @@ pub use rule_reasons::{
 };
 pub use rules::{
     RuleRefused, dbus_wire_rules_add, dbus_wire_rules_free, dbus_wire_rules_matching,
-    dbus_wire_rules_may_match, dbus_wire_rules_owner, dbus_wire_rules_remove,
-    dbus_wire_rules_share, dbus_wire_rules_text,
+    dbus_wire_rules_may_match, dbus_wire_rules_owner, dbus_wire_rules_remove, dbus_wire_rules_text,
 };
 pub use swapping::dbus_wire_swap;
 pub use texts::{TextChecked, dbus_wire_text_check};

@@ -1,23 +1,23 @@
 //! Match rules that C keeps from call to call.
 #![tactic(auto)]
 
-ghost use Rattle.std.specs.Prelude.{◌≡◌, MatchOption, None, true, false};
+ghost use Rattle.std.specs.Prelude.{◌≡◌, MatchOption, None};
 ghost use Rattle.dbus_c.specs.Checking.{IsChecked};
 ghost use Rattle.dbus_c.specs.GivenLimits.{limits_of};
 ghost use Rattle.dbus_c.specs.MayMatch.{TellsMay};
 ghost use Rattle.dbus_c.specs.Outcomes.{with_memory, with_room};
-ghost use Rattle.dbus_c.specs.Rules.{IsOwner, TellsAll, TellsMatching, TellsOwner, TellsRule, TellsRuleText, TellsSharing, removal_told, rule_fault_told};
-ghost use Rattle.dbus_c_handle.specs.Rules.{given_of, is_shared, owners_of, rules_of};
+ghost use Rattle.dbus_c.specs.Rules.{IsOwner, TellsAll, TellsMatching, TellsOwner, TellsRule, TellsRuleText, removal_told, rule_fault_told};
+ghost use Rattle.dbus_c_handle.specs.Rules.{given_of, owners_of, rules_of};
 ghost use Rattle.dbus_texts.specs.Kinds.{IsKind};
 ghost use Rattle.dbus_texts.specs.declared.text_kind.TextKind.TheVariants.{BusName};
 ghost use Rattle.dbus_rule_set.specs.Held.{rule_at, without};
 
-use crate::answers::{NO_MEMORY, NO_ROOM, NO_RULE, REFUSED, SHARED, WHOLE};
+use crate::answers::{NO_MEMORY, NO_ROOM, NO_RULE, REFUSED, WHOLE};
 use crate::checking::{Checked, first_validated, first_view};
 use crate::given_limits::WireLimits;
 use crate::names::put_text;
 use crate::rule_reasons::{NOT_UTF8, rule_reason_number};
-use dbus_c_handle::{ShareFault, WireHandle};
+use dbus_c_handle::WireHandle;
 use dbus_match::RuleFault;
 use dbus_rule_set::RuleHandle;
 use dbus_texts::check_bus_name;
@@ -39,8 +39,7 @@ pub struct RuleRefused {
 /// had before: [`WHOLE`]. Else what is kept stays: [`REFUSED`] with the text's one fault, as
 /// [`dbus_match::parse_rule`] finds it, or that it is not UTF-8, which comes first; [`NO_MEMORY`]
 /// if memory runs out, or 2^64 - 1 rules were added. `id` changes in the first case alone, and
-/// `out` in the second. To rules that are shared it adds none, whatever the text is: [`SHARED`],
-/// and nothing changes. D-Bus Specification, "Match Rules".
+/// `out` in the second. D-Bus Specification, "Match Rules".
 #[unsafe(no_mangle)]
 pub extern "C" fn dbus_wire_rules_add(
     alloc: Global,
@@ -49,13 +48,8 @@ pub extern "C" fn dbus_wire_rules_add(
     id: &mut RuleHandle,
     out: &mut RuleRefused,
 ) -> u32
-    ensures told { is_shared rules.old.state ≡ false → TellsRule text.now result rules.old.state rules.new.state id.old id.new out.old out.new }
-    ensures own { is_shared rules.new.state ≡ is_shared rules.old.state }
-    ensures shared { is_shared rules.old.state ≡ true → (result ≡ SHARED) × (rules.new.state ≡ rules.old.state) × (id.new ≡ id.old) × (out.new ≡ out.old) }
+    ensures { TellsRule text.now result rules.old.state rules.new.state id.old id.new out.old out.new }
 {
-    if rules.are_shared() {
-        return SHARED;
-    }
     let added = match str::from_utf8(text) {
         Ok(text) => rules.add_rule(alloc, text),
         Err(error) => {
@@ -77,19 +71,15 @@ pub extern "C" fn dbus_wire_rules_add(
 }
 
 /// Removes the rule that `id` stands for: [`WHOLE`]; [`NO_RULE`] if it stands for none. From then
-/// on it stands for none. Of rules that are shared it removes none: [`SHARED`].
+/// on it stands for none.
 #[unsafe(no_mangle)]
 pub extern "C" fn dbus_wire_rules_remove(rules: &mut WireHandle, id: &RuleHandle) -> u32
-    ensures told { is_shared rules.old.state ≡ false → result ≡ removal_told (rule_at id.now (rules_of rules.old.state)) }
-    ensures removed { is_shared rules.old.state ≡ false → rules_of rules.new.state ≡ without id.now (rules_of rules.old.state) }
+    ensures told { result ≡ removal_told (rule_at id.now (rules_of rules.old.state)) }
+    ensures removed { rules_of rules.new.state ≡ without id.now (rules_of rules.old.state) }
     ensures given { given_of rules.new.state ≡ given_of rules.old.state }
     ensures owners { owners_of rules.new.state ≡ owners_of rules.old.state }
-    ensures own { is_shared rules.new.state ≡ is_shared rules.old.state }
-    ensures shared { is_shared rules.old.state ≡ true → (result ≡ SHARED) × (rules.new.state ≡ rules.old.state) }
 {
-    if rules.are_shared() {
-        SHARED
-    } else if rules.remove_rule(*id) {
+    if rules.remove_rule(*id) {
         WHOLE
     } else {
         NO_RULE
@@ -99,8 +89,7 @@ pub extern "C" fn dbus_wire_rules_remove(rules: &mut WireHandle, id: &RuleHandle
 /// Notes that the name has this owner, in place of the one that it had, for the rules: [`WHOLE`].
 /// With an empty owner, it has none from then on. Else what is kept stays: [`REFUSED`] if the name
 /// is no bus name, or the owner is neither a bus name nor empty; [`NO_MEMORY`] if memory runs out.
-/// For rules that are shared it notes nothing, whatever the texts are: [`SHARED`]. D-Bus
-/// Specification, "Bus names".
+/// D-Bus Specification, "Bus names".
 #[unsafe(no_mangle)]
 pub extern "C" fn dbus_wire_rules_owner(
     alloc: Global,
@@ -108,36 +97,17 @@ pub extern "C" fn dbus_wire_rules_owner(
     name: &[u8],
     owner: &[u8],
 ) -> u32
-    ensures told { is_shared rules.old.state ≡ false → TellsOwner name.now owner.now rules.old.state rules.new.state result }
-    ensures own { is_shared rules.new.state ≡ is_shared rules.old.state }
-    ensures shared { is_shared rules.old.state ≡ true → (result ≡ SHARED) × (rules.new.state ≡ rules.old.state) }
+    ensures { TellsOwner name.now owner.now rules.old.state rules.new.state result }
 {
-    if rules.are_shared() {
-        SHARED
-    } else {
-        note_owner(alloc, rules, name, owner)
-    }
-}
-
-/// Shares the rules and the owners of names with `other`, another handle, which from then on keeps
-/// the same rules and owners, and frees what it kept before: [`WHOLE`]. From then on no call
-/// changes the rules or the owners of either, and each may be used by a thread of its own at the
-/// same time; what they share is freed with the last of them. [`NO_MEMORY`] if memory runs out:
-/// then both keep what they kept, and rules that were not shared are not shared. [`SHARED`] if 2^63
-/// handles share the rules: then `other` keeps what it kept, and the rules and owners of `rules`
-/// stay as they are. D-Bus Specification, "Match Rules".
-#[unsafe(no_mangle)]
-pub extern "C" fn dbus_wire_rules_share(
-    alloc: Global,
-    rules: &mut WireHandle,
-    other: &mut WireHandle,
-) -> u32
-    ensures { TellsSharing rules.old.state rules.new.state other.old.state other.new.state result }
-{
-    match rules.share_rules(alloc, other) {
-        Ok(()) => WHOLE,
-        Err(ShareFault::Memory) => NO_MEMORY,
-        Err(ShareFault::TooMany) => SHARED,
+    let Some(name) = bus_name(name) else {
+        return REFUSED;
+    };
+    let Some(owner) = owner_name(owner) else {
+        return REFUSED;
+    };
+    match rules.set_owner(alloc, name, owner) {
+        Ok(_) => WHOLE,
+        Err(_) => NO_MEMORY,
     }
 }
 
@@ -239,7 +209,7 @@ pub extern "C" fn dbus_wire_rules_text(
 }
 
 /// Frees the rules and the owners of names, if there are any: from then on there are none of
-/// either. Those that are shared are freed with the last handle that keeps them.
+/// either.
 #[unsafe(no_mangle)]
 pub extern "C" fn dbus_wire_rules_free(alloc: Global, rules: &mut WireHandle)
     ensures { rules.new.state ≡ None }
@@ -266,24 +236,6 @@ fn fault_at(at: usize, reason: u32) -> RuleRefused
         offset: at as u64,
         reason,
         reserved: 0,
-    }
-}
-
-// Notes the owner of the name for rules that are not shared.
-fn note_owner(alloc: Global, rules: &mut WireHandle, name: &[u8], owner: &[u8]) -> u32
-    requires { is_shared rules.old.state ≡ false }
-    ensures told { TellsOwner name.now owner.now rules.old.state rules.new.state result }
-    ensures own { is_shared rules.new.state ≡ false }
-{
-    let Some(name) = bus_name(name) else {
-        return REFUSED;
-    };
-    let Some(owner) = owner_name(owner) else {
-        return REFUSED;
-    };
-    match rules.set_owner(alloc, name, owner) {
-        Ok(_) => WHOLE,
-        Err(_) => NO_MEMORY,
     }
 }
 

@@ -118,7 +118,6 @@ module _ {M : Type 1} {𝓤 : Ura M} {𝓛 : Logic 𝓤} {K : Type 0} {Γ : List
 pub all_kept : (old mid new : Option Kept) → KeepsAll old mid → KeepsAll mid new → KeepsAll old new
 all_kept old mid new a b = record {
   stay = record { rules = b.stay.rules ∙ a.stay.rules; given = b.stay.given ∙ a.stay.given; owners = b.stay.owners ∙ a.stay.owners };
-  shared = b.shared ∙ a.shared;
   other = b.other ∙ a.other;
 }
 

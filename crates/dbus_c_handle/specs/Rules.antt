@@ -1,7 +1,7 @@
 -- The match rules that a handle keeps, each by what stands for it, the owners of names that it
 -- keeps with them, and what its calls do with both.
 -- D-Bus Specification, "Match Rules".
-use Rattle.std.specs.Prelude.{◌≡◌, ℕ, ◌+◌, List, [], ◌∷◌, Option, Some, None, Result, Ok, Err, Bool, true, false, String, string_bytes}
+use Rattle.std.specs.Prelude.{◌≡◌, ℕ, ◌+◌, List, [], Option, Some, None, Result, Ok, Err, String, string_bytes}
 use Rattle.std.specs.FinSet.{empty}
 use Rattle.std.specs.declared.alloc.Global.{Global}
 use Rattle.std.specs.declared.alloc.AllocError.{AllocError}
@@ -13,31 +13,21 @@ use Rattle.dbus_rule_set.specs.Owners.{OwnerSet, owned_anew}
 use Rattle.dbus_rule_set.specs.declared.handle.RuleHandle.{RuleHandle}
 use Rattle.dbus_c_handle.specs.declared.kept.Kept.{Kept}
 use Rattle.dbus_c_handle.specs.declared.kept.Kept.TheVariants as kept
-use Rattle.dbus_c_handle.specs.declared.share_fault.ShareFault.{ShareFault}
-use Rattle.dbus_c_handle.specs.declared.share_fault.ShareFault.TheVariants.{Memory, TooMany}
 
 -- the rules that are kept
 abbrev pub rules_of : Option Kept → List (RuleHandle × Rule Global)
 rules_of (Some (kept.Rules s)) = held s.rules
-rules_of (Some (kept.Shared s)) = held s.value.rules
 rules_of _ = []
 
 -- how many were added since the first of them
 abbrev pub given_of : Option Kept → ℕ
 given_of (Some (kept.Rules s)) = given s.rules
-given_of (Some (kept.Shared s)) = given s.value.rules
 given_of _ = 0
 
 -- the owners of names that are kept
 abbrev pub owners_of : Option Kept → OwnerSet
 owners_of (Some (kept.Rules s)) = s.owners
-owners_of (Some (kept.Shared s)) = s.value.owners
 owners_of _ = empty
-
--- they are shared, so no call changes them
-abbrev pub is_shared : Option Kept → Bool
-is_shared (Some (kept.Shared s)) = true
-is_shared _ = false
 
 -- a rule comes to those that are kept, and this stands for it, which stood for none before
 pub record AddsRule (rule : Rule Global) (old new : Option Kept) (h : RuleHandle) : Type 0 where
@@ -69,18 +59,10 @@ other_of (Some (kept.Checker b)) = Some (kept.Checker b)
 other_of (Some (kept.Handshake h)) = Some (kept.Handshake h)
 other_of _ = None
 
--- all that is kept stays, and rules that are not shared are still not shared
+-- all that is kept stays
 pub record KeepsAll (old new : Option Kept) : Type 0 where
   pub stay : KeepsRules old new
-  pub shared : is_shared new ≡ is_shared old
   pub other : other_of new ≡ other_of old
-
--- the rules stay, another handle keeps the same, and both are shared
-pub record SharesRules (old new other : Option Kept) : Type 0 where
-  pub stay : KeepsRules old new
-  pub same : KeepsRules old other
-  pub shared : is_shared new ≡ true
-  pub other_shared : is_shared other ≡ true
 
 -- the rule's canonical text, or that memory ran out; of no rule nothing is answered
 abbrev pub IsWritten : Option (Rule Global) → Option (Result (String Global) AllocError) → Type 0
@@ -88,10 +70,3 @@ IsWritten None answer = answer ≡ None
 IsWritten (Some rule) None = ⊥
 IsWritten (Some rule) (Some (Ok text)) = string_bytes text ≡ canonical (rule_pairs rule)
 IsWritten (Some rule) (Some (Err e)) = Unit {0}
-
--- why rules are not shared with another handle, which stays: for want of memory, and then all
--- stays; or so many handles share them that no further one can, and then the rules stay, and are
--- shared
-abbrev pub SharesNone : ShareFault → (old new other_old other_new : Option Kept) → Type 0
-SharesNone Memory old new other_old other_new = KeepsAll old new × (other_new ≡ other_old)
-SharesNone TooMany old new other_old other_new = KeepsRules old new × (is_shared new ≡ true) × (other_new ≡ other_old)

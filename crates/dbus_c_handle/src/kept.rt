@@ -5,7 +5,6 @@ use dbus_c_auth::Handshake;
 use dbus_check::Checker;
 use dbus_rule_set::{Owners, RuleSet};
 use std::alloc::Global;
-use std::sync::Arc;
 
 /// Match rules, and the owners of the names that their senders may be.
 #[derive(Drop)]
@@ -41,8 +40,6 @@ pub enum Kept {
     Checker(Box<Checker>),
     /// Match rules.
     Rules(KeptRules),
-    /// Match rules that other handles may keep too. They stay as they are, and so do the owners.
-    Shared(Arc<KeptRules>),
     /// An end of a handshake.
     Handshake(Handshake),
 }

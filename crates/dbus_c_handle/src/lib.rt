@@ -10,9 +10,6 @@ mod handle;
 mod handshakes;
 mod kept;
 mod rules;
-mod share_fault;
-mod sharing;
 
 pub use handle::WireHandle;
 pub use kept::{Kept, KeptRules};
-pub use share_fault::ShareFault;

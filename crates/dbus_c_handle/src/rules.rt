@@ -1,9 +1,9 @@
 //! Match rules that a handle keeps.
 #![tactic(auto)]
 
-ghost use Rattle.std.specs.Prelude.{◌≡◌, Some, MatchResult, false};
+ghost use Rattle.std.specs.Prelude.{◌≡◌, Some, MatchResult};
 ghost use Rattle.dbus_rule.specs.declared.fault.RuleFault.TheVariants.{Memory};
-ghost use Rattle.dbus_c_handle.specs.Rules.{AddsRule, KeepsAll, SetsOwner, is_shared};
+ghost use Rattle.dbus_c_handle.specs.Rules.{AddsRule, KeepsAll, SetsOwner};
 
 use crate::handle::WireHandle;
 use crate::kept::{Kept, KeptRules};
@@ -13,24 +13,21 @@ use dbus_view::MessageView;
 use std::alloc::{AllocError, Global};
 
 impl WireHandle {
-    ghost use Rattle.std.specs.Prelude.{◌≡◌, ◌↔◌, [], IfOk, IsTrue, MatchResult, false, is_some, option_map};
+    ghost use Rattle.std.specs.Prelude.{◌≡◌, ◌↔◌, [], IfOk, IsTrue, MatchResult, is_some, option_map};
     ghost use Rattle.dbus_value_model.specs.declared.order.Order.{Order};
     ghost use Rattle.dbus_message_model.specs.Messages.{MessageTree};
     ghost use Rattle.dbus_rule.specs.RuleViews.{IsRuleFault};
     ghost use Rattle.dbus_rule_set.specs.Held.{Collects, EntryMatches, EntryMayMatch, HoldsOfAny, rule_at, without};
     ghost use Rattle.dbus_view.specs.Views.{Views};
-    ghost use Rattle.dbus_c_handle.specs.Rules.{Adds, IsWritten, KeepsAll, SetsOwner, given_of, is_shared, owners_of, rules_of};
+    ghost use Rattle.dbus_c_handle.specs.Rules.{Adds, IsWritten, KeepsAll, SetsOwner, given_of, owners_of, rules_of};
 
     /// Keeps the rule that the text spells, as [`parse_rule`] reads it, beside the rules that it
     /// keeps, and returns its handle in the set. The fault of the text if there is one, or `Memory`
     /// if memory runs out or 2^64 - 1 rules were added: then it keeps all that it kept. Else a
-    /// handle that keeps something else frees that. The rules must not be shared:
-    /// [`WireHandle::are_shared`] says whether they are.
+    /// handle that keeps something else frees that.
     pub fn add_rule(&mut self, alloc: Global, text: &str) -> Result<RuleHandle, RuleFault>
-        requires { is_shared self.old.state ≡ false }
-        ensures added { MatchResult result (Adds text.now self.old.state self.new.state)
+        ensures { MatchResult result (Adds text.now self.old.state self.new.state)
             (λ fault. IsRuleFault text.now fault × KeepsAll self.old.state self.new.state) }
-        ensures own { is_shared self.new.state ≡ false }
     {
         let rule = parse_rule(alloc, text)?;
         let mut kept = self.take_or_make(alloc)?;
@@ -50,15 +47,12 @@ impl WireHandle {
         }
     }
 
-    /// Removes the rule of this handle in the set. Whether there was one. The rules must not be
-    /// shared.
+    /// Removes the rule of this handle in the set. Whether there was one.
     pub fn remove_rule(&mut self, handle: RuleHandle) -> bool
-        requires { is_shared self.old.state ≡ false }
         ensures was { result ≡ is_some (rule_at handle (rules_of self.old.state)) }
         ensures removed { rules_of self.new.state ≡ without handle (rules_of self.old.state) }
         ensures given { given_of self.new.state ≡ given_of self.old.state }
         ensures owners { owners_of self.new.state ≡ owners_of self.old.state }
-        ensures own { is_shared self.new.state ≡ false }
     {
         let Some(kept) = self.kept() else {
             return false;
@@ -71,12 +65,10 @@ impl WireHandle {
 
     /// Gives the name this owner, in place of the one that it has; an empty one: it has none from
     /// then on. An error if memory runs out: then it keeps all that it kept. Else a handle that
-    /// keeps something else frees that. The rules must not be shared.
+    /// keeps something else frees that.
     pub fn set_owner(&mut self, alloc: Global, name: &str, owner: &str) -> Result<(), AllocError>
-        requires { is_shared self.old.state ≡ false }
-        ensures set { MatchResult result (λ _. SetsOwner name.now owner.now self.old.state self.new.state)
+        ensures { MatchResult result (λ _. SetsOwner name.now owner.now self.old.state self.new.state)
             (λ _. KeepsAll self.old.state self.new.state) }
-        ensures own { is_shared self.new.state ≡ false }
     {
         let mut kept = self.take_or_make(alloc)?;
         let set = set_owner_in(alloc, &mut kept, name, owner);
@@ -177,26 +169,22 @@ impl Kept {
         Some(rule_text(alloc, rule))
     }
 
-    /// The rules with the owners of names, shared or not; `None` if something else is kept.
+    /// The rules with the owners of names; `None` if something else is kept.
     pub(crate) fn rules(&self) -> Option<&KeptRules>
         ensures rules { MatchOption result (rules_of (Some self.now) ≡ []) (λ own. held own.now.rules ≡ rules_of (Some self.now)) }
         ensures owners { MatchOption result (Unit {0}) (λ own. own.now.owners ≡ owners_of (Some self.now)) }
     {
         match self {
             Kept::Rules(own) => Some(own),
-            Kept::Shared(own) => Some(&**own),
             _ => None,
         }
     }
 }
 
-// Adds the rule to those that are kept, which are not shared, in place of what is kept otherwise;
-// or all stays.
+// Adds the rule to those that are kept, in place of what is kept otherwise; or all stays.
 fn add_to(alloc: Global, kept: &mut Kept, rule: Rule) -> Result<RuleHandle, RuleFault>
-    requires { is_shared (Some kept.old) ≡ false }
-    ensures added { MatchResult result (AddsRule rule (Some kept.old) (Some kept.new))
+    ensures { MatchResult result (AddsRule rule (Some kept.old) (Some kept.new))
         (λ fault. (fault ≡ Memory) × KeepsAll (Some kept.old) (Some kept.new)) }
-    ensures own { is_shared (Some kept.new) ≡ false }
 {
     let added = match kept {
         Kept::Rules(own) => own.rules.add(rule),
@@ -215,13 +203,11 @@ fn add_to(alloc: Global, kept: &mut Kept, rule: Rule) -> Result<RuleHandle, Rule
     }
 }
 
-// Gives the name this owner among those that are kept, which are not shared, in place of what is
-// kept otherwise; or all stays.
+// Gives the name this owner among those that are kept, in place of what is kept otherwise; or all
+// stays.
 fn set_owner_in(alloc: Global, kept: &mut Kept, name: &str, owner: &str) -> Result<(), AllocError>
-    requires { is_shared (Some kept.old) ≡ false }
-    ensures set { MatchResult result (λ _. SetsOwner name.now owner.now (Some kept.old) (Some kept.new))
+    ensures { MatchResult result (λ _. SetsOwner name.now owner.now (Some kept.old) (Some kept.new))
         (λ _. KeepsAll (Some kept.old) (Some kept.new)) }
-    ensures own { is_shared (Some kept.new) ≡ false }
 {
     match kept {
         Kept::Rules(own) => own.owners.set(name, owner),
