@@ -39,7 +39,7 @@ fi
 sed -n 's/^\(DBUS_WIRE_[A-Z_]*((.*)) \)\{0,1\}\(void\|uint[0-9]*_t\|size_t\) \(dbus_wire_[a-z_]*\)(.*/\3/p' "$here/../include/dbus_wire.h" | sort > "$built/declared"
 "${tools}nm" -D --defined-only "$shared" | sed -n 's/.* T \([a-z_]*\).*/\1/p' | sort | diff "$built/declared" -
 test "$("${tools}objdump" -p "$shared" | grep -c NEEDED)" = 1
-"$here/stack.py" "$shared" 131072 $target
+"$here/stack.py" "$shared" 98304 262144 $target
 # It has the header's types, so that abidiff, if it is there, sees a struct that grows.
 if [ -z "$target" ] && command -v abidiff > /dev/null; then
 	mkdir -p "$built/grown"

@@ -51,7 +51,7 @@
 //!
 //! # Stack
 //!
-//! A call needs at most 131,072 bytes of stack, or [`Message::from_json`] 262,144, which is less than
+//! A call needs at most 98,304 bytes of stack, or [`Message::from_json`] 262,144, which is less than
 //! a thread has unless it is given less.
 //!
 //! [D-Bus Specification]: https://dbus.freedesktop.org/doc/dbus-specification.html
