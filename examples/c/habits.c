@@ -109,6 +109,10 @@ static void answers(void) {
     expect(dbus_wire_rebuild(SIGNAL, SIGNAL_LENGTH, NULL, &draft, bad, sizeof bad, &told) == DBUS_WIRE_OK &&
                told.length == SIGNAL_LENGTH && memcmp(bad, SIGNAL, SIGNAL_LENGTH) == 0,
            "of its own draft it comes back");
+    draft.sender = dbus_wire_text_of("a");
+    expect(dbus_wire_rebuild(SIGNAL, SIGNAL_LENGTH, NULL, &draft, bad, sizeof bad, &told) == DBUS_WIRE_REFUSED &&
+               told.reason == DBUS_WIRE_REASON_BUS_NAME && told.field == DBUS_WIRE_FIELD_SENDER,
+           "what it is refused for names the field");
     memset(&draft, 0, sizeof draft);
     expect(dbus_wire_build(&draft, NULL, NULL, 0, &told) == DBUS_WIRE_REFUSED && told.reason == DBUS_WIRE_REASON_BYTE_ORDER,
            "a draft of zeros names no byte order");

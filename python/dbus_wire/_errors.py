@@ -38,7 +38,7 @@ class NotAMessage(_AtPlace):
 
     `at` is the place, in bytes from the start of the input. `reason` is the reason's name, as
     docs/WIRE-FORMAT.md lists them ("Faults"). `field` is the header field that is missing if the
-    reason is "FieldMissing", or one whose text is too long for `build`, and else None.
+    reason is "FieldMissing", or the one for which `build` makes no message, and else None.
     """
 
     def __str__(self) -> str:
@@ -122,8 +122,10 @@ def truncated(at: int) -> Truncated:
 
 
 def _with_field(reason: str, field: HeaderField | None) -> str:
-    """The reason's name, and the code of the field, if there is one."""
-    return reason if field is None else f"{reason}({int(field)})"
+    """The reason's name, with the code of the field if one is missing, and its name if it is at fault."""
+    if field is None:
+        return reason
+    return f"{reason}({int(field)})" if reason == "FieldMissing" else f"{reason} of {field.name.lower()}"
 
 
 def _name_of(reason: int) -> str:

@@ -216,17 +216,17 @@ class Cases(unittest.TestCase):
             ({"type": 0}, "Kind"),
             ({"type": 256}, "Overrun"),
             ({"serial": 0}, "ZeroSerial"),
-            ({"path": "a"}, "Path"),
-            ({"path": "/\udc80"}, "Path"),
-            ({"sender": "a"}, "BusName"),
-            ({"member": None}, "FieldMissing"),
-            ({"signature": "y" * 256, "body": b""}, "Signature"),
+            ({"path": "a"}, "Path of path"),
+            ({"path": "/\udc80"}, "Path of path"),
+            ({"sender": "a"}, "BusName of sender"),
+            ({"member": None}, "FieldMissing(3)"),
+            ({"signature": "y" * 256, "body": b""}, "Signature of signature"),
             ({"signature": "u", "body": bytes(3)}, "Overrun"),
             ({"body": b"\0"}, "Trailing"),
         ):
             with self.assertRaises(Refused) as caught:
                 build(**signal | changed)
-            self.assertEqual(caught.exception.reason, reason, changed)
+            self.assertEqual(str(caught.exception), f"refused at {caught.exception.at}: {reason}", changed)
         self.assertRaises(ValueError, build, **signal | {"serial": 1 << 32})
         self.assertRaises(Refused, build, **signal, limits=Limits(message=16))
 

@@ -3,6 +3,7 @@
 use std::error::Error;
 use std::fmt;
 use std::num::NonZeroU32;
+use std::ops::Deref;
 
 use crate::{sys, Fault, Kind, Limits, Message, Order};
 
@@ -70,10 +71,49 @@ impl Parts<'_> {
 pub enum BuildError {
     /// No message within the limits has these parts, or a line of JSON spells none. The fault is at
     /// an offset from the first byte that the parts spell, or of the line; or at 0.
-    Refused(Fault),
+    Refused(BuildFault),
     /// There is no memory for it in the library.
     OutOfMemory,
 }
+
+/// Where and why a message is not made.
+#[derive(Clone, Copy, Debug, PartialEq, Eq, Hash)]
+#[non_exhaustive]
+pub struct BuildFault {
+    /// Where and why.
+    pub fault: Fault,
+    /// The code of the header field that is at fault, or missing; 0 if none is.
+    pub field: u8,
+}
+
+// The parts of a message by the codes of their header fields.
+const PARTS: [&str; 10] =
+    ["", "path", "interface", "member", "error_name", "reply_serial", "destination", "sender", "signature", "unix_fds"];
+
+impl BuildFault {
+    pub(crate) fn new(told: &sys::dbus_wire_checked) -> Self {
+        Self { fault: Fault::new(told.offset, told.reason, told.field), field: told.field as u8 }
+    }
+}
+
+impl Deref for BuildFault {
+    type Target = Fault;
+
+    fn deref(&self) -> &Fault {
+        &self.fault
+    }
+}
+
+impl fmt::Display for BuildFault {
+    fn fmt(&self, f: &mut fmt::Formatter<'_>) -> fmt::Result {
+        match PARTS.get(usize::from(self.field)) {
+            Some(part) if !part.is_empty() => write!(f, "{part}: {}", self.fault),
+            _ => self.fault.fmt(f),
+        }
+    }
+}
+
+impl Error for BuildFault {}
 
 impl fmt::Display for BuildError {
     fn fmt(&self, f: &mut fmt::Formatter<'_>) -> fmt::Result {
@@ -187,7 +227,7 @@ fn built(
         }
         sys::DBUS_WIRE_NO_MEMORY => Err(BuildError::OutOfMemory),
         sys::DBUS_WIRE_NO_ROOM => unreachable!("a header of {} bytes", told.length),
-        _ => Err(BuildError::Refused(Fault::new(told.offset, told.reason, told.field))),
+        _ => Err(BuildError::Refused(BuildFault::new(&told))),
     }
 }
 

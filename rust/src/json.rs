@@ -1,6 +1,6 @@
 //! A message as a line of JSON, and the message of one.
 
-use crate::{sys, BuildError, Fault, Limits, Message, OwnedMessage};
+use crate::{sys, BuildError, BuildFault, Limits, Message, OwnedMessage};
 
 /// What a line of JSON says of where its message stands. It is written as it is given.
 ///
@@ -118,7 +118,7 @@ impl Message<'_> {
                 sys::DBUS_WIRE_OK => break,
                 sys::DBUS_WIRE_NO_ROOM => out.resize(told.length as usize, 0),
                 sys::DBUS_WIRE_NO_MEMORY => return Err(BuildError::OutOfMemory),
-                _ => return Err(BuildError::Refused(Fault::new(told.offset, told.reason, told.field))),
+                _ => return Err(BuildError::Refused(BuildFault::new(&told))),
             }
         }
         Ok(OwnedMessage::known(out))

@@ -82,7 +82,7 @@ mod watch;
 pub use address::{connect, parse_addresses, Address};
 pub use bad_value::BadValue;
 pub use body::{Body, TooLong};
-pub use build::{build, rebuild, reply_to, BuildError, Parts};
+pub use build::{build, rebuild, reply_to, BuildError, BuildFault, Parts};
 pub use check::{check, wanted, Answer, Order};
 pub use checker::{Checker, OutOfMemory, Taken};
 pub use explain::{explain, whole_parts, Explanation, InputPlace, StatedText};

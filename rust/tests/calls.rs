@@ -384,20 +384,20 @@ fn a_reply_goes_to_the_caller() {
 fn parts_of_no_message_are_refused() {
     let signal = Parts { path: Some("/"), interface: Some("a.b"), member: Some("C"), ..Parts::new(Kind::Signal, 1) };
     let refused = |parts: Parts<'_>| match build(&parts, &Limits::default()) {
-        Err(BuildError::Refused(fault)) => fault.reason,
+        Err(BuildError::Refused(fault)) => (fault.reason, fault.field),
         other => panic!("{other:?}"),
     };
     let long = "y".repeat(256);
     assert!(build(&signal, &Limits::default()).is_ok());
-    assert_eq!(refused(Parts { kind: Kind::Other(0), ..signal }), Reason::Kind);
-    assert_eq!(refused(Parts { serial: 0, ..signal }), Reason::ZeroSerial);
-    assert_eq!(refused(Parts { path: Some("a"), ..signal }), Reason::Path);
-    assert_eq!(refused(Parts { sender: Some("a"), ..signal }), Reason::BusName);
-    assert_eq!(refused(Parts { member: None, ..signal }), Reason::FieldMissing(3));
-    assert_eq!(refused(Parts { signature: Some(&long), ..signal }), Reason::Signature);
-    assert_eq!(refused(Parts { signature: Some("u"), body: &[0; 3], ..signal }), Reason::Overrun);
-    assert_eq!(refused(Parts { signature: Some("u"), body: &[0; 5], ..signal }), Reason::Trailing);
-    assert_eq!(refused(Parts { body: &[0], ..signal }), Reason::Trailing);
+    assert_eq!(refused(Parts { kind: Kind::Other(0), ..signal }), (Reason::Kind, 0));
+    assert_eq!(refused(Parts { serial: 0, ..signal }), (Reason::ZeroSerial, 0));
+    assert_eq!(refused(Parts { path: Some("a"), ..signal }), (Reason::Path, 1));
+    assert_eq!(refused(Parts { sender: Some("a"), ..signal }), (Reason::BusName, 7));
+    assert_eq!(refused(Parts { member: None, ..signal }), (Reason::FieldMissing(3), 3));
+    assert_eq!(refused(Parts { signature: Some(&long), ..signal }), (Reason::Signature, 8));
+    assert_eq!(refused(Parts { signature: Some("u"), body: &[0; 3], ..signal }), (Reason::Overrun, 0));
+    assert_eq!(refused(Parts { signature: Some("u"), body: &[0; 5], ..signal }), (Reason::Trailing, 0));
+    assert_eq!(refused(Parts { body: &[0], ..signal }), (Reason::Trailing, 0));
 }
 
 // The lengths of the messages of a stream that comes in pieces.

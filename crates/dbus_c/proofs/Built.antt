@@ -87,7 +87,7 @@ module _ (limits : Limits) (k : Kept) (w : WireDraft) where
   makes_none : (p : Draft) (why : DraftFault) → (why ≡ refusals.Memory → ⊥) → IsRefusal limits (fields_kept k) p why → MakeNone limits (fields_kept k) p
   makes_none p refusals.Memory other is = absurd (other refl)
   makes_none p (refusals.TooLong code) other is = is.0
-  makes_none p (refusals.Format f) other is = is.0
+  makes_none p (refusals.Format f code) other is = is.0
 
   stands_for_none : (p : Draft) → StandFor k w p → MakeNone limits (fields_kept k) p → StandForNone limits k w
   stands_for_none p stand none = λ q m other has valid.

@@ -75,7 +75,7 @@ field_told reason code = record { length = 0; offset = 0; order = 0; reason = re
 abbrev pub refusal_told : DraftFault → Checked
 refusal_told refusals.Memory = nothing_told
 refusal_told (refusals.TooLong code) = field_told (if nat_eq code 8 then Signature else MessageTooLong) code
-refusal_told (refusals.Format f) = fault_told f
+refusal_told (refusals.Format f code) = record (fault_told f) { field = code }
 
 -- why a draft stands for no parts: it names no byte order, or not that of the message that is kept;
 -- or it does, and a number does not fit

@@ -222,7 +222,10 @@ fn refusal_told(why: DraftFault) -> Checked
     match why {
         DraftFault::Memory => nothing_told(),
         DraftFault::TooLong(code) => field_told(too_long(code), code),
-        DraftFault::Format(fault) => fault_told(fault),
+        DraftFault::Format(fault, code) => Checked {
+            field: u32::from(code),
+            ..fault_told(fault)
+        },
     }
 }
 

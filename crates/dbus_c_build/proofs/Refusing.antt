@@ -171,7 +171,7 @@ module _ (limits : Limits) (kept : List FieldTree) (p : Draft) where
   refused_so refusals.Memory h = tt
   refused_so (refusals.TooLong code) (inl h) = (long_none code (inl h.1), inl h)
   refused_so (refusals.TooLong code) (inr h) = (long_none code (inr (h.0, h.2)), inr h)
-  refused_so (refusals.Format f) h = absurd h
+  refused_so (refusals.Format f code) h = absurd h
 
   pub none_so : (out : List ℕ) → out ≡ spelled kept p → BeginsWithNone limits out → MakeNone limits kept p
   unfolding IsWhole

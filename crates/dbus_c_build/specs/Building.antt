@@ -11,6 +11,8 @@ use Rattle.dbus_message_model.specs.Messages.{FieldTree, order_byte, field_array
 use Rattle.dbus_value_model.specs.declared.limits.Limits.{Limits}
 use Rattle.dbus_value_model.specs.declared.limits.TheConstants.{MESSAGE_LIMIT, ARRAY_LIMIT}
 use Rattle.dbus_header.specs.NoMessage.{IsFaultAtEnd}
+use Rattle.dbus_explain.specs.Explained.{place_in}
+use Rattle.dbus_explain.specs.Names.{IsFieldOf}
 use Rattle.dbus_c_build.specs.Drafts.{fields_after, HasParts, text_of}
 use Rattle.dbus_c_build.specs.declared.draft.Draft.{Draft}
 use Rattle.dbus_c_build.specs.declared.draft_fault.DraftFault.{DraftFault}
@@ -74,7 +76,7 @@ HaveNoBytes kept p refusals.Memory = Unit {0}
 HaveNoBytes kept p (refusals.TooLong code) =
     (AreShortBelow p code × (IsShort code (text_of code p) → ⊥))
     ⊎ ((code ≡ 0) × AreShort p × (ARRAY_LIMIT < fields_length kept p))
-HaveNoBytes kept p (refusals.Format f) = ⊥
+HaveNoBytes kept p (refusals.Format f code) = ⊥
 
 -- the parts have bytes: each length and number fits where it stands
 pub record HaveBytes (kept : List FieldTree) (p : Draft) : Type 0 where
@@ -85,7 +87,8 @@ pub record HaveBytes (kept : List FieldTree) (p : Draft) : Type 0 where
 -- why nothing is built: memory ran out; else no message has these parts, and this shows it
 abbrev pub IsRefusal : Limits → (kept : List FieldTree) → Draft → DraftFault → Type 0
 IsRefusal limits kept p refusals.Memory = Unit {0}
-IsRefusal limits kept p (refusals.Format f) = MakeNone limits kept p × HaveBytes kept p × IsFaultAtEnd limits (spelled kept p) f
+IsRefusal limits kept p (refusals.Format f code) = MakeNone limits kept p × HaveBytes kept p × IsFaultAtEnd limits (spelled kept p) f
+    × IsFieldOf (spelled kept p) f.reason (place_in (spelled kept p) f) code
 IsRefusal limits kept p why = MakeNone limits kept p × HaveNoBytes kept p why
 
 -- The law of what is built and what it is built of.

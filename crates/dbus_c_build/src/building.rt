@@ -14,6 +14,7 @@ use crate::kept::append_fields;
 use crate::lengths::check_lengths;
 use dbus_body::{begin_struct, put_number};
 use dbus_check::fault_at_end;
+use dbus_explain::field_of;
 use dbus_marshal::writing::overwrite_32;
 use dbus_message_model::order_byte;
 use dbus_validate::validate;
@@ -109,6 +110,9 @@ pub fn build<A: Allocator + Copy>(
     let out = spell(alloc, given, parts)?;
     match validate(out.as_slice(), given.limits) {
         Some(_) => Ok(out),
-        None => Err(DraftFault::Format(fault_at_end(out.as_slice(), given.limits))),
+        None => {
+            let fault = fault_at_end(out.as_slice(), given.limits);
+            Err(DraftFault::Format(fault, field_of(out.as_slice(), fault)))
+        }
     }
 }

@@ -17,8 +17,8 @@ pub enum DraftFault {
     /// have more than 67,108,864 bytes.
     TooLong(u8),
     /// The bytes that the parts spell are no message within the limits: their fault, at an offset
-    /// from the first of them.
-    Format(Fault),
+    /// from the first of them, and the code of the header field that it is of, 0 for none.
+    Format(Fault, u8),
 }
 
 impl From<AllocError> for DraftFault {

@@ -80,3 +80,10 @@ pub data IsNameOf (bytes : List ℕ) (reason : Reason) (at : ℕ) : List ℕ →
       → IsNameOf bytes reason at (codes "the padding after the header fields") None
   value : (name : List ℕ) (text : Option StatedText) → 16 ≤ at → is_missing reason ≡ false → body_begin bytes ≤ at → IsValueName bytes at name text
       → IsNameOf bytes reason at name text
+
+-- the code of the header field that a fault is of: of the one that is missing, or of the one that
+-- its place is in; 0 if it is in none
+pub data IsFieldOf (bytes : List ℕ) (reason : Reason) (at : ℕ) : (code : ℕ) → Type 0 where
+  missing_one : (code : ℕ) → reason ≡ FieldMissing code → IsFieldOf bytes reason at code
+  in_one : (p code : ℕ) → is_missing reason ≡ false → 16 ≤ at → at < fields_end bytes → IsInField bytes at p code → IsFieldOf bytes reason at code
+  in_none : is_missing reason ≡ false → (16 ≤ at → at < fields_end bytes → (p code : ℕ) → IsInField bytes at p code → ⊥) → IsFieldOf bytes reason at 0

@@ -3,18 +3,20 @@
 
 ghost use Rattle.std.specs.Prelude.{◌≡◌, ◌<◌, ◌≤◌, ◌^◌, ℕ, List, IfSome, None, length, true};
 ghost use Rattle.dbus_texts.specs.Types.{TypeTree, TypeTrees, IsShaped, AreShaped, sig, sigs};
-ghost use Rattle.dbus_explain.specs.Names.{IsFieldName, IsNameOf, IsValueName, code_name};
+ghost use Rattle.dbus_explain.specs.Explained.{place_in};
+ghost use Rattle.dbus_explain.specs.Names.{IsFieldName, IsFieldOf, IsNameOf, IsValueName, code_name};
 ghost use Rattle.dbus_explain.specs.Names.{first_part, path_text, text_part};
 ghost use Rattle.dbus_explain.specs.Places.{AreBodyTypes, IsAmong, IsAmongNone, IsInField};
 ghost use Rattle.dbus_explain.specs.Places.{IsSignatureField, IsWholePath, body_begin, fields_end};
 ghost use Rattle.dbus_explain.specs.Places.{order_of};
 ghost use Rattle.dbus_explain.specs.declared.path.PathStep.{PathStep as StepTo};
 
+use crate::message::place_in;
 use crate::path::{PathStep, write_step};
 use crate::search::{Search, StatedText, ValuePlace};
 use dbus_show::{Draft, write_field_name, write_integer};
 use dbus_types::TextKind;
-use dbus_value_model::{Order, Reason, padding_length};
+use dbus_value_model::{Fault, Order, Reason, padding_length};
 
 /// Where the header fields begin.
 pub(crate) const FIELDS: usize = 16;
@@ -58,6 +60,29 @@ pub(crate) fn write_name<D: Draft>(
         None
     } else {
         write_value(draft, &search, body)
+    }
+}
+
+/// The code of the header field that a fault of a message is of: of the one that is missing, or of
+/// the one that its place is in; 0 if it is in none. Any bytes and any fault are safe. D-Bus
+/// Specification, "Header Fields".
+pub fn field_of(bytes: &[u8], fault: Fault) -> u8
+    ensures { IsFieldOf bytes.now fault.reason (place_in bytes.now fault) result }
+{
+    if let Reason::FieldMissing(code) = fault.reason {
+        return code;
+    }
+    let at = place_in(bytes, fault);
+    if at < FIELDS {
+        return 0;
+    }
+    if at >= end_of_fields(bytes) {
+        return 0;
+    }
+    let order = order_of(bytes);
+    match field_at(&Search { bytes, order, at }) {
+        Some((_, code)) => code,
+        None => 0,
     }
 }
 

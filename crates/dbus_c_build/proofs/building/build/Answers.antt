@@ -2,6 +2,8 @@ use Rattle.std.proofs.Common.{refl, subst, ◌∙◌, List, ℕ}
 use Rattle.std.proofs.lemmas.Result.{err_from_is_err_and}
 use Rattle.dbus_validate.specs.Validating.{IsValidated}
 use Rattle.dbus_header.specs.NoMessage.{BeginsWithNone, IsFaultAtEnd}
+use Rattle.dbus_explain.specs.Explained.{place_in}
+use Rattle.dbus_explain.specs.Names.{IsFieldOf}
 use Rattle.dbus_c_build.proofs.SameFields.{all_spelled}
 use Rattle.dbus_c_build.proofs.Refusing.{built_so, none_so, refused_so}
 use Rattle.dbus_c_build.proofs.building.build.Goals as goal
@@ -27,5 +29,6 @@ returns-in-None-clause-refused g c = λ fs kept.
     let out = c.in_ok-out.out.items in
     let spelled = c.in_ok-out.ensures.spelled fs kept in
     let none = subst (λ (l : List ℕ). BeginsWithNone given.limits l) c.as_slice.ensures.value (c.in-None.ensures.none refl) in
-    let fault = subst (λ (l : List ℕ). IsFaultAtEnd given.limits l c.fault_at_end.result) (c.as_slice-in-None.ensures.value ∙ spelled) c.fault_at_end.ensures in
-    (none_so given.limits fs p out spelled none, c.in_ok-out.ensures.bounded fs kept, fault)
+    let fault = subst (λ (l : List ℕ). IsFaultAtEnd given.limits l c.fault_at_end-fault.result) (c.as_slice-in-None.ensures.value ∙ spelled) c.fault_at_end-fault.ensures in
+    let field = subst (λ (l : List ℕ). IsFieldOf l c.fault_at_end-fault.result.reason (place_in l c.fault_at_end-fault.result) c.field_of.result) (c.as_slice-in-None-2.ensures.value ∙ spelled) c.field_of.ensures in
+    (none_so given.limits fs p out spelled none, c.in_ok-out.ensures.bounded fs kept, fault, field)
