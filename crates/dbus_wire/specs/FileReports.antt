@@ -14,8 +14,8 @@ use Rattle.dbus_capture.specs.declared.fault.CaptureReason.{CaptureReason}
 use Rattle.dbus_capture.specs.declared.fault.CaptureReason.TheVariants.{PacketCut}
 use Rattle.dbus_tool.specs.Handshaking.{Shows, StopsBy}
 use Rattle.dbus_wire.specs.declared.file_report.FileEnd.{FileEnd}
-use Rattle.dbus_wire.specs.declared.file_report.Form.{Form}
-use Rattle.dbus_wire.specs.declared.file_report.Form.TheVariants.{Text, Explained, Json}
+use Rattle.dbus_wire.specs.declared.file_report.Telling.{Telling}
+use Rattle.dbus_wire.specs.declared.file_report.Telling.TheVariants.{Text, Explained, Json}
 
 -- standard input is lines: the words ask for `encode`
 abbrev pub takes_lines : Result Asked UsageFault → Bool
@@ -57,19 +57,19 @@ abbrev pub has_cut : FileEnd → Bool
 has_cut end = nat_lt 0 end.cut || is_fault_of_cut end.fault
 
 -- the form that a command's settings ask for
-abbrev pub form_of : Settings → Form
+abbrev pub form_of : Settings → Telling
 form_of settings = if settings.as_json then Json else if settings.explains then Explained else Text
 
-abbrev pub is_json : Form → Bool
+abbrev pub is_json : Telling → Bool
 is_json Json = true
 is_json form = false
 
 -- what to do about packets that were cut, if that is to be said
-abbrev pub advice : FileEnd → Form → List ℕ
+abbrev pub advice : FileEnd → Telling → List ℕ
 advice end Explained = if has_cut end then codes "  busctl captures 4,096 bytes of a message, and all with --size=128M\n" else []
 advice end form = []
 
-abbrev pub file_text : FileEnd → Form → List ℕ
+abbrev pub file_text : FileEnd → Telling → List ℕ
 file_text end form =
     count_line end.cut (is_json form) (codes "cut_packets") (codes "cut packet")
     ++ (count_line end.others (is_json form) (codes "non_dbus_packets") (codes "non-D-Bus packet") ++ (fault_line end.fault (is_json form) ++ advice end form))
@@ -84,11 +84,11 @@ status_of end = if end.cut == 0 && is_none end.fault then status.Done else statu
 
 module _ {E : Type 0} (held : E → Option (List ℕ)) (failures : E → ℕ) (old new : E) where
   -- the lines were written, or a write failed; or memory ran out
-  abbrev pub TellsLines : FileEnd → Form → (before after : ExitStatus) → Type 0
+  abbrev pub TellsLines : FileEnd → Telling → (before after : ExitStatus) → Type 0
   TellsLines end form before after = Shows held failures old new before (file_text end form) after ⊎ StopsBy held failures old new cause.Memory after
 
   -- after a run that ended so: nothing if the run failed or if the command line is wrong
-  abbrev pub TellsAfter : (whole : Bool) → FileEnd → Form → (before after : ExitStatus) → Type 0
+  abbrev pub TellsAfter : (whole : Bool) → FileEnd → Telling → (before after : ExitStatus) → Type 0
   TellsAfter true end form before after = (new ≡ old) × (after ≡ before)
   TellsAfter false end form status.Done after = TellsLines end form (status_of end) after
   TellsAfter false end form status.Refused after = TellsLines end form status.Refused after
@@ -96,5 +96,5 @@ module _ {E : Type 0} (held : E → Option (List ℕ)) (failures : E → ℕ) (o
   TellsAfter false end form status.Failed after = (new ≡ old) × (after ≡ status.Failed)
 
   -- nor if all packets were read and there is no fault
-  abbrev pub TellsFile : FileEnd → Form → (before after : ExitStatus) → Type 0
+  abbrev pub TellsFile : FileEnd → Telling → (before after : ExitStatus) → Type 0
   TellsFile end form before after = TellsAfter (is_whole end) end form before after

@@ -11,7 +11,7 @@ use std::alloc::{AllocError, Global};
 
 // How it is said.
 #[derive(Clone, Copy)]
-pub(crate) enum Form {
+pub(crate) enum Telling {
     // In lines of text.
     Text,
     // In the same, with what to do about packets that were cut.
@@ -21,15 +21,15 @@ pub(crate) enum Form {
 }
 
 // The form that a command's settings ask for.
-pub(crate) fn form_of(settings: Settings) -> Form
+pub(crate) fn form_of(settings: Settings) -> Telling
     ensures { result ≡ form_of settings }
 {
     if settings.as_json {
-        Form::Json
+        Telling::Json
     } else if settings.explains {
-        Form::Explained
+        Telling::Explained
     } else {
-        Form::Text
+        Telling::Text
     }
 }
 
@@ -50,7 +50,7 @@ pub(crate) struct FileEnd {
 pub(crate) fn tell_file<E: Sink>(
     alloc: Global,
     end: FileEnd,
-    form: Form,
+    form: Telling,
     status: ExitStatus,
     second: &mut E,
 ) -> ExitStatus
@@ -90,7 +90,7 @@ fn status_of(end: FileEnd) -> ExitStatus
 fn tell_lines<E: Sink>(
     alloc: Global,
     end: FileEnd,
-    form: Form,
+    form: Telling,
     status: ExitStatus,
     second: &mut E,
 ) -> ExitStatus
@@ -103,10 +103,10 @@ fn tell_lines<E: Sink>(
 }
 
 // The lines: how many packets were passed over, the file's fault, and what to do.
-fn file_text(alloc: Global, end: FileEnd, form: Form) -> Result<String, AllocError>
+fn file_text(alloc: Global, end: FileEnd, form: Telling) -> Result<String, AllocError>
     ensures { IfOk result (λ text. string_bytes text ≡ file_text end form) }
 {
-    let as_json = matches!(form, Form::Json);
+    let as_json = matches!(form, Telling::Json);
     let cut = count_line(alloc, end.cut, as_json, "cut_packets", "cut packet")?;
     let others = count_line(
         alloc,
@@ -121,10 +121,10 @@ fn file_text(alloc: Global, end: FileEnd, form: Form) -> Result<String, AllocErr
 }
 
 // What to do about packets that were cut, if that is to be said.
-fn advice(end: FileEnd, form: Form) -> &'static str
+fn advice(end: FileEnd, form: Telling) -> &'static str
     ensures { result.now ≡ advice end form }
 {
-    if matches!(form, Form::Explained) && has_cut(end) {
+    if matches!(form, Telling::Explained) && has_cut(end) {
         "  busctl captures 4,096 bytes of a message, and all with --size=128M\n"
     } else {
         ""

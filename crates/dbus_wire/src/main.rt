@@ -28,7 +28,7 @@ mod file_report;
 use dbus_capture::Capture;
 use dbus_stream::{FromRead, FromWrite, Sink, Source, WrittenOnly, write_all};
 use dbus_tool::{Asked, ExitStatus, ReadAhead, Settings, UsageFault, command_of, run_asked};
-use file_report::{FileEnd, Form, form_of, tell_file};
+use file_report::{FileEnd, Telling, form_of, tell_file};
 use std::alloc::Global;
 use std::io::ErrorKind;
 use std::process::ExitCode;
@@ -71,7 +71,7 @@ fn run<R: Source + Drop, W: Sink, E: Sink>(
     }
     let (passes_cut, form) = match settings_of(&asked) {
         Some(settings) => (settings.keeps_going, form_of(settings)),
-        None => (false, Form::Text),
+        None => (false, Telling::Text),
     };
     let mut capture = Capture::new(input, passes_cut);
     let mut reader = ReadAhead::new(&mut capture);
