@@ -1,6 +1,6 @@
 -- How a run ends that neither explains refused messages nor passes over them. What it promises by
 -- parts is said of messages here.
-use Rattle.std.proofs.Common.{◌≡◌, ℕ, zero, ◌+◌, List, [], ◌∷◌, ◌++◌, Bool, false, true, None, Some, Option, length, drop, refl, sym, ap, ◌∙◌, subst, append-nil, append_assoc, inl, inr}
+use Rattle.std.proofs.Common.{◌≡◌, ◌≢◌, ℕ, zero, ◌+◌, List, [], ◌∷◌, ◌++◌, Bool, false, true, None, Some, Option, length, drop, refl, sym, ap, ◌∙◌, subst, append-nil, append_assoc, inl, inr}
 use Rattle.std.specs.FinSet.{empty}
 use Rattle.dbus_names.specs.NameStates.{known_first}
 use Rattle.std.proofs.Math.Path.{transport}
@@ -32,6 +32,7 @@ use Rattle.cli_run.specs.Output.{IsFirstOutput, IsFront, IsOutputOfAll, check_li
 use Rattle.cli_run.specs.Refusals.{IsFaultIn}
 use Rattle.cli_run.specs.Told.{GotFirst, GotSecond, TellsStop, first_of, second_of}
 use Rattle.cli_run.specs.Making.{FillsFrom}
+use Rattle.cli_run.specs.Needed.{IsReadFor, ReadsOnlyIf, ReadsToSee, WantToSee}
 use Rattle.cli_run.specs.Rendering.{Makes, first_state, is_full}
 use Rattle.cli_run.specs.RenderingLaws.{no_header, no_texts}
 use Rattle.cli_run.specs.VisitorLaws.{first_nothing, second_nothing, wrote_both, wrote_stopped}
@@ -219,8 +220,8 @@ module _ {R W E : Type 0} (r : Reading R) (w : Writing W) (e : Writing E) (asked
       output : IsFirstOutput packets command messages.items last_fault last_packet (all_of handed texts ++ last_of)
       output = record { messages = handed; placed = subst (λ (l : List Part). ArePlaced packets 1 0 l handed) messages.parts_are placed; texts = texts; each = made; joined = refl }
 
-      answers : (end : ExitStatus) → Wrote w.held w.failures w.old (all_of handed texts ++ last_of) w.new → TellsLine e line_of last_fault end → Answers r w e limits most command end
-      answers end first second = record {
+      answers : (end : ExitStatus) → (end ≢ status.Failed → ReadsOnlyIf (WantToSee limits h.parts h.rest) (IsReadFor r)) → Wrote w.held w.failures w.old (all_of handed texts ++ last_of) w.new → TellsLine e line_of last_fault end → Answers r w e limits most command end
+      answers end reads first second = record {
         bytes = h.covers.bytes;
         items = messages.items;
         rest = h.rest;
@@ -231,6 +232,7 @@ module _ {R W E : Type 0} (r : Reading R) (w : Writing W) (e : Writing E) (asked
         read_failed = h.read_failed;
         cut = cut;
         at_end = last_is.0;
+        reads = λ done. subst (λ (l : List Part). ReadsOnlyIf (WantToSee limits l h.rest) (IsReadFor r)) messages.parts_are (reads done);
         packet = last_packet;
         packet_is = packet_is;
         output = output;
@@ -257,12 +259,12 @@ module _ {R W E : Type 0} (r : Reading R) (w : Writing W) (e : Writing E) (asked
         write_caused = b.failed;
       }
 
-  ran : (end : ExitStatus) → GoesThrough (taken r) (plain asked) most (is_check command) (Filled asked command) (Writes w e (plain asked) command) end → Runs r w e limits most command end
-  ran end g =
+  ran : (end : ExitStatus) (g : GoesThrough (taken r) (plain asked) most (is_check command) (Filled asked command) (Writes w e (plain asked) command) end) → ReadsToSee (plain asked) g.fault g.through.parts g.through.rest (IsReadFor r) → Runs r w e limits most command end
+  ran end g reads =
       let h = g.through in
       let second = subst (λ (l : List ℕ). Wrote e.held e.failures e.old l e.new) (second_is h) g.came.second in
       let first = ap (λ (l : List ℕ). first_of (is_check command) l ((g.told ++ g.text) ++ closing h)) g.came.made.text_is ∙ first_is h g.messages g.placed g.came.made.texts g.came.made.made in
-      inl (answers h g.messages g.placed g.came.made.texts g.came.made.made end (subst (λ (l : List ℕ). Wrote w.held w.failures w.old l w.new) first g.came.first)
+      inl (answers h g.messages g.placed g.came.made.texts g.came.made.made end (λ _. reads (λ goes. absurd (false≢true goes))) (subst (λ (l : List ℕ). Wrote w.held w.failures w.old l w.new) first g.came.first)
       (inl (second, g.end_is ∙ (λ i. status_at (passed_is h i) (fault_is h i)))))
 
   -- ---- the run was given up, and before is the second writer before it was told why
@@ -406,7 +408,7 @@ module _ {R W E : Type 0} (r : Reading R) (w : Writing W) (e : Writing E) (asked
         = ap (λ l. s.told ++ l) more ∙ (sym (append_assoc s.told (due_of s).1 last) ∙ (sym (ap (λ b. second_of b ((s.told ++ (due_of s).1) ++ last)) is) ∙ second_is h)) in
         let out = sym (ap (λ b. first_of b (output_of (form_of command) false (plain asked).window s.messages s.came.made.texts) ((s.told ++ (due_of s).1) ++ last)) is) ∙ first_is h s.messages s.placed s.came.made.texts s.came.made.made in
         let half = subst (λ (l : List ℕ). Stopped e.held e.failures e.old l second.0 before) line second.1 in
-        inl (answers h s.messages s.placed s.came.made.texts s.came.made.made end (subst (λ (l : List ℕ). Wrote w.held w.failures w.old l w.new) out first)
+        inl (answers h s.messages s.placed s.came.made.texts s.came.made.made end (λ done. absurd (done failed)) (subst (λ (l : List ℕ). Wrote w.held w.failures w.old l w.new) out first)
         (inr (second.0, subst (λ (x : E). Stopped e.held e.failures e.old (line_of h) second.0 x) (sym tells) half, failed)))
 
     stopped : (stop : RunStop) (end : ExitStatus) → Within stop → end ≡ status.Failed → TellsStop e.held e.failures (is_check command) stop before e.new → Runs r w e limits most command end
@@ -429,7 +431,7 @@ plainly r w e settings no_more most command end runs =
     let by_limits = subst (λ (s : Settings). RunsWith r w e s most command end) (plain_is settings settings.as_json settings.explains settings.keeps_going settings.window.skip settings.window.limit no_more) runs in
     elim by_limits [
       | inl goes ↦ elim goes [
-        | inl g ↦ ran r w e settings most command end g.0
+        | inl g ↦ ran r w e settings most command end g.0 g.1
         | inr far ↦ absurd (never_filled settings command far.messages far.enough.1)
       ]
       | inr g ↦ stopped r w e settings most command g.before g.stop end g.within g.failed g.tells

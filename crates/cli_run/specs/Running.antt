@@ -1,6 +1,6 @@
 -- What a command does with what it reads, what it writes of it, and why it gives up. limits are
 -- those that each message keeps, and most is how many reads may be made.
-use Rattle.std.specs.Prelude.{◌⊎◌, ℕ, List, None, ◌≡◌, Option}
+use Rattle.std.specs.Prelude.{◌⊎◌, ℕ, List, None, ◌≡◌, ◌≢◌, Option}
 use Rattle.dbus_device.specs.Device.{Wrote, Stopped, one_more}
 use Rattle.dbus_device.specs.Packets.{Packets}
 use Rattle.dbus_value_model.specs.declared.limits.Limits.{Limits}
@@ -10,6 +10,7 @@ use Rattle.cli_run.specs.Going.{IsStopOf}
 use Rattle.cli_run.specs.Inputs.{ArePlaced, Placed, wholes}
 use Rattle.cli_run.specs.Output.{IsOutputOfAll, form_of, is_check, owners_known, IsFirstOutput, IsFront, second_output, status_of, whole_output}
 use Rattle.cli_run.specs.Making.{LeavesMade, RunsBy, WritesMade}
+use Rattle.cli_run.specs.Needed.{IsReadFor, ReadsOnlyIf, WantToSee}
 use Rattle.cli_run.specs.Refusals.{IsFaultIn}
 use Rattle.cli_run.specs.Rendering.{Makes, first_state, is_full}
 use Rattle.cli_report.specs.Devices.{Reading, Writing, taken, RisesAtMost}
@@ -70,6 +71,8 @@ module _ {R W E : Type 0} (r : Reading R) (w : Writing W) (e : Writing E) (limit
     pub cut : IsCut limits bytes items rest outcome
     -- without a fault that bytes show, all was read
     pub at_end : ((f : Fault) → outcome ≡ Refused f → ⊥) → IsAtEnd (r.left r.new)
+    -- and no more was read once that showed
+    pub reads : end ≢ status.Failed → ReadsOnlyIf (WantToSee limits (wholes items) rest) (IsReadFor r)
     pub packet : Option ℕ
     pub packet_is : IsFaultIn (r.packets r.old) limits (sizes items) rest (fault_at_end rest outcome) packet
     pub output : IsFirstOutput (r.packets r.old) command items (fault_at_end rest outcome) packet out
