@@ -1,4 +1,5 @@
 -- The reasons why a text of addresses is refused, as text: the names of this project's own list.
+-- D-Bus Specification, "Server Addresses".
 use Rattle.std.specs.Prelude.{ℕ, List, codes}
 use Rattle.dbus_address.specs.declared.fault.AddressReason.{AddressReason}
 use Rattle.dbus_address.specs.declared.fault.AddressReason.TheVariants.{TooLong, Transport, Key, Value, Escape, KeyTwice, Guid}

@@ -1,4 +1,4 @@
--- The client's state machine as contracts see it.
+-- The client's state machine as contracts see it. D-Bus Specification, "Authentication Protocol".
 use Rattle.std.specs.Prelude.{ℕ, Bool, true, false, nat_le, List, map, drop, length, Option, Some, None}
 use Rattle.dbus_auth.specs.Machines.{ClientMachine, ClientStep, ClientAction, Sends, Begins, Disconnects, ClientMechanism, External, Anonymous, unaccepted}
 use Rattle.dbus_auth_lines.specs.Lines.{client_command}

@@ -1,4 +1,5 @@
 -- An end as contracts see it, and what a call of it answered, without where its bytes lie in memory.
+-- D-Bus Specification, "Authentication Protocol".
 use Rattle.std.specs.Prelude.{ℕ, ◌≡◌, List}
 use Rattle.dbus_auth.specs.Ends.{EndState, EndOutcome}
 use Rattle.dbus_auth.specs.declared.bounds.Counted.{Counted}

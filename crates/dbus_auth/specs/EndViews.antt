@@ -1,4 +1,4 @@
--- The server's end as contracts see it.
+-- The server's end as contracts see it. D-Bus Specification, "Authentication Protocol".
 use Rattle.dbus_auth.specs.ServerViews.{server_machine}
 use Rattle.dbus_auth.specs.Ends.{ServerEndState, ClientEndState}
 use Rattle.dbus_auth.specs.EndStepViews.{end_state}

@@ -1,4 +1,4 @@
--- The server's state machine as contracts see it.
+-- The server's state machine as contracts see it. D-Bus Specification, "Authentication Protocol".
 use Rattle.std.specs.Prelude.{Bool, false}
 use Rattle.dbus_auth.specs.Machines.{ServerMachine, ServerStep, ServerAction, Sends, Begins, Disconnects}
 use Rattle.dbus_auth_lines.specs.Lines.{server_command}

@@ -1,4 +1,4 @@
--- The line cutter as contracts see it.
+-- The line cutter as contracts see it. D-Bus Specification, "Protocol Overview".
 use Rattle.std.specs.Prelude.{option_map}
 use Rattle.dbus_auth_lines.specs.CutterViews.{CutterState, fault_of}
 use Rattle.dbus_auth_lines.specs.declared.cutter.LineCutter.{LineCutter}

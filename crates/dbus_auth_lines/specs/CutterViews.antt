@@ -1,4 +1,5 @@
 -- What a scan of the code found, and how a call of the line cutter answers.
+-- D-Bus Specification, "Protocol Overview".
 use Rattle.std.specs.Prelude.{ℕ, ◌+◌, ◌≤◌, ◌≡◌, ◌==◌, ◌-◌, ◌++◌, Bool, List, [], ◌∷◌, length, take, Option, Some, None, Vec, Result, Err, MatchResult}
 use Rattle.dbus_auth_lines.specs.Cut.{Fault, TooLong, BadByte, Cut, Ends, Bad, More, Beginning, WholeLine, Faulty, Unfinished}
 use Rattle.dbus_auth_lines.specs.declared.scanning.BadLine.{BadLine}

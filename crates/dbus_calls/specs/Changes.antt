@@ -1,4 +1,4 @@
--- What the code says of the owner of a name.
+-- What the code says of the owner of a name. D-Bus Specification, "Message Bus Names".
 use Rattle.dbus_value_model.specs.Values.{ValueTrees, NoValues, MoreValues}
 use Rattle.dbus_match.specs.Matching.{Ownership}
 use Rattle.dbus_calls.specs.OwnerChanges.{Change}

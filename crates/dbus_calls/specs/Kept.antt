@@ -1,4 +1,5 @@
 -- Which calls wait, as they are kept: of each caller, by their serials.
+-- D-Bus Specification, "Message Types".
 use Rattle.std.specs.Prelude.{ℕ, nat_eq, List, [], ◌∷◌, Bool, false, Option, None, Some}
 use Rattle.std.specs.Ordering.{nat_cmp}
 use Rattle.std.specs.BTreeMap.{get_by_text, is_at}

@@ -1,4 +1,5 @@
 -- The calls that wait for a reply, at most one of each caller and serial, and how they change.
+-- D-Bus Specification, "Message Types".
 use Rattle.std.specs.Prelude.{ℕ, nat_eq, List, Option, None, Some, Bool, ◌&&◌, if◌then◌else◌}
 use Rattle.std.specs.Str.{bytes_eq}
 use Rattle.dbus_calls.specs.Answering.{may_answer}

@@ -1,4 +1,5 @@
 -- What a source that reads ahead keeps, and what was taken from it.
+-- D-Bus Specification, "Authentication Protocol".
 use Rattle.std.specs.Prelude.{ℕ, ◌≡◌, ◌≢◌, ◌⊎◌, ◌<◌, ◌≤◌, ◌+◌, ◌^◌, ◌%◌, ◌++◌, Bool, true, false, List, [], length, slice_range, Option, Result, Ok, Err}
 use Rattle.std.specs.Io.KnownBytes.{Consumes, IsAtEnd}
 use Rattle.dbus_device.specs.Device.{one_more, RisesBy}

@@ -1,4 +1,5 @@
 -- One law for the handshake: what is read of it is one thing for each input.
+-- D-Bus Specification, "Authentication Protocol".
 use Rattle.std.specs.Prelude.{◌≡◌, ℕ, List, ◌++◌, length, Option, Some, Result, Ok, Err, IfOk}
 use Rattle.std.specs.Io.KnownBytes.{prepend_known}
 use Rattle.dbus_device.specs.Packets.{Packets, PacketsAfter}

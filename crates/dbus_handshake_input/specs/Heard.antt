@@ -1,4 +1,5 @@
 -- What a visitor hears of the lines of a side, and what a call does that reads them to it.
+-- D-Bus Specification, "Authentication Protocol".
 use Rattle.std.specs.Prelude.{ℕ, ◌≡◌, ◌↔◌, ◌++◌, Bool, true, false, List, Vec, Option, Result, Ok, Err, ◌+◌, ◌⊎◌, [], ◌∷◌, length}
 use Rattle.std.specs.Io.KnownBytes.{IsAtEnd}
 use Rattle.std.specs.List.{AllByRecursion}

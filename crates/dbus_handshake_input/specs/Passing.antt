@@ -1,4 +1,4 @@
--- What a call does that reads a handshake.
+-- What a call does that reads a handshake. D-Bus Specification, "Authentication Protocol".
 use Rattle.std.specs.Prelude.{ℕ, ◌≡◌, ◌≢◌, ◌≤◌, ◌+◌, ◌⊎◌, ◌++◌, Bool, true, false, List, [], ◌∷◌, length, Option, Result, Ok, Err}
 use Rattle.std.specs.Io.KnownBytes.{IsAtEnd}
 use Rattle.dbus_device.specs.Packets.{Packets}

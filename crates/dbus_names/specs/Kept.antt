@@ -1,4 +1,4 @@
--- What a table of names keeps.
+-- What a table of names keeps. D-Bus Specification, "Message Bus Names".
 use Rattle.std.specs.Prelude.{ℕ, List, Option, option_map, string_bytes}
 use Rattle.std.specs.BTreeMap.{get_by_text}
 use Rattle.dbus_rule_set.specs.Owners.{OwnerSet}

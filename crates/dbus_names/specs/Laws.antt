@@ -1,5 +1,5 @@
 -- The calls that a table of names keeps are the open ones whose replies tell who has a name, and the
--- names by which connections are known are wanted.
+-- names by which connections are known are wanted. D-Bus Specification, "Message Bus Names".
 use Rattle.std.specs.Prelude.{◌≡◌, ◌↔◌, ℕ, List, Bool, true, Some}
 use Rattle.dbus_message_model.specs.Messages.{MessageTree}
 use Rattle.dbus_rule_set.specs.Owners.{OwnerSet}

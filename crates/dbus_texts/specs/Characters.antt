@@ -1,5 +1,6 @@
 -- Trusted by the headline.
 -- The characters of names and signatures that are no letters, by their codes in ASCII.
+-- D-Bus Specification, "Valid Names".
 use Rattle.std.specs.Prelude.{ℕ}
 
 abbrev pub open_parenthesis : ℕ

@@ -1,5 +1,5 @@
 -- Trusted by the headline.
--- The tree that a `SigType` stands for.
+-- The tree that a `SigType` stands for. D-Bus Specification, "Type System".
 use Rattle.std.specs.Prelude.{List, map}
 use Rattle.dbus_texts.specs.Types.{TypeTree, TypeTrees, NumberType, TextType, VariantType, ArrayType, StructType, EntryType, BYTE, BOOLEAN, INT16, UINT16, INT32, UINT32, INT64, UINT64, DOUBLE, UNIX_FD, STRING, OBJECT_PATH, SIGNATURE, type_trees}
 use Rattle.dbus_types.specs.declared.sig_type.SigType.{SigType}

@@ -1,4 +1,4 @@
--- A watch as contracts see it.
+-- A watch as contracts see it. D-Bus Specification, "Authentication Protocol".
 use Rattle.std.specs.Prelude.{◌≡◌, Result}
 use Rattle.dbus_watch.specs.Watches.{WatchState, Passed}
 use Rattle.dbus_watch.specs.declared.watch.Passage.{Passage}
