@@ -1,11 +1,12 @@
 #!/usr/bin/env python3
-"""definitions.py [--check]: writes into docs/DEFINITIONS.md the table of the definitions that the headline rests on, and how many lines these have.
+"""definitions.py [--check]: writes into docs/DEFINITIONS.md the list of the definitions that the headline rests on, and how many lines these have.
 
 They are the files of specs/ that `use` lines reach from START, in an order in which each file stands after those that it
 uses. Each begins with MARK, and no other file does; what a file defines is the rest of its first comment.
 """
 
 import re
+import textwrap
 
 from crate_list import ROOT, text_of
 from pages import write_or_check
@@ -15,7 +16,7 @@ START = "dbus_stream/specs/Headline.antt"
 MARK = "-- Trusted by the headline.\n"
 USE = re.compile(r"^\s*(?:pub )?use Rattle\.(\w+)\.specs\.(\w+)", re.M)
 NO_LINE = re.compile(r"\s*(--.*|(pub )?use .*)?$")
-TABLE = re.compile(r"(\| file \| what it defines \|\n\| --- \| --- \|\n)(?:\|.*\n)*")
+LIST = re.compile(r"(?:\* `\w+/specs/\w+[.]antt`: .*\n(?:  .*\n)*)+")
 COUNT = re.compile(r"these \d+ files, about [\d,]+ lines")
 
 
@@ -32,7 +33,8 @@ def row(file):
     """What the first sentence of the file says."""
     comment = re.match(r"(?:--.*\n)+", text_of(file).removeprefix(MARK))[0]
     said = re.sub(r"\n?-- ?", " ", comment).strip()
-    return f"| `{file}` | {re.match(r'.*?(?=[.]( |$)|$)', said)[0]} |\n"
+    first = re.match(r".*?(?=[.]( |$)|$)", said)[0]
+    return textwrap.fill(f"* `{file}`: {first}", 100, subsequent_indent="  ", break_on_hyphens=False) + "\n"
 
 
 if __name__ == "__main__":
@@ -40,7 +42,7 @@ if __name__ == "__main__":
     reach(START, found)
     # Imports, comments and blank lines are none.
     lines = sum(not NO_LINE.match(line) for it in found for line in text_of(it).splitlines())
-    page = TABLE.sub(lambda it: it[1] + "".join(row(file) for file in found), PAGE.read_text())
+    page = LIST.sub("".join(row(file) for file in found), PAGE.read_text())
     page = COUNT.sub(f"these {len(found)} files, about {round(lines, -1)} lines", page)
     named = {it: it.relative_to(ROOT / "crates").as_posix() for it in (ROOT / "crates").glob("*/specs/*.antt")}
     bare = {path: text_of(name).removeprefix(MARK) for path, name in named.items()}

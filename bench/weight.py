@@ -47,7 +47,7 @@ WHOLE = (re.compile(r".+", re.S),)
 GENERATED = {
     **dict.fromkeys(("docs/PEERS.md", "docs/SPECIFICATION.md", "docs/WORKED-EXAMPLES.md"), WHOLE),
     "docs/ARCHITECTURE.md": (graph.PICTURE,),
-    "docs/DEFINITIONS.md": (definitions.TABLE,),
+    "docs/DEFINITIONS.md": (definitions.LIST,),
     **{file: [it for name, it, _ in reasons.tables() if name == file] for file in reasons.LISTS},
 }
 # The texts in other files.

@@ -1,14 +1,15 @@
 #!/usr/bin/env python3
-"""worked_examples.py [--check]: writes into docs/WORKED-EXAMPLES.md the tables of worked examples, out of the proofs that compute them.
+"""worked_examples.py [--check]: writes into docs/WORKED-EXAMPLES.md the worked examples, out of the proofs that compute them.
 
 An example is a comment, with the section of the D-Bus Specification in brackets at its end, and then bytes beside what
 the definitions say of them.
 """
 
 import re
+import textwrap
 
 from crate_list import ROOT, text_of
-from pages import table, write_or_check
+from pages import write_or_check
 
 PAGE = ROOT / "docs" / "WORKED-EXAMPLES.md"
 VALUES = "dbus_value_model/proofs/WorkedExamples.antt"
@@ -23,7 +24,7 @@ def hexadecimal(text):
     """The bytes of a list; of a long one the first and the last."""
     items = [f"{int(it):02x}" for it in re.findall(r"\d+", text)]
     shown = items if len(items) <= MOST else items[: MOST - 16] + [".."] + items[-15:]
-    return f"`{' '.join(shown)}`" if shown else "none"
+    return " ".join(shown)
 
 
 def answer(text):
@@ -41,11 +42,18 @@ def examples(file):
     return EXAMPLE.findall(joined)
 
 
+def told(said, shown, section, answered=None):
+    """An example: what the bytes are and what is answered, and then the bytes, indented."""
+    line = f"* {said} ({section})" + (f": {answered}" if answered else "")
+    filled = textwrap.fill(line, 100, subsequent_indent="  ", break_on_hyphens=False)
+    code = textwrap.indent(textwrap.fill(shown, 72), " " * 6)
+    return "\n".join((filled, "", code, "") if shown else (filled, ""))
+
+
 if __name__ == "__main__":
-    value_rows = ((said, hexadecimal(BYTES.search(pair)[1]), section) for said, section, pair in examples(VALUES))
-    values = table(("value", "its bytes", "section"), value_rows)
+    values = (told(said, hexadecimal(BYTES.search(pair)[1]), section) for said, section, pair in examples(VALUES))
     bytes_of = ((BYTES.match(pair), *it, pair) for *it, pair in examples(MESSAGES))
-    message_rows = ((said, hexadecimal(it[1]), answer(pair[it.end() + 2 :]), section) for it, said, section, pair in bytes_of)
-    messages = table(("what", "bytes", "what the definitions say", "section"), message_rows)
-    page = f"{PAGE.read_text().partition(chr(10) + '| value')[0]}\n{values}\n{messages}"
+    messages = (told(said, hexadecimal(it[1]), section, answer(pair[it.end() + 2 :])) for it, said, section, pair in bytes_of)
+    head = PAGE.read_text().partition("\n## ")[0]
+    page = "\n".join((head, "## Values\n", *values, "## Messages\n", *messages)).rstrip("\n") + "\n"
     write_or_check({PAGE: page}, "docs/WORKED-EXAMPLES.md is not current: make definitions writes it")
