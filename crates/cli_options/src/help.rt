@@ -73,7 +73,7 @@ pub(crate) const VERSION: &str = "0.1.0";
 
 /// What the program does.
 pub(crate) const PROGRAM: &str =
-    "Reads D-Bus messages from standard input, and shows, checks, counts, swaps or filters them";
+    "Lists, shows, checks, counts, filters, swaps and encodes D-Bus messages, and lists their calls";
 
 /// What follows the program's help.
 pub(crate) const PROGRAM_MORE: &str = more!(
