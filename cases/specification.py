@@ -120,9 +120,11 @@ def is_said(crate, file, name, *words):
 
 @functools.cache
 def peers_of(name):
-    """The peers that docs/PEERS.md has for a reason, or in the rows of a case."""
-    head, found = [], []
-    for line in PEERS.read_text().splitlines():
+    """The peers that docs/PEERS.md has for a reason, or in the rows and items of a case."""
+    head, text = [], PEERS.read_text()
+    items = re.findall(r"^\* \*\*([\w-]+)\*\*(, .*?)(?=\n\* |\n\n|\Z)", text, re.M | re.S)
+    found = [peer for peer, cases in items if f"`{name}`" in cases]
+    for line in text.splitlines():
         cells = [it.strip() for it in line.strip("|").split("|")] if line.startswith("|") else []
         head = head if cells and head else cells
         if cells and cells[0] == name:

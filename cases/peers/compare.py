@@ -8,6 +8,7 @@ import pathlib
 import re
 import subprocess
 import sys
+import textwrap
 
 HERE = pathlib.Path(__file__).resolve().parent
 ROOT = HERE.parent.parent
@@ -103,6 +104,16 @@ def names_of(found):
     return ", ".join(names[:MOST_NAMES]) + (f" and {len(names) - MOST_NAMES} more" if len(names) > MOST_NAMES else "")
 
 
+def filled(line):
+    """A line of a list, in lines of at most 100 columns."""
+    return textwrap.fill(f"* {line}", 100, subsequent_indent="  ", break_long_words=False, break_on_hyphens=False)
+
+
+def item(name, words, found):
+    """What a peer says of so many inputs, and the cases that they are of."""
+    return filled(f"**{name}**, {len(found)} inputs: {words} ({names_of(found)})")
+
+
 def reason_of(it):
     _, place, reason = it.wanted.split(" ")
     reason = reason.partition("(")[0]
@@ -128,8 +139,8 @@ def missed_rows(results, is_chosen):
         for it in missed(told):
             if it.is_choice == is_chosen:
                 words = it.found.partition(":")[2].strip() or it.found
-                found[re.sub(r"\d+", "N", words).replace("|", "\\|")].append(it)
-        yield from (f"| {name} | {words} | {len(its)} | {names_of(its)} |" for words, its in found.items())
+                found[re.sub(r"\d+", "N", words)].append(it)
+        yield from (item(name, words, its) for words, its in found.items())
 
 
 def lost_rows(results, is_chosen):
@@ -137,7 +148,7 @@ def lost_rows(results, is_chosen):
     for name, told in results.items():
         found = [it for it in told if it.kind == "again" and it.is_choice == is_chosen]
         if found:
-            yield f"| {name} | encodes another body | {len(found)} | {names_of(found)} |"
+            yield item(name, "encodes another body", found)
 
 
 def said_by_buses(file):
@@ -204,7 +215,7 @@ def dialogue_rows(side, commands):
             found[differs].append(f"`{name}`")
         found.pop(None, None)
         for (was, now), names in found.items():
-            yield f"| {peer} | {was} | {now} | {', '.join(names)} |"
+            yield filled(f"**{peer}**, {now} in place of {was}: {', '.join(names)}")
 
 
 def servers():
