@@ -31,8 +31,10 @@ function answer(files, rule) {
     return null;
   }
   Array.from(rows.adding());
-  rows.learning().forEach((it) => rows.learn(it));
-  const whole = rows.ordered().map((it) => rows.at(it)).filter((it) => it.isWhole);
+  for (const row of rows.learning()) {
+    rows.learn(row);
+  }
+  const whole = [...rows.ordered()].map((it) => rows.at(it)).filter((it) => it.isWhole);
   const tied = whole.map((it) => leavesOfLine(it.reader.items(it.offset, it.length), rows.time(it.index) !== null));
   return { ...answersOf(rows), tied, matching: rule === undefined ? null : matching(rows, whole, rule) };
 }

@@ -1,7 +1,7 @@
 // Draws what the module reads, and filters it. What comes from the input is written as text, never as HTML.
 
 const ROW_HEIGHT = 26, NARROW_ROW_HEIGHT = 48;
-const MOST_LIST_HEIGHT = 8e6, TURN_MILLISECONDS = 80, SLICE = 4_194_304;
+const MOST_LIST_HEIGHT = 8e6, TURN_MILLISECONDS = 80, SLICE = 1_048_576;
 const HEX_BYTES = 16, HEX_LINES = 48;
 // Of a longer line of JSON no value is tied to its bytes.
 const MOST_TIED = 200_000;

@@ -193,7 +193,7 @@ class Reader {
     const given = [...this.input(offset, length), this.toldAt(EVENT)];
     const bytes = this.writtenBytes((...room) => this.calls.dbus_page_event(...given, ...room));
     // Names are of ASCII, but for what no bus sends.
-    const text = String.fromCharCode(...bytes), isPlain = !/[\u0080-\u00ff]/.test(text);
+    const text = DECODER.decode(bytes), isPlain = text.length === bytes.length;
     const word = (at) => this.view.getUint32(this.told + EVENT + 4 * at, true);
     let end = 0;
     const [caller, sender, name, unique, forCaller, forOwner, byName] = [4, 6, 8, 10, 12, 14, 16].map((it) => {

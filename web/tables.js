@@ -47,8 +47,8 @@ class Names {
 
   take(event, row) {
     const { says, name, unique } = event;
-    const call = { says, name, destination: () => (says === ASKED_BY_NAME ? name : BUS) };
-    const asked = this.calls.take(event, says >= ASKED_FOR_CALLER ? call : null);
+    const asks = says >= ASKED_FOR_CALLER, destination = asks && (() => (says === ASKED_BY_NAME ? name : BUS));
+    const asked = this.calls.take(event, asks ? { says, name, destination } : null);
     if (event.event === DEPARTURE) {
       this.first.delete(event.caller);
       this.note(event.caller, row);
@@ -143,21 +143,24 @@ class Rows {
   }
 
   // The rows in the order in which to learn of them: the client's again at last, since it answers the server's calls.
-  learning = () => [...Array(this.count).keys(), ...Array(this.readers[1] ? this.first : 0).keys()];
+  *learning() {
+    yield* Array(this.count).keys();
+    yield* Array(this.readers[1] ? this.first : 0).keys();
+  }
 
   // Learns of calls and names from a row. All before were learned from.
   learn = (row) => {
-    const { reader, offset, length, type, isWhole } = this.at(row);
-    if (!isWhole) {
+    if (this.kinds[row] >= REFUSED_ROW) {
       return;
     }
-    const event = reader.event(offset, length), isReply = event.event === REPLY;
+    const event = this.readerOf(row).event(this.offsets[row], this.lengths[row]), isReply = event.event === REPLY;
     if (this.readers[1]) {
       // The client need not say who it is.
       event.waiter = isReply === (row < this.first) ? event.caller : ARROWS[0];
     }
-    this.kinds[row] = isReply && type === ERROR_TYPE ? ERROR_ROW : event.event;
-    const call = this.calls.take(event, { row, destination: () => this.said(row).destination });
+    this.kinds[row] = isReply && this.typeOf(row) === ERROR_TYPE ? ERROR_ROW : event.event;
+    const kept = event.event === CALL ? { row, destination: () => this.said(row).destination } : null;
+    const call = this.calls.take(event, kept);
     if (call) {
       this.pairs[row] = call.row + 1;
       this.pairs[call.row] = row + 1;
@@ -170,20 +173,29 @@ class Rows {
 
   // The rows in the order of the list: what the server sent is as early as may be, behind what it answers.
   ordered() {
+    if (!this.readers[1]) {
+      return Array(this.count).keys();
+    }
     let behind = 0;
     const place = (row) => (row < this.first ? row + 1 : (behind = Math.max(behind, this.answered(row))));
     const rows = [...Array(this.count).keys()], places = rows.map(place);
     return rows.sort((a, b) => places[a] - places[b] || a - b);
   }
 
+  readerOf = (row) => this.readers[row < this.first ? 0 : 1];
+
+  // The second byte of a message is its type.
+  typeOf(row) {
+    const reader = this.readerOf(row);
+    return reader.bytes[reader.data + this.offsets[row] + 1];
+  }
+
   at(row) {
-    const kind = this.kinds[row], offset = this.offsets[row], side = row < this.first ? 0 : 1;
-    const reader = this.readers[side];
+    const kind = this.kinds[row], offset = this.offsets[row], side = row < this.first ? 0 : 1, reader = this.readerOf(row);
     const number = row + 1 - (side && this.first), label = this.readers[1] ? `${ARROWS[side]} ${number}` : number;
     return {
       index: row, number, label, reader, offset, length: this.lengths[row], pair: this.pairs[row] - 1,
-      // The second byte of a message is its type.
-      type: reader.bytes[reader.data + offset + 1], isCall: kind === CALL, isUnwanted: kind === CALL_WITHOUT_REPLY,
+      type: this.typeOf(row), isCall: kind === CALL, isUnwanted: kind === CALL_WITHOUT_REPLY,
       isWhole: kind < REFUSED_ROW, isPartial: kind === PARTIAL_ROW, isError: kind === ERROR_ROW,
     };
   }

@@ -75,7 +75,7 @@ ANSWERS = """(rows) => {
       answers.refused.push([number, offset, at, reader.reason(offset), reader.explain(number, offset)]);
     }
   }
-  return { ...answers, ordered: rows.ordered() };
+  return { ...answers, ordered: [...rows.ordered()] };
 }"""
 # What a page is asked of an input, with a rule and a word: what is shown of the first row and the last, after a mark went
 # through some values; the numbers of the messages that it shows by both, what is saved of them, and their command; those of
