@@ -109,7 +109,7 @@ WRITE_NOTICES = mkdir -p out && packaging/notices.py $(NOTICES) dbus_wire dbus_c
 KIT = $(shell sed -n 's/.*Proved with\*\* \([^ ,]*\),.*/\1/p' README.md)
 
 COMPLETIONS = bash-completion/completions/dbus-wire fish/vendor_completions.d/dbus-wire.fish
-INSTALLED = $(addprefix $(BINDIR)/,dbus-wire dbus-record) $(MANDIR)/man1/dbus-wire.1 $(MANDIR)/man1/dbus-record.1 $(addprefix $(DATADIR)/,$(COMPLETIONS)) $(ZSHDIR)/_dbus-wire \
+INSTALLED = $(addprefix $(BINDIR)/,dbus-wire dbus-record dbus-join) $(addprefix $(MANDIR)/man1/,dbus-wire.1 dbus-record.1 dbus-join.1) $(addprefix $(DATADIR)/,$(COMPLETIONS)) $(ZSHDIR)/_dbus-wire \
 	$(addprefix $(DOCDIR)/,LICENSE NOTICES PROVED.md) $(MANDIR)/man3/dbus_wire*.3 \
 	$(INCLUDEDIR)/dbus_wire.h $(addprefix $(LIBDIR)/,libdbus_wire.a libdbus_wire.so $(SONAME) libdbus_wire.so.$(VERSION)) \
 	$(LIBDIR)/pkgconfig/dbus-wire.pc $(LIBDIR)/cmake/dbus-wire/*.cmake
@@ -297,8 +297,8 @@ install: install-program install-c
 install-program: install-notices
 	@test -x $(PROGRAM) || { echo "there is no $(PROGRAM): run make build" >&2; exit 1; }
 	install -D -m 755 $(PROGRAM) $(DESTDIR)$(BINDIR)/dbus-wire
-	install -D -m 755 packaging/dbus-record $(DESTDIR)$(BINDIR)/dbus-record
-	install -D -m 644 -t $(DESTDIR)$(MANDIR)/man1 man/dbus-wire.1 man/dbus-record.1
+	install -D -m 755 -t $(DESTDIR)$(BINDIR) packaging/dbus-record packaging/dbus-join
+	install -D -m 644 -t $(DESTDIR)$(MANDIR)/man1 man/dbus-wire.1 man/dbus-record.1 man/dbus-join.1
 	install -D -m 644 completions/dbus-wire.bash $(DESTDIR)$(DATADIR)/bash-completion/completions/dbus-wire
 	install -D -m 644 completions/_dbus-wire $(DESTDIR)$(ZSHDIR)/_dbus-wire
 	install -D -m 644 completions/dbus-wire.fish $(DESTDIR)$(DATADIR)/fish/vendor_completions.d/dbus-wire.fish

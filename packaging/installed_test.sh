@@ -66,7 +66,7 @@ done
 must "dbus-wire $(pkg-config --modversion dbus-wire)" dbus-wire --version
 dbus-wire json < one | grep -q '"a b"'
 must "PropertiesChanged" /usr/bin/python3 -c 'import dbus_wire; print(next(dbus_wire.messages(open("one", "rb").read())).member)'
-for page in dbus-wire.1 dbus-record.1 dbus_wire.3 dbus_wire_check.3 dbus_wire_reason_text.3; do
+for page in dbus-wire.1 dbus-record.1 dbus-join.1 dbus_wire.3 dbus_wire_check.3 dbus_wire_reason_text.3; do
     MANPATH=$root/usr/share/man man --warnings "${page#*.}" "${page%.*}" 2> said > page
     test -s page && test ! -s said
 done
@@ -74,6 +74,12 @@ if command -v dbus-run-session > /dev/null; then
     # It ends when it is told to.
     dbus-run-session -- timeout 2 dbus-record recorded || true
     dbus-wire list --width 0 < recorded | grep -q 'GetNameOwner("org.freedesktop.DBus")'
+fi
+if command -v jq > /dev/null; then
+    (printf '\0AUTH ANONYMOUS\r\nBEGIN\r\n'; dbus-wire encode <<< '{"type":"method_call","serial":2,"path":"/a","member":"C"}') > sent
+    (printf 'OK %032d\r\n' 0; dbus-wire encode <<< '{"type":"method_return","serial":9,"reply_serial":2,"destination":":1.7"}') > got
+    dbus-join sent got | dbus-wire calls > said
+    must "1" grep -c ':1.7 > .* reply #2' said
 fi
 env PATH="/usr/bin:/bin" "$here/../completions/test.py" "$root/"
 echo "the packages do what they should"
