@@ -6,10 +6,9 @@ uses. Each begins with MARK, and no other file does; what a file defines is the 
 """
 
 import re
-import textwrap
 
 from crate_list import ROOT, text_of
-from pages import write_or_check
+from pages import item, write_or_check
 
 PAGE = ROOT / "docs" / "DEFINITIONS.md"
 START = "dbus_stream/specs/Headline.antt"
@@ -33,8 +32,7 @@ def row(file):
     """What the first sentence of the file says."""
     comment = re.match(r"(?:--.*\n)+", text_of(file).removeprefix(MARK))[0]
     said = re.sub(r"\n?-- ?", " ", comment).strip()
-    first = re.match(r".*?(?=[.]( |$)|$)", said)[0]
-    return textwrap.fill(f"* `{file}`: {first}", 100, subsequent_indent="  ", break_on_hyphens=False) + "\n"
+    return item(f"`{file}`: {re.match(r'.*?(?=[.]( |$)|$)', said)[0]}") + "\n"
 
 
 if __name__ == "__main__":

@@ -2,11 +2,12 @@
 is not current."""
 
 import sys
+import textwrap
 
 
-def table(columns, rows):
-    """A table of a page, of these columns and rows of cells."""
-    return "".join(f"| {' | '.join(it)} |\n" for it in (columns, ["---"] * len(columns), *rows))
+def item(line):
+    """An item of a list of a page, in lines of at most 100 columns."""
+    return textwrap.fill(f"* {line}", 100, subsequent_indent="  ", break_long_words=False, break_on_hyphens=False)
 
 
 def write_or_check(texts, what, faults=()):

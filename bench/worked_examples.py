@@ -1,5 +1,5 @@
 #!/usr/bin/env python3
-"""worked_examples.py [--check]: writes into docs/WORKED-EXAMPLES.md the worked examples, out of the proofs that compute them.
+"""worked_examples.py [--check]: writes docs/WORKED-EXAMPLES.md out of the proofs that compute the examples.
 
 An example is a comment, with the section of the D-Bus Specification in brackets at its end, and then bytes beside what
 the definitions say of them.
@@ -9,7 +9,7 @@ import re
 import textwrap
 
 from crate_list import ROOT, text_of
-from pages import write_or_check
+from pages import item, write_or_check
 
 PAGE = ROOT / "docs" / "WORKED-EXAMPLES.md"
 VALUES = "dbus_value_model/proofs/WorkedExamples.antt"
@@ -44,16 +44,16 @@ def examples(file):
 
 def told(said, shown, section, answered=None):
     """An example: what the bytes are and what is answered, and then the bytes, indented."""
-    line = f"* {said} ({section})" + (f": {answered}" if answered else "")
-    filled = textwrap.fill(line, 100, subsequent_indent="  ", break_on_hyphens=False)
+    line = item(f"{said} ({section})" + (f": {answered}" if answered else ""))
     code = textwrap.indent(textwrap.fill(shown, 72), " " * 6)
-    return "\n".join((filled, "", code, "") if shown else (filled, ""))
+    return "\n".join((line, "", code, "") if shown else (line, ""))
 
 
 if __name__ == "__main__":
     values = (told(said, hexadecimal(BYTES.search(pair)[1]), section) for said, section, pair in examples(VALUES))
     bytes_of = ((BYTES.match(pair), *it, pair) for *it, pair in examples(MESSAGES))
-    messages = (told(said, hexadecimal(it[1]), section, answer(pair[it.end() + 2 :])) for it, said, section, pair in bytes_of)
+    given = ((said, hexadecimal(it[1]), section, answer(pair[it.end() + 2 :])) for it, said, section, pair in bytes_of)
+    messages = (told(*it) for it in given)
     head = PAGE.read_text().partition("\n## ")[0]
     page = "\n".join((head, "## Values\n", *values, "## Messages\n", *messages)).rstrip("\n") + "\n"
     write_or_check({PAGE: page}, "docs/WORKED-EXAMPLES.md is not current: make definitions writes it")

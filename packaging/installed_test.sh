@@ -76,8 +76,10 @@ if command -v dbus-run-session > /dev/null; then
     dbus-wire list --width 0 < recorded | grep -q 'GetNameOwner("org.freedesktop.DBus")'
 fi
 if command -v jq > /dev/null; then
-    (printf '\0AUTH ANONYMOUS\r\nBEGIN\r\n'; dbus-wire encode <<< '{"type":"method_call","serial":2,"path":"/a","member":"C"}') > sent
-    (printf 'OK %032d\r\n' 0; dbus-wire encode <<< '{"type":"method_return","serial":9,"reply_serial":2,"destination":":1.7"}') > got
+    printf '\0AUTH ANONYMOUS\r\nBEGIN\r\n' > sent
+    dbus-wire encode <<< '{"type":"method_call","serial":2,"path":"/a","member":"C"}' >> sent
+    printf 'OK %032d\r\n' 0 > got
+    dbus-wire encode <<< '{"type":"method_return","serial":9,"reply_serial":2,"destination":":1.7"}' >> got
     dbus-join sent got | dbus-wire calls > said
     must "1" grep -c ':1.7 > .* reply #2' said
 fi

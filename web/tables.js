@@ -191,7 +191,8 @@ class Rows {
   }
 
   at(row) {
-    const kind = this.kinds[row], offset = this.offsets[row], side = row < this.first ? 0 : 1, reader = this.readerOf(row);
+    const kind = this.kinds[row], offset = this.offsets[row], reader = this.readerOf(row);
+    const side = row < this.first ? 0 : 1;
     const number = row + 1 - (side && this.first), label = this.readers[1] ? `${ARROWS[side]} ${number}` : number;
     return {
       index: row, number, label, reader, offset, length: this.lengths[row], pair: this.pairs[row] - 1,

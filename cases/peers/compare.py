@@ -8,14 +8,14 @@ import pathlib
 import re
 import subprocess
 import sys
-import textwrap
 
 HERE = pathlib.Path(__file__).resolve().parent
 ROOT = HERE.parent.parent
 sys.dont_write_bytecode = True
-sys.path.insert(0, str(HERE.parent))
+sys.path[:0] = [str(HERE.parent), str(ROOT / "bench")]
 
 from dialogues import told as told_of  # noqa: E402
+from pages import item  # noqa: E402
 from read_cases import DATA, read_bytes, read_cases  # noqa: E402
 from rewritten import MESSAGES, VALUES, rewritten_of  # noqa: E402
 from run import UNKNOWN, answers_of, asked_of  # noqa: E402
@@ -104,14 +104,9 @@ def names_of(found):
     return ", ".join(names[:MOST_NAMES]) + (f" and {len(names) - MOST_NAMES} more" if len(names) > MOST_NAMES else "")
 
 
-def filled(line):
-    """A line of a list, in lines of at most 100 columns."""
-    return textwrap.fill(f"* {line}", 100, subsequent_indent="  ", break_long_words=False, break_on_hyphens=False)
-
-
-def item(name, words, found):
+def said_of(name, words, found):
     """What a peer says of so many inputs, and the cases that they are of."""
-    return filled(f"**{name}**, {len(found)} inputs: {words} ({names_of(found)})")
+    return item(f"**{name}**, {len(found)} inputs: {words} ({names_of(found)})")
 
 
 def reason_of(it):
@@ -140,7 +135,7 @@ def missed_rows(results, is_chosen):
             if it.is_choice == is_chosen:
                 words = it.found.partition(":")[2].strip() or it.found
                 found[re.sub(r"\d+", "N", words)].append(it)
-        yield from (item(name, words, its) for words, its in found.items())
+        yield from (said_of(name, words, its) for words, its in found.items())
 
 
 def lost_rows(results, is_chosen):
@@ -148,7 +143,7 @@ def lost_rows(results, is_chosen):
     for name, told in results.items():
         found = [it for it in told if it.kind == "again" and it.is_choice == is_chosen]
         if found:
-            yield item(name, "encodes another body", found)
+            yield said_of(name, "encodes another body", found)
 
 
 def said_by_buses(file):
@@ -215,7 +210,7 @@ def dialogue_rows(side, commands):
             found[differs].append(f"`{name}`")
         found.pop(None, None)
         for (was, now), names in found.items():
-            yield filled(f"**{peer}**, {now} in place of {was}: {', '.join(names)}")
+            yield item(f"**{peer}**, {now} in place of {was}: {', '.join(names)}")
 
 
 def servers():
