@@ -3,12 +3,12 @@ use Rattle.std.proofs.Math.Path.{transport}
 use Rattle.std.proofs.lemmas.List.{take_all}
 use Rattle.dbus_check.specs.Checks.{Stands}
 use Rattle.dbus_header.specs.MessageOutcomes.{IsPartial, IsRefused, IsWhole}
-use Rattle.dbus_header.proofs.OutcomeLaws.{nothing_partial}
+use Rattle.dbus_value_model.specs.declared.limits.Limits.{Limits}
 use Rattle.cli_report.proofs.FaultFronts.{front_here, front_partial, front_whole, piece_here}
 use Rattle.cli_report.proofs.fault_front.fault_front.Goals as goal
 
 pub loop-at-init : goal.loop-at-init
-loop-at-init c = record { stands = c.within-checker.ensures.stands; limits_are = c.within-checker.ensures.limits; unshown = nothing_partial c.args.limits }
+loop-at-init c = record { stands = c.take_before_fault-near.ensures.stands; limits_are = c.take_before_fault-near.ensures.limits ∙ c.within-checker.ensures.limits; unshown = subst (λ (l : Limits). IsPartial l (take c.take_before_fault-near.result c.args.bytes.now)) c.within-checker.ensures.limits c.take_before_fault-near.ensures.unshown }
 
 pub returns-in-Done : goal.returns-in-Done
 returns-in-Done c =
