@@ -7,6 +7,9 @@ changed, what follows is read from another place on, or not at all. Then the mes
 
 With `--resync` a change of any byte loses that message at most, unless the length that it changes leads to a later message; and 5 bytes that are cut out
 or 7 that are put in lose two at most. Both are counted and told, of some bytes of each message, or of each byte if the word `all` follows PROGRAM.
+
+With `--limit` too it ends after the last message that is wanted, though its input stays open:
+behind a damaged one once twice the window is there.
 """
 
 import concurrent.futures as futures
@@ -100,6 +103,27 @@ def one_resync(program, messages, number, step):
     return len(changes), sum(changes), len(moves), sum(moves)
 
 
+def is_ended(program, wanted, data, *words):
+    """Whether `filter` writes what is wanted and ends, while its input stays open."""
+    pipes = {"stdin": subprocess.PIPE, "stdout": subprocess.PIPE, "stderr": subprocess.DEVNULL}
+    with subprocess.Popen([program, "filter", "--resync", *words, ""], **pipes) as ran:
+        try:
+            ran.stdin.write(data)
+            ran.stdin.flush()
+            ran.wait(20)
+        except subprocess.TimeoutExpired:
+            ran.kill()
+        return ran.returncode in (0, 1) and ran.stdout.read() == wanted
+
+
+def count_waiting(program):
+    """How many runs wait for more than the last message wanted, or twice the window."""
+    message = messages_of((SAMPLES / "session.dbus").read_bytes())[0]
+    damaged, window = changed(message, 3, 0xFF), 2 * len(message)
+    inputs = (message + damaged, ()), (damaged + 3 * message, (f"--resync-window={window}",))
+    return sum(not is_ended(program, message, data, "--limit=1", *words) for data, words in inputs)
+
+
 def one_sample(program, name, step):
     messages = messages_of((SAMPLES / name).read_bytes())
     with futures.ThreadPoolExecutor(os.cpu_count()) as pool:
@@ -118,7 +142,10 @@ def one_sample(program, name, step):
 def main():
     program = sys.argv[1]
     step = 1 if sys.argv[2:] == ["all"] else STEP
-    sys.exit(sum(one_sample(program, it, step) for it in ("session.dbus", "big-endian.dbus", "calls.dbus")) > 0)
+    waiting = count_waiting(program)
+    print(f"with --resync and --limit {waiting} of 2 runs wait though all is there that they need")
+    names = ("session.dbus", "big-endian.dbus", "calls.dbus")
+    sys.exit(waiting + sum(one_sample(program, it, step) for it in names) > 0)
 
 
 main()
