@@ -341,13 +341,10 @@ def head(members, number):
 
 
 def known_fields(whole):
-    for name, at, node in whole.value:
-        if name in PLAIN:
-            continue
-        if name not in NAMES:
-            refuse(at, "MemberUnknown")
-        code, kind = NAMES[name]
-        yield code, node, integer(node, kind) if kind == "u" else text(node, kind)
+    for name, _, node in whole.value:
+        if name in NAMES:
+            code, kind = NAMES[name]
+            yield code, node, integer(node, kind) if kind == "u" else text(node, kind)
 
 
 def other_fields(node, end):
@@ -377,15 +374,9 @@ def other_fields(node, end):
 
 
 def message(whole, number):
-    if whole.kind != "{":
-        refuse(whole.at, "Form")
-    members = {"": whole} | {name: node for name, _, node in whole.value if name}
+    members = {"": whole} | strange(whole, PLAIN | NAMES.keys())
     kind, serial = head(members, number)
     known = list(known_fields(whole))
-    names = [it.name for it in whole.value]
-    for i, it in enumerate(whole.value):
-        if it.name in names[:i]:
-            refuse(it.at, "MemberTwice")
     others = list(other_fields(members["fields"], len(known))) if "fields" in members else []
     types = types_of(next((found for code, _, found in known if code == 8), ""))
     if "body" in members:

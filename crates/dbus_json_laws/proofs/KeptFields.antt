@@ -3,7 +3,7 @@
 use Rattle.std.proofs.Common.{◌≡◌, ℕ, zero, suc, ◌+◌, ◌-◌, ◌*◌, ◌^◌, ◌<◌, ◌≤◌, Bool, true, false, cond, not, List, [], ◌∷◌, ◌++◌, length, map, filter, inl, inr, codes, decimal, refl, sym, ap, subst, arith}
 use Rattle.std.proofs.lemmas.Bool.{cases_Bool}
 use Rattle.std.specs.List.{AllZip, AllByRecursion, enumerate_from}
-use Rattle.json.specs.Json.{Json, Items, no_items, item, Members, no_members, member}
+use Rattle.json.specs.Json.{Json, Members, no_members, member}
 use Rattle.json.specs.Json as json
 use Rattle.json.specs.Strict.{keys}
 use Rattle.json.specs.Tree.{depth, items_depth, members_depth}
@@ -99,8 +99,7 @@ known_kept integers room most (p ∷ ps) (t ∷ texts) others rest held are read
       reads = (subst (λ (s : List ℕ). MemberReads s (field_name p.1.code) k.j) (sym are.0.is) (member_reads (field_name p.1.code) are.0.value k.j name.inside k.reads), later.reads);
       has = λ name j h. inr (later.has name j h);
     }
-known_kept integers room most [] (t ∷ texts) others rest held are reads deep more none = absurd are
-known_kept integers room most (p ∷ ps) [] others rest held are reads deep more none = absurd are
+known_kept integers room most ps texts others rest held are reads deep more none = absurd are
 
 -- ---- other fields
 
@@ -165,5 +164,4 @@ others_kept integers room is_before (p ∷ ps) (t ∷ texts) held are =
     let one = other_kept integers room (is_before p.0) p t held.0 are.0 in
     let later = others_kept integers room is_before ps texts held.1 are.1 in
     record { js = one.j ∷ later.js; spelled = (one.spelled, later.spelled); nests = omega (arith, one.nests, later.nests); reads = (one.reads, later.reads) }
-others_kept integers room is_before [] (t ∷ texts) held are = absurd are
-others_kept integers room is_before (p ∷ ps) [] held are = absurd are
+others_kept integers room is_before ps texts held are = absurd are

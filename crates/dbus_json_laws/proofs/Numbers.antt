@@ -266,17 +266,11 @@ module _ (k : NumberCode) (other : k ≡ DOUBLE → ⊥) (m n : ℕ) (h : values
 pub number_same : (integers : Integers) (k : NumberCode) (m n : ℕ) → values.IsNumber k m → values.IsNumber k n → (s t : List ℕ) → IsNumber integers k m s → IsNumber integers k n t → (x y : ℕ) (r q : List ℕ) → Ends x → Ends y
     → s ++ x ∷ r ≡ t ++ y ∷ q → (m ≡ n) × (x ∷ r ≡ y ∷ q)
 number_same integers DOUBLE m n h k s t a b x y r q ends ended e = double_same m n h k s t a b x y r q ends ended e
-number_same integers BYTE m n h k s t a b x y r q ends ended e = decimal_same BYTE (λ d. absurd (cc)) m n h k s t a b x y r q ends ended e
-number_same integers BOOLEAN m n h k s t a b x y r q ends ended e = decimal_same BOOLEAN (λ d. absurd (cc)) m n h k s t a b x y r q ends ended e
-number_same integers INT16 m n h k s t a b x y r q ends ended e = decimal_same INT16 (λ d. absurd (cc)) m n h k s t a b x y r q ends ended e
-number_same integers UINT16 m n h k s t a b x y r q ends ended e = decimal_same UINT16 (λ d. absurd (cc)) m n h k s t a b x y r q ends ended e
-number_same integers INT32 m n h k s t a b x y r q ends ended e = decimal_same INT32 (λ d. absurd (cc)) m n h k s t a b x y r q ends ended e
-number_same integers UINT32 m n h k s t a b x y r q ends ended e = decimal_same UINT32 (λ d. absurd (cc)) m n h k s t a b x y r q ends ended e
 number_same integers INT64 m n h k s t a b x y r q ends ended e =
     wide_same INT64 (λ d. absurd (cc)) m n h k x y r q ends ended (may_be_number integers (wide_size INT64 m)) (may_be_number integers (wide_size INT64 n)) (ap (λ (u : List ℕ). u ++ x ∷ r) (sym a) ∙ e ∙ ap (λ (u : List ℕ). u ++ y ∷ q) b)
 number_same integers UINT64 m n h k s t a b x y r q ends ended e =
     wide_same UINT64 (λ d. absurd (cc)) m n h k x y r q ends ended (may_be_number integers (wide_size UINT64 m)) (may_be_number integers (wide_size UINT64 n)) (ap (λ (u : List ℕ). u ++ x ∷ r) (sym a) ∙ e ∙ ap (λ (u : List ℕ). u ++ y ∷ q) b)
-number_same integers UNIX_FD m n h k s t a b x y r q ends ended e = decimal_same UNIX_FD (λ d. absurd (cc)) m n h k s t a b x y r q ends ended e
+number_same integers c m n h k s t a b x y r q ends ended e = decimal_same c (λ d. absurd (cc)) m n h k s t a b x y r q ends ended e
 
 -- ---- the first byte of a number
 
@@ -344,12 +338,6 @@ wide_first k other n h false text is = subst NoBracket (sym is) (λ e. omega (ar
 
 pub number_first : (integers : Integers) (k : NumberCode) (n : ℕ) → values.IsNumber k n → (text : List ℕ) → IsNumber integers k n text → NoBracket text
 number_first integers DOUBLE n h text is = double_first n text is
-number_first integers BYTE n h text is = decimal_first BYTE (λ d. absurd (cc)) n h text is
-number_first integers BOOLEAN n h text is = decimal_first BOOLEAN (λ d. absurd (cc)) n h text is
-number_first integers INT16 n h text is = decimal_first INT16 (λ d. absurd (cc)) n h text is
-number_first integers UINT16 n h text is = decimal_first UINT16 (λ d. absurd (cc)) n h text is
-number_first integers INT32 n h text is = decimal_first INT32 (λ d. absurd (cc)) n h text is
-number_first integers UINT32 n h text is = decimal_first UINT32 (λ d. absurd (cc)) n h text is
 number_first integers INT64 n h text is = wide_first INT64 (λ d. absurd (cc)) n h (may_be_number integers (wide_size INT64 n)) text is
 number_first integers UINT64 n h text is = wide_first UINT64 (λ d. absurd (cc)) n h (may_be_number integers (wide_size UINT64 n)) text is
-number_first integers UNIX_FD n h text is = decimal_first UNIX_FD (λ d. absurd (cc)) n h text is
+number_first integers c n h text is = decimal_first c (λ d. absurd (cc)) n h text is

@@ -7,7 +7,6 @@ use Rattle.hex.proofs.HexLemmas.{decode_of-encode_lower}
 use Rattle.dbus_value_model.specs.declared.order.Order.TheVariants.{Big}
 use Rattle.dbus_value_model.specs.Bytes.{num}
 use Rattle.dbus_value_model.specs.ByteNumbers.{IsBytes}
-use Rattle.dbus_json.specs.declared.integers.Integers.{Integers}
 use Rattle.dbus_json_laws.specs.Reading.{IsOneValueEach, IsDoubleKept}
 use Rattle.dbus_json_reader.proofs.OneValue.{one_value}
 use Rattle.dbus_json_reader.proofs.NumberTexts.{num_bytes}

@@ -172,22 +172,19 @@ AllRead (t ∷ ts) no_items = ⊥
 items_utf8 : (ts : List (List ℕ)) (js : Items) → AllRead ts js → AllUtf8 ts
 items_utf8 [] no_items h = tt
 items_utf8 (t ∷ ts) (item j js) h = (h.0.utf8, items_utf8 ts js h.1)
-items_utf8 [] (item j js) h = absurd h
-items_utf8 (t ∷ ts) no_items h = absurd h
+items_utf8 ts js h = absurd h
 
 more_items : (ts : List (List ℕ)) (js : Items) → AllRead ts js → (r : List ℕ) → punctuate after_value (lex between (more ts ++ 93 ∷ r)) ≡ items_tokens js ++ punctuate after_value (lex between r)
 unfolding lex punctuate
 more_items [] no_items h r = refl
 more_items (t ∷ ts) (item j js) h r = one_more after_comma refl t (json_tokens j) h.0 ts (93 ∷ r) (at_bracket r) (items_tokens js) (punctuate after_value (lex between r)) (more_items ts js h.1 r)
-more_items [] (item j js) h r = absurd h
-more_items (t ∷ ts) no_items h r = absurd h
+more_items ts js h r = absurd h
 
 all_items : (ts : List (List ℕ)) (js : Items) → AllRead ts js → (r : List ℕ) → punctuate fresh (lex between (listed ts ++ 93 ∷ r)) ≡ items_tokens js ++ punctuate after_value (lex between r)
 unfolding lex punctuate
 all_items [] no_items h r = refl
 all_items (t ∷ ts) (item j js) h r = one_more fresh refl t (json_tokens j) h.0 ts (93 ∷ r) (at_bracket r) (items_tokens js) (punctuate after_value (lex between r)) (more_items ts js h.1 r)
-all_items [] (item j js) h r = absurd h
-all_items (t ∷ ts) no_items h r = absurd h
+all_items ts js h r = absurd h
 
 open_array : (t : List ℕ) (p : Place) → may_begin p ≡ true → punctuate p (lex between (91 ∷ t)) ≡ tokens.begin_array ∷ punctuate fresh (lex between t)
 unfolding lex punctuate
@@ -213,24 +210,21 @@ AllNamed (t ∷ ts) no_members = ⊥
 members_utf8 : (ts : List (List ℕ)) (ms : Members) → AllNamed ts ms → AllUtf8 ts
 members_utf8 [] no_members h = tt
 members_utf8 (t ∷ ts) (member name j ms) h = (h.0.utf8, members_utf8 ts ms h.1)
-members_utf8 [] (member name j ms) h = absurd h
-members_utf8 (t ∷ ts) no_members h = absurd h
+members_utf8 ts ms h = absurd h
 
 more_members : (ts : List (List ℕ)) (ms : Members) → AllNamed ts ms → (r : List ℕ) → punctuate after_value (lex between (more ts ++ 125 ∷ r)) ≡ members_tokens ms ++ punctuate after_value (lex between r)
 unfolding lex punctuate
 more_members [] no_members h r = refl
 more_members (t ∷ ts) (member name j ms) h r =
     one_more after_comma refl t (tokens.key name ∷ json_tokens j) h.0 ts (125 ∷ r) (at_brace r) (members_tokens ms) (punctuate after_value (lex between r)) (more_members ts ms h.1 r)
-more_members [] (member name j ms) h r = absurd h
-more_members (t ∷ ts) no_members h r = absurd h
+more_members ts ms h r = absurd h
 
 all_members : (ts : List (List ℕ)) (ms : Members) → AllNamed ts ms → (r : List ℕ) → punctuate fresh (lex between (listed ts ++ 125 ∷ r)) ≡ members_tokens ms ++ punctuate after_value (lex between r)
 unfolding lex punctuate
 all_members [] no_members h r = refl
 all_members (t ∷ ts) (member name j ms) h r =
     one_more fresh refl t (tokens.key name ∷ json_tokens j) h.0 ts (125 ∷ r) (at_brace r) (members_tokens ms) (punctuate after_value (lex between r)) (more_members ts ms h.1 r)
-all_members [] (member name j ms) h r = absurd h
-all_members (t ∷ ts) no_members h r = absurd h
+all_members ts ms h r = absurd h
 
 open_object : (t : List ℕ) (p : Place) → may_begin p ≡ true → punctuate p (lex between (123 ∷ t)) ≡ tokens.begin_object ∷ punctuate fresh (lex between t)
 unfolding lex punctuate

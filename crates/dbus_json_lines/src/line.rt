@@ -109,10 +109,10 @@ fn in_line(line: &[u8], why: Unread) -> NoMessage
 /// `Refused` exactly if it spells no message that is valid within the limits, with the reason and
 /// its place: `NotUtf8` at the first byte that no UTF-8 has there, `NotJson` at the token that no
 /// JSON value has there, or at the end, and any other at the token that shows it. Of several it is
-/// the first of: the object's form; `order`, `type`, `flags`, `serial`; the known fields in the
-/// order of their members; a name twice; `fields`; `body`; and the rules of whole messages in the
-/// order of `dbus_message::BuildFault`. `Memory` if an allocation failed. D-Bus Specification, "Message
-/// Format".
+/// the first of: the object's form; the names of its members, in their order; `order`, `type`,
+/// `flags`, `serial`; the known fields in the order of their members; `fields`; `body`; and the
+/// rules of whole messages in the order of `dbus_message::BuildFault`. `Memory` if an allocation
+/// failed. D-Bus Specification, "Message Format".
 ///
 /// ```rust
 /// use dbus_json::Integers;

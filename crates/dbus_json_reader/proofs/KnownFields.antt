@@ -1,8 +1,10 @@
 -- Known header fields that are read one after another.
-use Rattle.std.proofs.Common.{◌≡◌, ℕ, Bool, true, false, not, cond, List, [], ◌∷◌, ◌++◌, IsTrue, refl, sym, ap, ◌∙◌, subst, append_assoc}
+use Rattle.std.proofs.Common.{◌≡◌, ℕ, Bool, true, false, not, ◌||◌, cond, inl, inr, List, [], ◌∷◌, ◌++◌, IsTrue, refl, sym, ap, ◌∙◌, subst, append_assoc}
+use Rattle.std.proofs.lemmas.Bool.{and_from, cases_Bool}
 use Rattle.std.proofs.lemmas.List.{append-nil, map-append}
-use Rattle.std.specs.List.{AllZip}
+use Rattle.std.specs.List.{AllZip, list_all}
 use Rattle.json.specs.Json.{Json, Members, no_members, member}
+use Rattle.json.specs.Strict.{keys}
 use Rattle.dbus_value_model.specs.PackedBytes.{keeps_bytes, keep_bytes}
 use Rattle.dbus_value_model.proofs.Formed.{keep_push}
 use Rattle.dbus_message_model.specs.Messages.{FieldTree}
@@ -11,8 +13,9 @@ use Rattle.dbus_message_model.specs.PartsViews.{field_tree, field_trees}
 use Rattle.dbus_message_model.specs.declared.header_field.HeaderField.{HeaderField}
 use Rattle.dbus_json.specs.declared.integers.Integers.{Integers}
 use Rattle.dbus_json_reader.specs.JsonMessages.{is_among, plain_names, field_members}
+use Rattle.dbus_json_reader.specs.JsonNames.{known_names, message_names}
 use Rattle.dbus_json_reader.specs.JsonParts.{IsKnownField, AreAllKnown}
-use Rattle.dbus_json_reader.proofs.KnownNames.{one_known}
+use Rattle.dbus_json_reader.proofs.KnownNames.{of_message, one_known, some_field}
 
 abbrev pub AreRead : (integers : Integers) → ℕ → List FieldTree → Members → Type 0
 AreRead integers depth fs ms = AllZip (IsKnownField integers depth) fs (field_members ms)
@@ -36,18 +39,30 @@ first_of : (integers : Integers) (depth : ℕ) (fs : List FieldTree) (m : List �
 first_of integers depth [] m ms h = absurd h
 first_of integers depth (f ∷ fs) m ms h = record { f = f; one = h.0; gs = fs; rest = h.1 }
 
+plain_same : (name : List ℕ) (j : Json) (rest : Members) → is_among plain_names name ≡ true → field_members (member name j rest) ≡ field_members rest
+plain_same name j rest e = ap (λ (b : Bool). cond (not b) ((name, j) ∷ field_members rest) (field_members rest)) e
+
+field_next : (name : List ℕ) (j : Json) (rest : Members) → is_among plain_names name ≡ false → field_members (member name j rest) ≡ (name, j) ∷ field_members rest
+field_next name j rest e = ap (λ (b : Bool). cond (not b) ((name, j) ∷ field_members rest) (field_members rest)) e
+
+-- each member has a name that a message's may have
+pub all_named : (integers : Integers) (depth : ℕ) (fs : List FieldTree) (ms : Members) → AreRead integers depth fs ms → list_all (is_among message_names) (keys ms) ≡ true
+all_named integers depth fs no_members h = refl
+all_named integers depth fs (member name j ms) h =
+    elim (cases_Bool (is_among plain_names name)) [
+      | inl e ↦ and_from _ _ (of_message name ∙ ap (λ (b : Bool). b || is_among known_names name) e) (all_named integers depth fs ms (subst (λ (l : List (List ℕ × Json)). AllZip (IsKnownField integers depth) fs l) (plain_same name j ms e) h))
+      | inr e ↦ (
+          let p = first_of integers depth fs (name, j) (field_members ms) (subst (λ (l : List (List ℕ × Json)). AllZip (IsKnownField integers depth) fs l) (field_next name j ms e) h) in
+          and_from _ _ (of_message name ∙ ap (λ (b : Bool). b || is_among known_names name) e ∙ some_field name p.f.code p.one.known p.one.named) (all_named integers depth p.gs ms p.rest)
+          )
+    ]
+
 module _ (integers : Integers) (ms : Members) (name : List ℕ) (j : Json) (rest : Members) (fs : List FieldTree) (going : AreGoing integers ms (member name j rest) fs) where
-  plain_same : is_among plain_names name ≡ true → field_members (member name j rest) ≡ field_members rest
-  plain_same e = ap (λ (b : Bool). cond (not b) ((name, j) ∷ field_members rest) (field_members rest)) e
-
-  field_next : is_among plain_names name ≡ false → field_members (member name j rest) ≡ (name, j) ∷ field_members rest
-  field_next e = ap (λ (b : Bool). cond (not b) ((name, j) ∷ field_members rest) (field_members rest)) e
-
   -- a member that is no header field
   pub passes : is_among plain_names name ≡ true → AreGoing integers ms rest fs
   passes e = record {
-    fits = λ depth gs h. going.fits depth gs (subst (λ (l : List (List ℕ × Json)). AllZip (IsKnownField integers depth) gs l) (sym (plain_same e)) h);
-    only = λ depth gs h. let r = going.only depth gs h in (r.0, subst (λ (l : List (List ℕ × Json)). AllZip (IsKnownField integers depth) r.0 l) (plain_same e) r.1);
+    fits = λ depth gs h. going.fits depth gs (subst (λ (l : List (List ℕ × Json)). AllZip (IsKnownField integers depth) gs l) (sym (plain_same name j rest e)) h);
+    only = λ depth gs h. let r = going.only depth gs h in (r.0, subst (λ (l : List (List ℕ × Json)). AllZip (IsKnownField integers depth) r.0 l) (plain_same name j rest e) r.1);
   }
 
   -- a member that is
@@ -55,17 +70,17 @@ module _ (integers : Integers) (ms : Members) (name : List ℕ) (j : Json) (rest
   goes_on e f all is one = subst (AreGoing integers ms rest) (sym is) (record {
     fits = λ depth gs h.
         let both : AllZip (IsKnownField integers depth) (f ∷ gs) ((name, j) ∷ field_members rest) = (one depth, h) in
-        subst (λ (l : List FieldTree). AreRead integers depth l ms) (sym (append_assoc fs (f ∷ []) gs)) (going.fits depth (f ∷ gs) (subst (λ (l : List (List ℕ × Json)). AllZip (IsKnownField integers depth) (f ∷ gs) l) (sym (field_next e)) both));
+        subst (λ (l : List FieldTree). AreRead integers depth l ms) (sym (append_assoc fs (f ∷ []) gs)) (going.fits depth (f ∷ gs) (subst (λ (l : List (List ℕ × Json)). AllZip (IsKnownField integers depth) (f ∷ gs) l) (sym (field_next name j rest e)) both));
     only = λ depth gs h.
         let r = going.only depth gs h in
-        let p = first_of integers depth r.0 (name, j) (field_members rest) (subst (λ (l : List (List ℕ × Json)). AllZip (IsKnownField integers depth) r.0 l) (field_next e) r.1) in
+        let p = first_of integers depth r.0 (name, j) (field_members rest) (subst (λ (l : List (List ℕ × Json)). AllZip (IsKnownField integers depth) r.0 l) (field_next name j rest e) r.1) in
         (p.gs, p.rest);
   })
 
   pub stops : is_among plain_names name ≡ false → ((depth : ℕ) (f : FieldTree) → IsKnownField integers depth f (name, j) → ⊥) → (depth : ℕ) (gs : List FieldTree) → AreRead integers depth gs ms → ⊥
   stops e none depth gs h =
       let r = going.only depth gs h in
-      let p = first_of integers depth r.0 (name, j) (field_members rest) (subst (λ (l : List (List ℕ × Json)). AllZip (IsKnownField integers depth) r.0 l) (field_next e) r.1) in
+      let p = first_of integers depth r.0 (name, j) (field_members rest) (subst (λ (l : List (List ℕ × Json)). AllZip (IsKnownField integers depth) r.0 l) (field_next name j rest e) r.1) in
       none depth p.f p.one
 
 pub ends : (integers : Integers) (ms rest : Members) (fs : List FieldTree) → AreGoing integers ms rest fs → rest ≡ no_members → (depth : ℕ) → AreRead integers depth fs ms

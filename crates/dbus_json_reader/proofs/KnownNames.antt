@@ -1,16 +1,22 @@
 -- The codes and the names of the known header fields.
-use Rattle.std.proofs.Common.{◌≡◌, ℕ, ◌+◌, ◌*◌, ◌<◌, ◌≤◌, Bool, true, false, cond, eqb, List, get_or, inl, inr, refl, sym, ap, ◌∙◌, subst, arith}
-use Rattle.std.proofs.lemmas.Bool.{cases_eq, ne_eqb, eq-eqb, eqb-true, true≢false}
+use Rattle.std.proofs.Common.{◌≡◌, ℕ, ◌+◌, ◌*◌, ◌<◌, ◌≤◌, Bool, true, false, ◌||◌, cond, eqb, List, [], ◌∷◌, map, get_or, refl, sym, ap, ◌∙◌, subst, arith}
+use Rattle.std.proofs.lemmas.Bool.{and_parts, ne_eqb, eq-eqb, eqb-true, true≢false}
+use Rattle.std.proofs.lemmas.List.Folds.{list_any-append}
 use Rattle.std.proofs.lemmas.Option.{same_Some}
+use Rattle.std.specs.List.{list_all}
+use Rattle.std.specs.Str.{bytes_eq}
 use Rattle.json.specs.Json.{Json}
 use Rattle.dbus_texts.specs.Types.{TypeTree}
-use Rattle.dbus_message_model.specs.Messages.{FieldTree, want, is_known}
+use Rattle.dbus_message_model.specs.Messages.{FieldTree, Want, want, is_known, is_particular}
 use Rattle.dbus_value_model.specs.Values.{ValueTree}
 use Rattle.dbus_build.specs.BuildFaults.{type_wanted}
 use Rattle.dbus_show.specs.ShownMessages.{field_name}
 use Rattle.dbus_json.specs.declared.integers.Integers.{Integers}
+use Rattle.dbus_json_reader.specs.JsonMessages.{is_among, plain_names}
+use Rattle.dbus_json_reader.specs.JsonNames.{known_names, message_names}
 use Rattle.dbus_json_reader.specs.JsonParts.{IsKnownField}
 use Rattle.dbus_json_reader.specs.JsonValues.{IsRead}
+use Rattle.dbus_json_reader.proofs.MemberNames.{next_or, other_bytes}
 use Rattle.dbus_json_reader.proofs.OneValue.{one_value}
 
 pub unknown : (code : ℕ) → (code ≡ 1 → ⊥) → (code ≡ 2 → ⊥) → (code ≡ 3 → ⊥) → (code ≡ 4 → ⊥) → (code ≡ 5 → ⊥) → (code ≡ 6 → ⊥) → (code ≡ 7 → ⊥) → (code ≡ 8 → ⊥) → (code ≡ 9 → ⊥) → is_known code ≡ false
@@ -24,23 +30,23 @@ code_in t =
 
 -- it is one of the nine, and its name is of it
 abbrev Named : ℕ → List ℕ → Type 0
-Named code name = (1 ≤ code) × (code < 10) × (code_in name ≡ code)
+Named code name = (1 ≤ code) × (code < 10) × (code_in name ≡ code) × (is_among known_names name ≡ true)
 
-named_if : (b : Bool) (code k : ℕ) (name rest : List ℕ) → 1 ≤ k → k < 10 → eqb code k ≡ b → code_in name ≡ k → ((code ≡ k → ⊥) → Named code rest) → Named code (cond b name rest)
-named_if true code k name rest low high e is other = let same = eqb-true code k e in (omega (arith, same, low), omega (arith, same, high), is ∙ sym same)
-named_if false code k name rest low high e is other = other (λ same. true≢false (sym (eq-eqb code k same) ∙ e))
+named_if : (b : Bool) (code k : ℕ) (name rest : List ℕ) → 1 ≤ k → k < 10 → eqb code k ≡ b → code_in name ≡ k → is_among known_names name ≡ true → ((code ≡ k → ⊥) → Named code rest) → Named code (cond b name rest)
+named_if true code k name rest low high e is among other = let same = eqb-true code k e in (omega (arith, same, low), omega (arith, same, high), is ∙ sym same, among)
+named_if false code k name rest low high e is among other = other (λ same. true≢false (sym (eq-eqb code k same) ∙ e))
 
 pub named : (code : ℕ) → is_known code ≡ true → Named code (field_name code)
 named code known =
-    named_if (eqb code 1) code 1 _ _ (omega arith) (omega arith) refl refl (λ a.
-    named_if (eqb code 2) code 2 _ _ (omega arith) (omega arith) refl refl (λ b.
-    named_if (eqb code 3) code 3 _ _ (omega arith) (omega arith) refl refl (λ c.
-    named_if (eqb code 4) code 4 _ _ (omega arith) (omega arith) refl refl (λ d.
-    named_if (eqb code 5) code 5 _ _ (omega arith) (omega arith) refl refl (λ e.
-    named_if (eqb code 6) code 6 _ _ (omega arith) (omega arith) refl refl (λ f.
-    named_if (eqb code 7) code 7 _ _ (omega arith) (omega arith) refl refl (λ g.
-    named_if (eqb code 8) code 8 _ _ (omega arith) (omega arith) refl refl (λ h.
-    named_if (eqb code 9) code 9 _ _ (omega arith) (omega arith) refl refl (λ i.
+    named_if (eqb code 1) code 1 _ _ (omega arith) (omega arith) refl refl refl (λ a.
+    named_if (eqb code 2) code 2 _ _ (omega arith) (omega arith) refl refl refl (λ b.
+    named_if (eqb code 3) code 3 _ _ (omega arith) (omega arith) refl refl refl (λ c.
+    named_if (eqb code 4) code 4 _ _ (omega arith) (omega arith) refl refl refl (λ d.
+    named_if (eqb code 5) code 5 _ _ (omega arith) (omega arith) refl refl refl (λ e.
+    named_if (eqb code 6) code 6 _ _ (omega arith) (omega arith) refl refl refl (λ f.
+    named_if (eqb code 7) code 7 _ _ (omega arith) (omega arith) refl refl refl (λ g.
+    named_if (eqb code 8) code 8 _ _ (omega arith) (omega arith) refl refl refl (λ h.
+    named_if (eqb code 9) code 9 _ _ (omega arith) (omega arith) refl refl refl (λ i.
     absurd (true≢false (sym known ∙ unknown code a b c d e f g h i)))))))))))
 
 pub known_codes : (code : ℕ) → is_known code ≡ true → (1 ≤ code) × (code < 10)
@@ -50,41 +56,40 @@ pub one_code : (c d : ℕ) → is_known c ≡ true → is_known d ≡ true → f
 one_code c d known other e = sym (named c known).2 ∙ ap code_in e ∙ (named d other).2
 
 -- the first codes are known
+known_if : (b : Bool) (code k : ℕ) (w rest : Want) → eqb code k ≡ b → is_particular w ≡ true → ((code ≡ k → ⊥) → is_particular rest ≡ true) → is_particular (cond b w rest) ≡ true
+known_if true code k w rest e is other = is
+known_if false code k w rest e is other = other (λ same. true≢false (sym (eq-eqb code k same) ∙ e))
+
 pub low_known : (code : ℕ) → 1 ≤ code → code < 10 → is_known code ≡ true
 low_known code low high =
-    elim (cases_eq code 1) [
-      | inl e ↦ ap is_known e
-      | inr a ↦
-          elim (cases_eq code 2) [
-            | inl e ↦ ap is_known e
-            | inr b ↦
-                elim (cases_eq code 3) [
-                  | inl e ↦ ap is_known e
-                  | inr c ↦
-                      elim (cases_eq code 4) [
-                        | inl e ↦ ap is_known e
-                        | inr d ↦
-                            elim (cases_eq code 5) [
-                              | inl e ↦ ap is_known e
-                              | inr f ↦
-                                  elim (cases_eq code 6) [
-                                    | inl e ↦ ap is_known e
-                                    | inr g ↦
-                                        elim (cases_eq code 7) [
-                                          | inl e ↦ ap is_known e
-                                          | inr h ↦
-                                              elim (cases_eq code 8) [
-                                                | inl e ↦ ap is_known e
-                                                | inr i ↦
-                                                    elim (cases_eq code 9) [ inl e ↦ ap is_known e | inr j ↦ absurd (omega (arith, low, high, a, b, c, d, f, g, h, i, j)) ]
-                                              ]
-                                        ]
-                                  ]
-                            ]
-                      ]
-                ]
-          ]
-    ]
+    known_if (eqb code 1) code 1 _ _ refl refl (λ a.
+    known_if (eqb code 2) code 2 _ _ refl refl (λ b.
+    known_if (eqb code 3) code 3 _ _ refl refl (λ c.
+    known_if (eqb code 4) code 4 _ _ refl refl (λ d.
+    known_if (eqb code 5) code 5 _ _ refl refl (λ e.
+    known_if (eqb code 6) code 6 _ _ refl refl (λ f.
+    known_if (eqb code 7) code 7 _ _ refl refl (λ g.
+    known_if (eqb code 8) code 8 _ _ refl refl (λ h.
+    known_if (eqb code 9) code 9 _ _ refl refl (λ i.
+    absurd (omega (arith, low, high, a, b, c, d, e, f, g, h, i)))))))))))
+
+-- ---- names
+
+none_in : (name : List ℕ) (ks : List ℕ) → list_all is_known ks ≡ true → ((code : ℕ) → is_known code ≡ true → name ≡ field_name code → ⊥) → is_among (map field_name ks) name ≡ false
+none_in name [] h none = refl
+none_in name (k ∷ ks) h none =
+    let both = and_parts (is_known k) (list_all is_known ks) h in
+    next_or _ _ (other_bytes name (field_name k) (none k both.0)) ∙ none_in name ks both.1 none
+
+pub no_field : (name : List ℕ) → ((code : ℕ) → is_known code ≡ true → name ≡ field_name code → ⊥) → is_among known_names name ≡ false
+no_field name none = none_in name (1 ∷ 2 ∷ 3 ∷ 4 ∷ 5 ∷ 6 ∷ 7 ∷ 8 ∷ 9 ∷ []) refl none
+
+pub some_field : (name : List ℕ) (code : ℕ) → is_known code ≡ true → name ≡ field_name code → is_among known_names name ≡ true
+some_field name code known is = ap (is_among known_names) is ∙ (named code known).3
+
+-- a message may have a member of either kind
+pub of_message : (name : List ℕ) → is_among message_names name ≡ (is_among plain_names name || is_among known_names name)
+of_message name = list_any-append (bytes_eq name) plain_names known_names
 
 -- ---- fields
 

@@ -6,7 +6,7 @@ use Rattle.std.proofs.lemmas.Option.{same_Some}
 use Rattle.std.specs.List.{AllZip, enumerate_from}
 use Rattle.json.specs.Find.{get}
 use Rattle.json.specs.Json as json
-use Rattle.json.specs.Json.{Json, Items, Members}
+use Rattle.json.specs.Json.{Json, Members}
 use Rattle.json.specs.Strict.{AreDistinct, keys}
 use Rattle.json.specs.Value.{items_of}
 use Rattle.dbus_texts.specs.Types.{UINT32, STRING, SIGNATURE, TextCode, TypeTree, NumberType, TextType, NoTypes}
@@ -33,9 +33,10 @@ use Rattle.dbus_json.specs.declared.integers.Integers.{Integers}
 use Rattle.dbus_json.specs.JsonMessages.{known_fields}
 use Rattle.dbus_json_reader.specs.JsonMembers.{SpellsKind}
 use Rattle.dbus_json_reader.specs.JsonMessages.{SpellsOr, IsKnown, SpellsMessage, IsReadMessage, field_members}
+use Rattle.dbus_json_reader.specs.JsonNames.{AreNamed, message_names}
 use Rattle.dbus_json_reader.specs.JsonParts.{IsHead, IsKnownField, IsFormedField, AreFormedFields, AreReadFields, IsReadBody}
 use Rattle.dbus_json_reader.specs.JsonValues.{AllSpell}
-use Rattle.dbus_json_reader.proofs.KnownFields.{one_row}
+use Rattle.dbus_json_reader.proofs.KnownFields.{all_named, one_row}
 use Rattle.dbus_json_reader.proofs.KnownNames.{known_codes}
 use Rattle.dbus_json_reader.proofs.OneValue.{numbers_same, same_values}
 use Rattle.dbus_json_reader.proofs.Placing.{Placed, field_of, items_same}
@@ -114,9 +115,8 @@ known_zip integers depth n (f ∷ fs) ms fit h =
 
 zip_back : (integers : Integers) (depth : ℕ) (ps : List Placed) (ms : List (List ℕ × Json)) → AllZip (IsKnownField integers depth) (map field_of ps) ms → AllZip (IsKnown integers) ps ms
 zip_back integers depth [] [] h = tt
-zip_back integers depth [] (m ∷ ms) h = absurd h
-zip_back integers depth (p ∷ ps) [] h = absurd h
 zip_back integers depth (p ∷ ps) (m ∷ ms) h = ((h.0.named, h.0.read.spelled), zip_back integers depth ps ms h.1)
+zip_back integers depth ps ms h = absurd h
 
 formed_others : (depth n : ℕ) (fs : List FieldTree) → AllFit depth fs → AreFormedFields depth (others n fs)
 formed_others depth n [] fit = tt
@@ -140,11 +140,11 @@ module _ (integers : Integers) (limits : Limits) (number : ℕ) (order : Order) 
     same_members : h.spelled.ms ≡ ms
     same_members = objects_same h.spelled.ms ms (sym h.spelled.is ∙ is)
 
-    pub distinct_of : AreDistinct (keys ms)
-    distinct_of = subst (λ (ns : Members). AreDistinct (keys ns)) same_members h.spelled.distinct
-
     pub known_of : AllZip (IsKnownField integers (limits.depth - 3)) (map field_of (known_fields m.fields)) (field_members ms)
     known_of = known_zip integers (limits.depth - 3) 0 m.fields (field_members ms) fit_of (subst (λ (ns : Members). AllZip (IsKnown integers) (known_fields m.fields) (field_members ns)) same_members h.spelled.known)
+
+    pub named_of : AreNamed message_names ms
+    named_of = record { named = all_named integers (limits.depth - 3) _ ms known_of; distinct = subst (λ (ns : Members). AreDistinct (keys ns)) same_members h.spelled.distinct }
 
     pub fields_of : (ks : List FieldTree) → AllZip (IsKnownField integers (limits.depth - 3)) ks (field_members ms) → AreReadFields integers (limits.depth - 3) ks (get (codes "fields") j) m.fields
     fields_of ks read = record {
@@ -163,11 +163,7 @@ record IsSignature (depth : ℕ) (v : ValueTree) : Type 0 where
 
 signature_in : (depth : ℕ) (v : ValueTree) → type_of v ≡ TextType SIGNATURE → IsWellFormed depth v → IsSignature depth v
 signature_in depth (TextValue k t) e h = let same : k ≡ SIGNATURE = let f : TextType k ≡ TextType SIGNATURE = e in cc in record { kind = (subst (λ (c : TextCode). IsWellFormed depth (TextValue c t)) same h).0 }
-signature_in depth (NumberValue k n) e h = absurd (let f : NumberType k ≡ TextType SIGNATURE = e in cc)
-signature_in depth (VariantValue x) e h = absurd (let f : type_of (VariantValue x) ≡ TextType SIGNATURE = e in cc)
-signature_in depth (ArrayValue t xs) e h = absurd (let f : type_of (ArrayValue t xs) ≡ TextType SIGNATURE = e in cc)
-signature_in depth (StructValue xs) e h = absurd (let f : type_of (StructValue xs) ≡ TextType SIGNATURE = e in cc)
-signature_in depth (EntryValue x y) e h = absurd (let f : type_of (EntryValue x y) ≡ TextType SIGNATURE = e in cc)
+signature_in depth v e h = absurd (let f : type_of v ≡ TextType SIGNATURE = e in cc)
 
 signature_cond : (b : Bool) (s t : List ℕ) → (b ≡ true → IsKind Signature s) → IsKind Signature t → IsKind Signature (cond b s t)
 signature_cond true s t h k = h refl

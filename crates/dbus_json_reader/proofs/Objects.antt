@@ -1,12 +1,10 @@
 -- The objects of fields that are not known, and bodies.
-use Rattle.std.proofs.Common.{◌≡◌, ◌↔◌, ℕ, ◌<◌, ◌≤◌, ltb, Bool, true, false, List, [], ◌∷◌, length, Option, Some, None, Result, Ok, Err, IfOk, IsTrue, refl, sym, ap, ◌∙◌, subst, arith, codes}
-use Rattle.std.proofs.lemmas.Bool.{le-ltb, true≢false}
+use Rattle.std.proofs.Common.{◌≡◌, ℕ, ◌<◌, ◌≤◌, ltb, List, [], ◌∷◌, length, Option, Some, None, Result, Ok, Err, IfOk, refl, sym, ap, ◌∙◌, subst, arith, codes}
+use Rattle.std.proofs.lemmas.Bool.{le-ltb}
 use Rattle.std.proofs.lemmas.Option.{same_Some}
-use Rattle.std.specs.List.{list_all}
 use Rattle.json.specs.Find.{get}
 use Rattle.json.specs.Json as json
-use Rattle.json.specs.Json.{Json, Items, no_items, item, Members}
-use Rattle.json.specs.Strict.{AreDistinct, keys}
+use Rattle.json.specs.Json.{Json, Items, no_items, item}
 use Rattle.json.specs.Value.{items_of}
 use Rattle.dbus_texts.specs.Types.{IsSingleType, TypeTree, TypeTrees, NoTypes, MoreTypes, sig, sigs}
 use Rattle.dbus_types.specs.SigTypes.{type_trees_of}
@@ -15,25 +13,11 @@ use Rattle.dbus_texts.proofs.TypeTexts.{sigs_same}
 use Rattle.dbus_message_model.specs.Messages.{FieldTree}
 use Rattle.dbus_value_model.specs.Values.{ValueTree, ValueTrees, NoValues, type_of, types_of, AreWellFormed}
 use Rattle.dbus_json.specs.declared.integers.Integers.{Integers}
-use Rattle.dbus_json_reader.specs.JsonMessages.{is_among, other_names, SpellsOr, SpellsPlace, AreBody}
-use Rattle.dbus_json_reader.specs.JsonParts.{IsNamedOther, IsOtherObject, IsOtherField, IsReadBody}
+use Rattle.dbus_json_reader.specs.JsonMessages.{SpellsOr, SpellsPlace, AreBody}
+use Rattle.dbus_json_reader.specs.JsonParts.{IsOtherObject, IsOtherField, IsReadBody}
 use Rattle.dbus_json_reader.specs.JsonValues.{Spells, AllSpell, IsRead, AreRead}
 use Rattle.dbus_json_reader.proofs.Merging.{not_below}
-use Rattle.dbus_json_reader.proofs.Shapes.{strings_same, objects_same, one_type}
-
--- ---- names
-
-pub is_named : (j : Json) (ms : Members) → j ≡ json.object ms → list_all (is_among other_names) (keys ms) ≡ true → (b : Bool) → IsTrue b ↔ AreDistinct (keys ms) → IsTrue b ↔ IsNamedOther j
-is_named j ms is named b told = (
-  λ t. record { ms = ms; is = is; named = named; distinct = told.0 t },
-  λ h. told.1 (subst (λ (ns : Members). AreDistinct (keys ns)) (objects_same h.ms ms (sym h.is ∙ is)) h.distinct),
-)
-
-pub not_named : (j : Json) (ms : Members) → j ≡ json.object ms → list_all (is_among other_names) (keys ms) ≡ false → (b : Bool) → b ≡ false → IsTrue b ↔ IsNamedOther j
-not_named j ms is none b other = (
-  λ t. absurd (true≢false (sym t ∙ other)),
-  λ h. absurd (true≢false (sym h.named ∙ ap (λ (ns : Members). list_all (is_among other_names) (keys ns)) (objects_same h.ms ms (sym h.is ∙ is)) ∙ none)),
-)
+use Rattle.dbus_json_reader.proofs.Shapes.{strings_same, one_type}
 
 -- ---- places
 
@@ -49,7 +33,7 @@ or_place p e (Some j) h = h
 
 pub object_of : (integers : Integers) (depth e p : ℕ) (f : FieldTree) (j : Json) → (h : IsOtherField integers depth e p f j) → IsOtherObject e p f.code (sig (type_of f.value)) h.spelled.value j
 object_of integers depth e p f j h = record {
-  named = record { ms = h.spelled.ms; is = h.spelled.is; named = h.spelled.named; distinct = h.spelled.distinct };
+  named = record { ms = h.spelled.ms; is = h.spelled.is; are = record { named = h.spelled.named; distinct = h.spelled.distinct } };
   coded = h.spelled.code;
   unknown = h.unknown;
   typed = h.spelled.type;
@@ -67,8 +51,8 @@ field_in integers depth e p code t text v value j o fits single spelled read = r
   spelled = record {
     ms = o.named.ms;
     is = o.named.is;
-    named = o.named.named;
-    distinct = o.named.distinct;
+    named = o.named.are.named;
+    distinct = o.named.are.distinct;
     code = o.coded;
     type = o.typed ∙ ap (λ (s : List ℕ). Some (json.string s)) (sym spelled ∙ ap sig (sym read.typed));
     value = value;

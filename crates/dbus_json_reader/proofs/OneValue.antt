@@ -6,7 +6,7 @@ use Rattle.hex.specs.Hex.{decode_of}
 use Rattle.hex.specs.declared.error.FromHexError.{FromHexError}
 use Rattle.json.specs.Json as json
 use Rattle.json.specs.Json.{Json, Items, no_items, item, Members}
-use Rattle.dbus_texts.specs.Types.{NumberCode, BYTE, BOOLEAN, INT16, UINT16, INT32, UINT32, INT64, UINT64, DOUBLE, UNIX_FD, TextCode, TypeTree, sig}
+use Rattle.dbus_texts.specs.Types.{NumberCode, BOOLEAN, INT64, UINT64, DOUBLE, TextCode, TypeTree, sig}
 use Rattle.dbus_texts.specs.PlainTypes.{is_byte}
 use Rattle.dbus_value_model.specs.declared.order.Order.TheVariants.{Big}
 use Rattle.dbus_value_model.specs.Reading.{number_of}
@@ -42,25 +42,17 @@ double_same : (m n : ℕ) → m < 256 ^ 8 → n < 256 ^ 8 → (j : Json) → Spe
 double_same m n h k (json.number s) a b = bits_same m n h k a.1 b.1 (somes_same _ _ (sym a.0 ∙ b.0))
 double_same m n h k (json.string s) a b =
     sym (number_of-num Big 8 m h) ∙ ap (number_of Big) (oks_same _ _ (sym a ∙ b)) ∙ number_of-num Big 8 n k
-double_same m n h k json.null a b = absurd a
-double_same m n h k (json.boolean c) a b = absurd a
-double_same m n h k (json.array js) a b = absurd a
-double_same m n h k (json.object ms) a b = absurd a
+double_same m n h k j a b = absurd a
 
 booleans_same : (a b : Bool) → json.boolean a ≡ json.boolean b → a ≡ b
 booleans_same a b e = cc
 
 spelled_same : (integers : Integers) (k : NumberCode) (m n : ℕ) → values.IsNumber k m → values.IsNumber k n → (j : Json) → SpellsNumber integers k m j → SpellsNumber integers k n j → m ≡ n
-spelled_same integers BYTE m n h l j a b = coded_same BYTE (λ d. absurd (cc)) m n h l (numbers_same _ _ j a b)
 spelled_same integers BOOLEAN m n h l j a b = a.2 ∙ ap (λ (c : Bool). cond c 1 0) (booleans_same _ _ (sym a.1 ∙ b.1)) ∙ sym b.2
-spelled_same integers INT16 m n h l j a b = coded_same INT16 (λ d. absurd (cc)) m n h l (numbers_same _ _ j a b)
-spelled_same integers UINT16 m n h l j a b = coded_same UINT16 (λ d. absurd (cc)) m n h l (numbers_same _ _ j a b)
-spelled_same integers INT32 m n h l j a b = coded_same INT32 (λ d. absurd (cc)) m n h l (numbers_same _ _ j a b)
-spelled_same integers UINT32 m n h l j a b = coded_same UINT32 (λ d. absurd (cc)) m n h l (numbers_same _ _ j a b)
 spelled_same integers INT64 m n h l j a b = coded_same INT64 (λ d. absurd (cc)) m n h l (wide_same integers _ _ _ _ j a b)
 spelled_same integers UINT64 m n h l j a b = coded_same UINT64 (λ d. absurd (cc)) m n h l (wide_same integers _ _ _ _ j a b)
 spelled_same integers DOUBLE m n h l j a b = double_same m n h l j a b
-spelled_same integers UNIX_FD m n h l j a b = coded_same UNIX_FD (λ d. absurd (cc)) m n h l (numbers_same _ _ j a b)
+spelled_same integers c m n h l j a b = coded_same c (λ d. absurd (cc)) m n h l (numbers_same _ _ j a b)
 
 mutual
   same_value : (integers : Integers) (v w : ValueTree) (j : Json) → Sound v → Sound w → type_of v ≡ type_of w → Spells integers v j → Spells integers w j → v ≡ w

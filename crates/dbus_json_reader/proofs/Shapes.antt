@@ -23,7 +23,7 @@ use Rattle.dbus_types.specs.Alignments.{length_width}
 use Rattle.dbus_types.specs.SigTypes.{type_tree}
 use Rattle.dbus_types.specs.declared.sig_type.SigType.{Byte, Bool as BoolOf, I16, U16, I32, U32, I64, U64, Double, Fd, Str, Path, Sig, the_lemmas as type_lemmas}
 use Rattle.dbus_value_model.specs.Values as values
-use Rattle.dbus_value_model.specs.Values.{ValueTree, ValueTrees, NumberValue, TextValue, VariantValue, ArrayValue, StructValue, EntryValue, NoValues, MoreValues, type_of, types_of, AllOf, IsWellFormed, AreWellFormed, value_trees}
+use Rattle.dbus_value_model.specs.Values.{ValueTree, ValueTrees, NumberValue, TextValue, VariantValue, ArrayValue, StructValue, EntryValue, type_of, types_of, AllOf, AreWellFormed}
 use Rattle.dbus_value_model.specs.ValueViews.{byte_values}
 use Rattle.dbus_value_model.specs.WantedTexts.{kind_of, IsWanted}
 use Rattle.dbus_show.specs.ShownValues.{bytes_in}
@@ -44,44 +44,28 @@ module _ {A : Type 0} (o : Value A) where
 
 -- ---- types, level by level
 
-pub type_Byte : (A : Type 0) → type_tree {A = A} Byte ≡ NumberType BYTE
-type_Byte A = search (rules, type_lemmas)
-
-pub type_Bool : (A : Type 0) → type_tree {A = A} BoolOf ≡ NumberType BOOLEAN
-type_Bool A = search (rules, type_lemmas)
-
-pub type_I16 : (A : Type 0) → type_tree {A = A} I16 ≡ NumberType INT16
-type_I16 A = search (rules, type_lemmas)
-
-pub type_U16 : (A : Type 0) → type_tree {A = A} U16 ≡ NumberType UINT16
-type_U16 A = search (rules, type_lemmas)
-
-pub type_I32 : (A : Type 0) → type_tree {A = A} I32 ≡ NumberType INT32
-type_I32 A = search (rules, type_lemmas)
-
-pub type_U32 : (A : Type 0) → type_tree {A = A} U32 ≡ NumberType UINT32
-type_U32 A = search (rules, type_lemmas)
-
-pub type_I64 : (A : Type 0) → type_tree {A = A} I64 ≡ NumberType INT64
-type_I64 A = search (rules, type_lemmas)
-
-pub type_U64 : (A : Type 0) → type_tree {A = A} U64 ≡ NumberType UINT64
-type_U64 A = search (rules, type_lemmas)
-
-pub type_Double : (A : Type 0) → type_tree {A = A} Double ≡ NumberType DOUBLE
-type_Double A = search (rules, type_lemmas)
-
-pub type_Fd : (A : Type 0) → type_tree {A = A} Fd ≡ NumberType UNIX_FD
-type_Fd A = search (rules, type_lemmas)
-
-pub type_Str : (A : Type 0) → type_tree {A = A} Str ≡ TextType STRING
-type_Str A = search (rules, type_lemmas)
-
-pub type_Path : (A : Type 0) → type_tree {A = A} Path ≡ TextType OBJECT_PATH
-type_Path A = search (rules, type_lemmas)
-
-pub type_Sig : (A : Type 0) → type_tree {A = A} Sig ≡ TextType SIGNATURE
-type_Sig A = search (rules, type_lemmas)
+pub basic_types : (A : Type 0) → (type_tree {A = A} Byte ≡ NumberType BYTE) × (type_tree {A = A} BoolOf ≡ NumberType BOOLEAN)
+    × (type_tree {A = A} I16 ≡ NumberType INT16) × (type_tree {A = A} U16 ≡ NumberType UINT16)
+    × (type_tree {A = A} I32 ≡ NumberType INT32) × (type_tree {A = A} U32 ≡ NumberType UINT32)
+    × (type_tree {A = A} I64 ≡ NumberType INT64) × (type_tree {A = A} U64 ≡ NumberType UINT64)
+    × (type_tree {A = A} Double ≡ NumberType DOUBLE) × (type_tree {A = A} Fd ≡ NumberType UNIX_FD)
+    × (type_tree {A = A} Str ≡ TextType STRING) × (type_tree {A = A} Path ≡ TextType OBJECT_PATH)
+    × (type_tree {A = A} Sig ≡ TextType SIGNATURE)
+basic_types A = (
+  search (rules, type_lemmas),
+  search (rules, type_lemmas),
+  search (rules, type_lemmas),
+  search (rules, type_lemmas),
+  search (rules, type_lemmas),
+  search (rules, type_lemmas),
+  search (rules, type_lemmas),
+  search (rules, type_lemmas),
+  search (rules, type_lemmas),
+  search (rules, type_lemmas),
+  search (rules, type_lemmas),
+  search (rules, type_lemmas),
+  search (rules, type_lemmas),
+)
 
 -- ---- what is smaller, and what a failed call says
 
@@ -157,11 +141,7 @@ module _ (integers : Integers) (t : TypeTree) (j : Json) where
   number_none k type none depth (NumberValue i n) h =
       let same : i ≡ k = let e : NumberType i ≡ NumberType k = h.typed ∙ type in cc in
       none n (subst (λ c. values.IsNumber c n) same h.formed) (subst (λ c. SpellsNumber integers c n j) same h.spelled)
-  number_none k type none depth (TextValue i s) h = absurd (let e : TextType i ≡ NumberType k = h.typed ∙ type in cc)
-  number_none k type none depth (VariantValue x) h = absurd (let e : VariantType ≡ NumberType k = h.typed ∙ type in cc)
-  number_none k type none depth (ArrayValue u xs) h = absurd (let e : ArrayType u ≡ NumberType k = h.typed ∙ type in cc)
-  number_none k type none depth (StructValue xs) h = absurd (let e : StructType (types_of xs) ≡ NumberType k = h.typed ∙ type in cc)
-  number_none k type none depth (EntryValue x y) h = absurd (let e : EntryType (type_of x) (type_of y) ≡ NumberType k = h.typed ∙ type in cc)
+  number_none k type none depth v h = absurd (let e : type_of v ≡ NumberType k = h.typed ∙ type in cc)
 
   pub text_made : (k : TextCode) (s : List ℕ) (v : ValueTree) → t ≡ TextType k → v ≡ TextValue k s → IsWanted (kind_of k) s → length s < 256 ^ length_width k → j ≡ json.string s → (depth : ℕ) → IsRead integers depth t v j
   text_made k s v type is kind short spelled depth =
@@ -171,11 +151,7 @@ module _ (integers : Integers) (t : TypeTree) (j : Json) where
   text_none k type none depth (TextValue i s) h =
       let same : i ≡ k = let e : TextType i ≡ TextType k = h.typed ∙ type in cc in
       none s (subst (λ c. IsWanted (kind_of c) s) same h.formed.0) (subst (λ c. length s < 256 ^ length_width c) same h.formed.1) h.spelled
-  text_none k type none depth (NumberValue i n) h = absurd (let e : NumberType i ≡ TextType k = h.typed ∙ type in cc)
-  text_none k type none depth (VariantValue x) h = absurd (let e : VariantType ≡ TextType k = h.typed ∙ type in cc)
-  text_none k type none depth (ArrayValue u xs) h = absurd (let e : ArrayType u ≡ TextType k = h.typed ∙ type in cc)
-  text_none k type none depth (StructValue xs) h = absurd (let e : StructType (types_of xs) ≡ TextType k = h.typed ∙ type in cc)
-  text_none k type none depth (EntryValue x y) h = absurd (let e : EntryType (type_of x) (type_of y) ≡ TextType k = h.typed ∙ type in cc)
+  text_none k type none depth v h = absurd (let e : type_of v ≡ TextType k = h.typed ∙ type in cc)
 
 -- ---- arrays
 
@@ -240,11 +216,7 @@ array_parts integers less u t xs j same h = record {
 pub array_read : (integers : Integers) (depth : ℕ) (t : TypeTree) (v : ValueTree) (j : Json) → IsRead integers depth (ArrayType t) v j → IsArrayRead integers depth t v j
 array_read integers zero t (ArrayValue u xs) j h = absurd h.formed
 array_read integers (suc less) t (ArrayValue u xs) j h = array_parts integers less u t xs j (let e : ArrayType u ≡ ArrayType t = h.typed in cc) h
-array_read integers depth t (NumberValue k n) j h = absurd (let e : NumberType k ≡ ArrayType t = h.typed in cc)
-array_read integers depth t (TextValue k s) j h = absurd (let e : TextType k ≡ ArrayType t = h.typed in cc)
-array_read integers depth t (VariantValue x) j h = absurd (let e : VariantType ≡ ArrayType t = h.typed in cc)
-array_read integers depth t (StructValue xs) j h = absurd (let e : StructType (types_of xs) ≡ ArrayType t = h.typed in cc)
-array_read integers depth t (EntryValue x y) j h = absurd (let e : EntryType (type_of x) (type_of y) ≡ ArrayType t = h.typed in cc)
+array_read integers depth t v j h = absurd (let e : type_of v ≡ ArrayType t = h.typed in cc)
 
 -- ---- structs
 
@@ -265,11 +237,7 @@ struct_read integers zero ts (StructValue xs) j h = absurd h.formed
 struct_read integers (suc less) ts (StructValue xs) j h =
     let same : types_of xs ≡ ts = let e : StructType (types_of xs) ≡ StructType ts = h.typed in cc in
     record { less = less; deep = refl; xs = xs; shape = refl; js = h.spelled.0; is = h.spelled.1; fields = record { spelled = h.spelled.2; typed = same; formed = h.formed } }
-struct_read integers depth ts (NumberValue k n) j h = absurd (let e : NumberType k ≡ StructType ts = h.typed in cc)
-struct_read integers depth ts (TextValue k s) j h = absurd (let e : TextType k ≡ StructType ts = h.typed in cc)
-struct_read integers depth ts (VariantValue x) j h = absurd (let e : VariantType ≡ StructType ts = h.typed in cc)
-struct_read integers depth ts (ArrayValue u xs) j h = absurd (let e : ArrayType u ≡ StructType ts = h.typed in cc)
-struct_read integers depth ts (EntryValue x y) j h = absurd (let e : EntryType (type_of x) (type_of y) ≡ StructType ts = h.typed in cc)
+struct_read integers depth ts v j h = absurd (let e : type_of v ≡ StructType ts = h.typed in cc)
 
 -- ---- dict entries
 
@@ -307,11 +275,7 @@ entry_read integers depth k t (EntryValue x y) j h =
       reads_key = record { spelled = h.spelled.2; typed = first; formed = h.formed.0 };
       reads_value = record { spelled = h.spelled.3; typed = second; formed = h.formed.1 };
     }
-entry_read integers depth k t (NumberValue i n) j h = absurd (let e : NumberType i ≡ EntryType k t = h.typed in cc)
-entry_read integers depth k t (TextValue i s) j h = absurd (let e : TextType i ≡ EntryType k t = h.typed in cc)
-entry_read integers depth k t (VariantValue x) j h = absurd (let e : VariantType ≡ EntryType k t = h.typed in cc)
-entry_read integers depth k t (ArrayValue u xs) j h = absurd (let e : ArrayType u ≡ EntryType k t = h.typed in cc)
-entry_read integers depth k t (StructValue xs) j h = absurd (let e : StructType (types_of xs) ≡ EntryType k t = h.typed in cc)
+entry_read integers depth k t v j h = absurd (let e : type_of v ≡ EntryType k t = h.typed in cc)
 
 -- ---- variants
 
@@ -350,11 +314,7 @@ variant_read integers (suc less) (VariantValue x) j h = record {
   shape = refl;
   reads = record { spelled = h.spelled.4; typed = refl; formed = h.formed.1 };
 }
-variant_read integers depth (NumberValue i n) j h = absurd (let e : NumberType i ≡ VariantType = h.typed in cc)
-variant_read integers depth (TextValue i s) j h = absurd (let e : TextType i ≡ VariantType = h.typed in cc)
-variant_read integers depth (ArrayValue u xs) j h = absurd (let e : ArrayType u ≡ VariantType = h.typed in cc)
-variant_read integers depth (StructValue xs) j h = absurd (let e : StructType (types_of xs) ≡ VariantType = h.typed in cc)
-variant_read integers depth (EntryValue x y) j h = absurd (let e : EntryType (type_of x) (type_of y) ≡ VariantType = h.typed in cc)
+variant_read integers depth v j h = absurd (let e : type_of v ≡ VariantType = h.typed in cc)
 
 -- an object has one type and one value
 member_parts : (k l : List ℕ) (i j : Json) (ms ns : Members) → member k i ms ≡ member l j ns → (k ≡ l) × (i ≡ j) × (ms ≡ ns)

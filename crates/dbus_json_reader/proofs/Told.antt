@@ -1,7 +1,6 @@
 -- The last member of a name, and the tokens before its value.
 use Rattle.std.proofs.Common.{◌≡◌, ℕ, zero, suc, ◌+◌, ◌<◌, false, cond, List, [], ◌∷◌, ◌++◌, length, get_or, take, drop, Option, Some, None, refl, sym, ap, ◌∙◌, subst, arith}
-use Rattle.std.proofs.lemmas.Bool.{true≢false}
-use Rattle.std.proofs.lemmas.List.{take-append-drop}
+use Rattle.std.proofs.lemmas.Bool.{or_parts, true≢false}
 use Rattle.std.proofs.lemmas.Option.{same_Some}
 use Rattle.std.specs.Str.{bytes_eq}
 use Rattle.json.specs.Find.{get, get_member, later_or}
@@ -12,17 +11,13 @@ use Rattle.json.specs.Value.{value_view, members_view}
 use Rattle.json.specs.declared.value.Value.{Value}
 use Rattle.dbus_json_reader.specs.JsonMessages.{is_among, named_values}
 use Rattle.dbus_json_reader.specs.JsonRules.{IsToldAt}
-use Rattle.dbus_json_reader.proofs.MemberNames.{members_at, names_of, none_or, other_bytes, same_bytes}
+use Rattle.dbus_json_reader.proofs.MemberNames.{names_of, other_bytes, parts_at, same_bytes}
 use Rattle.dbus_json_reader.proofs.TokenCounts.{Key}
-
-named_append : {A : Type 0} (ms ns : List (Key × Value A)) → named_values (members_view (ms ++ ns)) ≡ named_values (members_view ms) ++ named_values (members_view ns)
-named_append [] ns = refl
-named_append (m ∷ ms) ns = ap (λ (l : List (List ℕ × Json)). (m.0.now, value_view m.1) ∷ l) (named_append ms ns)
 
 pub none_told : (name : List ℕ) (ms : Members) → is_among (keys ms) name ≡ false → get_member name ms ≡ None
 none_told name no_members h = refl
 none_told name (member k j ms) h =
-    let both = none_or (bytes_eq name k) _ h in
+    let both = or_parts (bytes_eq name k) _ h in
     let other = other_bytes k name (λ e. true≢false (sym (same_bytes name k (sym e)) ∙ both.0)) in
     ap (λ (o : Option Json). later_or o (cond (bytes_eq k name) (Some j) None)) (none_told name ms both.1) ∙ ap (λ b. cond b (Some j) None) other
 
@@ -47,8 +42,7 @@ told_at {A} name l i m within is same none j seen value told =
       is = seen;
       front = members_view (take i l);
       rest = members_view (drop (i + 1) l);
-      parts = ap (λ (ns : List (Key × Value A)). named_values (members_view ns)) (sym (take-append-drop i l)) ∙ named_append (take i l) (drop i l)
-          ∙ ap (λ (ns : Members). named_values (members_view (take i l)) ++ named_values ns) (members_at l i m within is)
+      parts = parts_at l i m within is
           ∙ ap (λ (n : List ℕ). named_values (members_view (take i l)) ++ (n, value_view m.1) ∷ named_values (members_view (drop (i + 1) l))) same;
       last = none;
       before = refl;

@@ -2,10 +2,8 @@
 -- RFC 8259, section 4, of the messages of the D-Bus Specification, "Message Format" and "Header
 -- Fields".
 use Rattle.std.specs.Prelude.{◌≡◌, ℕ, ◌<◌, ◌≤◌, List, [], ◌∷◌, map, true, false, nat_lt, Option, Some, codes, decimal}
-use Rattle.std.specs.List.{list_all}
 use Rattle.json.specs.Find.{get}
 use Rattle.json.specs.Json.{Json, number, string, object, Members}
-use Rattle.json.specs.Strict.{AreDistinct, keys}
 use Rattle.dbus_texts.specs.Types.{TypeTree, IsSingleType, sigs}
 use Rattle.dbus_value_model.specs.declared.order.Order.{Order}
 use Rattle.dbus_value_model.specs.Values.{ValueTrees, type_of, types_of, IsWellFormed, AreWellFormed}
@@ -15,7 +13,8 @@ use Rattle.dbus_show.specs.ShownMessages.{field_name}
 use Rattle.dbus_json.specs.declared.integers.Integers.{Integers}
 use Rattle.dbus_json.specs.JsonMessages.{known_fields, other_fields}
 use Rattle.dbus_json_reader.specs.JsonMembers.{SpellsKind}
-use Rattle.dbus_json_reader.specs.JsonMessages.{SpellsOrder, SpellsOr, AreOthers, AreBody, IsOther, is_among, other_names}
+use Rattle.dbus_json_reader.specs.JsonMessages.{SpellsOrder, SpellsOr, AreOthers, AreBody, IsOther, other_names}
+use Rattle.dbus_json_reader.specs.JsonNames.{AreNamed}
 use Rattle.dbus_json_reader.specs.JsonValues.{IsRead}
 
 -- what is neither a header field nor the body
@@ -44,8 +43,7 @@ AreAllKnown (f ∷ fs) = (is_known f.code ≡ true) × AreAllKnown fs
 pub record IsNamedOther (j : Json) : Type 0 where
   pub ms : Members
   pub is : j ≡ object ms
-  pub named : list_all (is_among other_names) (keys ms) ≡ true
-  pub distinct : AreDistinct (keys ms)
+  pub are : AreNamed other_names ms
 
 -- the members of the object of a field that is not known; it stands at `end` if no place is told
 pub record IsOtherObject (end place code : ℕ) (text : List ℕ) (value j : Json) : Type 0 where

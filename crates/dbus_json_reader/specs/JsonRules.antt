@@ -11,6 +11,7 @@ use Rattle.json.specs.Tree.{members_tokens}
 use Rattle.dbus_value_model.specs.declared.order.Order.{Order}
 use Rattle.dbus_json_reader.specs.JsonMembers.{SpellsKind}
 use Rattle.dbus_json_reader.specs.JsonMessages.{SpellsOrder, SpellsOr, is_among, named_values}
+use Rattle.dbus_json_reader.specs.JsonNames.{AreNamed, IsNameFault, message_names}
 use Rattle.dbus_json_reader.specs.declared.reasons.JsonReason.{JsonReason}
 use Rattle.dbus_json_reader.specs.declared.reasons.JsonReason.TheVariants as reason
 
@@ -79,9 +80,11 @@ pub data IsHeadFault (j : Json) (why : JsonReason) (at : ℕ) : Type 0 where
 abbrev pub HasHead : Json → Type 0
 HasHead j = HasOrder j × HasKind j × HasNumber (codes "flags") 255 j × HasNumber (codes "serial") 4294967295 j
 
--- What shows that JSON spells no message: that it is no object; or the first of its members that is
--- not as it has to be. Which rule that comes after these is broken is left open.
+-- What shows that JSON spells no message: that it is no object; or else the first of these rules
+-- that is broken: the names of its members, and the members that a message begins with. Which rule
+-- that comes after these is broken is left open.
 pub data IsMessageFault (j : Json) (why : JsonReason) (at : ℕ) : Type 0 where
   no_object : ((ms : Members) → j ≡ object ms → ⊥) → why ≡ reason.Form → at ≡ 0 → IsMessageFault j why at
-  head : (ms : Members) → j ≡ object ms → IsHeadFault j why at → IsMessageFault j why at
-  later : (ms : Members) → j ≡ object ms → HasHead j → IsMessageFault j why at
+  misnamed : (ms : Members) → j ≡ object ms → IsNameFault message_names ms why at → IsMessageFault j why at
+  head : (ms : Members) → j ≡ object ms → AreNamed message_names ms → IsHeadFault j why at → IsMessageFault j why at
+  later : (ms : Members) → j ≡ object ms → AreNamed message_names ms → HasHead j → IsMessageFault j why at

@@ -1,6 +1,7 @@
 pub mod JsonFaults
 pub mod JsonMembers
 pub mod JsonMessages
+pub mod JsonNames
 pub mod JsonNumbers
 pub mod JsonParts
 pub mod JsonReasons

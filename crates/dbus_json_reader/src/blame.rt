@@ -11,8 +11,7 @@ ghost use Rattle.dbus_json_reader.specs.JsonReasons.{is_of_json};
 ghost use Rattle.dbus_json_reader.specs.JsonRules.{IsToldAt, has_fraction, integer_reason, kind_reason, order_reason, unsigned_reason};
 
 use crate::integers::{signed_in, unsigned_in};
-use crate::known::named;
-use crate::names::has_name;
+use crate::names::{Names, named, strange_member};
 use crate::numbers::unsigned;
 use crate::reasons::JsonReason;
 use crate::tokens::{tokens_in_items, tokens_in_members};
@@ -176,29 +175,9 @@ pub(crate) fn at_value<A: Allocator>(json: &Json<'_, A>, name: &str, reason: Jso
     Unread::here(reason).after(before_value(json, name))
 }
 
-/// Whether a name is among these.
-fn is_one_of(name: &str, names: &[&str]) -> bool {
-    names.iter().any(|other| *other == name)
-}
-
-/// The first member that has none of these names, or the name of one before it.
-fn strange_member<A: Allocator>(members: &[(&str, Json<'_, A>)], names: &[&str]) -> Option<Unread> {
-    for (i, member) in members.iter().enumerate() {
-        if !is_one_of(member.0, names) {
-            let why = Unread::here(JsonReason::MemberUnknown);
-            return Some(why.after(tokens_in_members(&members[..i])));
-        }
-        if has_name(&members[..i], member.0) {
-            let why = Unread::here(JsonReason::MemberTwice);
-            return Some(why.after(tokens_in_members(&members[..i])));
-        }
-    }
-    None
-}
-
 /// Why a value is no object of members of these names, none of them twice; if it is one, that it
 /// has no `type` or no `value`, or a type that is no string.
-pub(crate) fn not_typed<A: Allocator>(json: &Json<'_, A>, names: &[&str]) -> Unread {
+pub(crate) fn not_typed<A: Allocator>(json: &Json<'_, A>, names: Names) -> Unread {
     let Json::Object(members) = json else {
         return Unread::here(JsonReason::Form);
     };

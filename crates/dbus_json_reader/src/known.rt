@@ -17,57 +17,16 @@ ghost use Rattle.dbus_json_reader.specs.JsonParts.{IsKnownField};
 ghost use Rattle.dbus_json_reader.specs.declared.unread.Broken.{Broken as TheBroken};
 
 use crate::basics::read_basic;
-use crate::names::is_plain;
+use crate::names::{field_named, is_plain};
 use crate::reasons::JsonReason;
 use crate::tokens::tokens_in_members;
 use crate::unread::Unread;
 use dbus_json::Integers;
 use dbus_message_model::HeaderField;
-use dbus_message_model::field_code::{PATH, UNIX_FDS};
-use dbus_message_model::field_table::{Wanted, is_known, want};
-use dbus_show::push_field_name;
+use dbus_message_model::field_table::{Wanted, want};
 use dbus_types::SigType;
 use json::Value as Json;
 use std::alloc::Allocator;
-
-/// What the table of names is read by: it takes a name where others append one.
-struct Name;
-
-impl Name {
-    fn push_str(&self, name: &'static str) -> &'static str
-        ensures { result.now ≡ name.now }
-    {
-        name
-    }
-}
-
-/// The name of a known field.
-fn name_of(code: u8) -> &'static str
-    requires { is_known_code code ≡ true }
-    ensures { result.now ≡ field_name code }
-{
-    push_field_name!(Name, code, "", "", "")
-}
-
-/// The name of a field, or an empty one if it is not known.
-pub(crate) fn named(code: u8) -> &'static str {
-    if is_known(code) { name_of(code) } else { "" }
-}
-
-/// The code of the known field of this name.
-fn field_named(name: &str) -> Option<u8>
-    ensures some { IfSome result (λ code.
-        (is_known_code code ≡ true) × (name.now ≡ field_name code)) }
-    ensures none { result ≡ None → (code : ℕ) → is_known_code code ≡ true →
-        name.now ≡ field_name code → ⊥ }
-{
-    for code in PATH..UNIX_FDS + 1 {
-        if name_of(code) == name {
-            return Some(code);
-        }
-    }
-    None
-}
 
 /// The type of the values of a known field.
 fn known_type<A: Allocator>(code: u8) -> SigType<A>

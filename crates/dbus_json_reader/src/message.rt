@@ -23,10 +23,9 @@ ghost use Rattle.dbus_json_reader.specs.declared.unread.Broken.{Broken as TheBro
 use crate::blame::{before_value, no_message};
 use crate::head::read_head;
 use crate::known::read_known_fields;
-use crate::names::first_again;
+use crate::names::{Names, strange_member};
 use crate::others::with_others;
 use crate::reasons::JsonReason;
-use crate::tokens::tokens_in_members;
 use crate::unread::Unread;
 use crate::values::read_values;
 use dbus_build::Build;
@@ -87,9 +86,10 @@ fn read_body<A: Allocator + Copy>(
 /// may be there, and none twice. An INT64 or UINT64 is a number or a string as [`Integers`] has it.
 ///
 /// `Unspelled` exactly if it spells no valid message: for `Form` if it is no object; else for the
-/// first of `order`, `type`, `flags` and `serial` that is not as it has to be, at its value, or at
-/// the object if there is no `type`; else for a rule that comes after these. `Memory` if an
-/// allocation failed. RFC 8259; D-Bus Specification, "Message Format" and "Header Fields".
+/// first member whose name may not be there, at that name; else for the first of `order`, `type`,
+/// `flags` and `serial` that is not as it has to be, at its value, or at the object if there is no
+/// `type`; else for a rule that comes after these. `Memory` if an allocation failed. RFC 8259;
+/// D-Bus Specification, "Message Format" and "Header Fields".
 pub fn read_message<A: Allocator + Copy>(
     alloc: A,
     json: &Json<'_, A>,
@@ -107,16 +107,15 @@ pub fn read_message<A: Allocator + Copy>(
     let Json::Object(members) = json else {
         return Err(Unread::here(JsonReason::Form));
     };
+    let members = members.as_slice();
+    if let Some(why) = strange_member(members, Names::Message) {
+        return Err(why);
+    }
     let head = match read_head(json, number) {
         Ok(head) => head,
         Err(why) => return Err(why),
     };
-    let members = members.as_slice();
     let known = read_known_fields(alloc, members, integers)?;
-    if let Some(i) = first_again(members) {
-        let why = Unread::here(JsonReason::MemberTwice);
-        return Err(why.after(tokens_in_members(&members[..i])));
-    }
     let depth = limits.depth.saturating_sub(AROUND_FIELD);
     let fields = match with_others(alloc, known, json, depth, integers) {
         Ok(fields) => fields,

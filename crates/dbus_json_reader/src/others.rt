@@ -2,7 +2,7 @@
 //! Specification, "Header Fields".
 #![tactic(auto)]
 
-ghost use Rattle.std.specs.Prelude.{◌≡◌, ◌<◌, ◌↔◌, ℕ, List, None, Some, Err, false, IsTrue, IfSome, IfOk, IfErr, codes, decimal};
+ghost use Rattle.std.specs.Prelude.{◌≡◌, ◌<◌, ℕ, List, None, Some, Err, false, IsTrue, IfSome, IfOk, IfErr, codes, decimal};
 ghost use Rattle.json.specs.Find.{get};
 ghost use Rattle.json.specs.Json.{Json as JsonTree, number, string};
 ghost use Rattle.json.specs.Value.{value_view};
@@ -15,7 +15,7 @@ ghost use Rattle.dbus_json_reader.specs.declared.unread.Broken.{Broken as TheBro
 
 use crate::blame::{at_value, before_value, no_unsigned, not_typed};
 use crate::head::unsigned_or;
-use crate::names::{are_distinct, are_other};
+use crate::names::{Names, strange_member};
 use crate::numbers::unsigned;
 use crate::reasons::JsonReason;
 use crate::tokens::tokens_in_items;
@@ -26,9 +26,6 @@ use dbus_message_model::HeaderField;
 use dbus_message_model::field_table::is_known;
 use json::Value as Json;
 use std::alloc::Allocator;
-
-/// The names of the members of an object in `fields`.
-const OTHER_NAMES: [&str; 4] = ["code", "type", "value", "place"];
 
 /// The members of the object of a field that is not known.
 struct Other<'v, 'a, A: Allocator> {
@@ -42,15 +39,16 @@ struct Other<'v, 'a, A: Allocator> {
     value: &'v Json<'a, A>,
 }
 
-/// Whether it is an object of members that such an object may have, and none of them twice.
-fn is_other<A: Allocator>(json: &Json<'_, A>) -> bool
-    ensures { IsTrue result ↔ IsNamedOther (value_view json.now) }
+/// What an object of members that such an object may have, none of them twice, breaks first, if it
+/// is none.
+fn not_named<A: Allocator>(json: &Json<'_, A>) -> Option<Unread>
+    ensures none { result ≡ None → IsNamedOther (value_view json.now) }
+    ensures some { IfSome result (λ _. IsNamedOther (value_view json.now) → ⊥) }
 {
-    let Json::Object(members) = json else {
-        return false;
-    };
-    let members = members.as_slice();
-    are_other(members) && are_distinct(members)
+    match json {
+        Json::Object(members) => strange_member(members.as_slice(), Names::Field),
+        _ => Some(Unread::here(JsonReason::Form)),
+    }
 }
 
 /// The code of a field that is not known, as the member `code`.
@@ -99,12 +97,12 @@ fn other_in<'v, 'a, A: Allocator>(
         code < 256 →
         IsOtherObject end place code text value (value_view json.now) → ⊥) }
 {
-    if !is_other(json) {
-        return Err(not_typed(json, &OTHER_NAMES));
+    if let Some(why) = not_named(json) {
+        return Err(why);
     }
     let code = other_code(json)?;
     let Some(types) = types_told(json) else {
-        return Err(not_typed(json, &OTHER_NAMES));
+        return Err(not_typed(json, Names::Field));
     };
     let Some(value) = json.get("value") else {
         return Err(Unread::here(JsonReason::ValueMissing));

@@ -15,6 +15,7 @@ ghost use Rattle.dbus_json_reader.specs.declared.unread.Broken.{Broken as TheBro
 
 use crate::basics::read_basic;
 use crate::blame::{before_value, not_counted, not_typed};
+use crate::names::Names;
 use crate::reasons::JsonReason;
 use crate::tokens::{tokens_in, tokens_in_items};
 use crate::unread::Unread;
@@ -129,7 +130,7 @@ fn read_variant<A: Allocator + Copy>(
     };
     let members = members.as_slice();
     let Some((text, value)) = typed_members(members) else {
-        return Err(not_typed(json, &["type", "value"]));
+        return Err(not_typed(json, Names::Variant));
     };
     if depth == 0 {
         return Err(Unread::here(JsonReason::TooDeep));
