@@ -16,14 +16,14 @@ use Rattle.dbus_device.specs.declared.packet.Packet.{Packet}
 use Rattle.dbus_device.proofs.CallLaws.{pieces_consumed}
 use Rattle.dbus_capture.specs.declared.stage.Stage.{Stage}
 use Rattle.dbus_capture.specs.declared.scan.Scan.{Scan}
-use Rattle.dbus_capture.specs.declared.capture.Capture.{Capture}
+use Rattle.dbus_capture.specs.declared.input.Input.{Input}
 use Rattle.dbus_capture.specs.Stages.{begun}
 use Rattle.dbus_capture.specs.Beginnings.{first_stage}
-use Rattle.dbus_capture.specs.Captures.{source_of, scan_of, chosen_of, kept_of, gave_up_of, calls_of, last_packet_of, failures_of, file_of, given_of, known, opened, opened_of, left_of, packets_by, packets_of, AreFirst, Fetches, Begins, Waits, ReadsInput}
+use Rattle.dbus_capture.specs.Captures.{source_of, scan_of, chosen_of, kept_of, gave_up_of, failures_of, file_of, given_of, known, opened, opened_of, left_of, packets_by, packets_of, Fetches, Begins, Waits, ReadsInput}
 use Rattle.dbus_capture.specs.Packets.{last_packet}
 use Rattle.dbus_capture.proofs.Choices.{when_true, when_false}
 use Rattle.dbus_capture.proofs.FirstLaws.{first_front}
-use Rattle.dbus_capture.proofs.CaptureSteps.{rest_of, given_stopped, part_gives, part_fails, part_repacked, asks_repacked}
+use Rattle.dbus_capture.proofs.CaptureSteps.{consumes_by, rest_of, given_stopped, part_gives, part_fails}
 use Rattle.dbus_capture.proofs.PacketSteps.{packets_rest, part_packets, of_none}
 
 -- ---- what is known of the rest of the file
@@ -41,25 +41,19 @@ at_end : (a : Option (List ℕ)) (rest : List ℕ) → a ≡ Some rest → IsAtE
 at_end None rest e end = absurd cc
 at_end (Some x) rest e end = let same : x ≡ rest = cc in sym same ∙ end
 
-kept_on : (a b : Option (List ℕ)) (kept piece : List ℕ) → Consumes a b piece → Consumes (prepend_known kept a) (prepend_known (kept ++ piece) b) []
-kept_on None b kept piece c = tt
-kept_on (Some x) None kept piece c = absurd c
-kept_on (Some x) (Some y) kept piece c = ap (λ (l : List ℕ). kept ++ l) c ∙ sym (append_assoc kept piece y)
-
-pub opened_chosen : {R : Type 0} (s : Capture R) (bytes : List ℕ) → chosen_of s ≡ true → opened s bytes ≡ scan_of s
+pub opened_chosen : {R : Type 0} (s : Input R) (bytes : List ℕ) → chosen_of s ≡ true → opened s bytes ≡ scan_of s
 opened_chosen s bytes e = when_true _ _ _ e
 
-opened_same : {R : Type 0} (s : Capture R) (bytes more : List ℕ) → first_stage bytes ≡ first_stage more → opened s bytes ≡ opened s more
+opened_same : {R : Type 0} (s : Input R) (bytes more : List ℕ) → first_stage bytes ≡ first_stage more → opened s bytes ≡ opened s more
 opened_same s bytes more e = ap (λ (t : Stage). cond s.chosen s.scan (record s.scan { head = begun t })) e
 
 module _ {R : Type 0} (left : R → Option (List ℕ)) (calls failures : R → ℕ) where
-  pub fetched_file : (old new : Capture R) → Fetches left calls old new → Consumes (file_of left old) (file_of left new) []
+  pub fetched_file : (old new : Input R) → Fetches left calls old new → Consumes (file_of left old) (file_of left new) []
   fetched_file old new f =
-      subst (λ (l : List ℕ). Consumes (file_of left old) (prepend_known l (left (source_of new))) []) (sym f.kept)
-      (kept_on (left (source_of old)) (left (source_of new)) (kept_of old) (joined f.pieces) (pieces_consumed left calls (source_of old) (source_of new) f.pieces f.called))
+      consumes_by (left (source_of old)) (left (source_of new)) (kept_of old) (joined f.pieces) [] (kept_of new) (pieces_consumed left calls (source_of old) (source_of new) f.pieces f.called) (sym f.kept)
 
   -- what the rest says is what the bytes that are there say
-  told_by : (old mid : Capture R) (bytes : List ℕ) → Begins left calls failures old mid → file_of left mid ≡ Some bytes → opened old bytes ≡ scan_of mid
+  told_by : (old mid : Input R) (bytes : List ℕ) → Begins left calls failures old mid → file_of left mid ≡ Some bytes → opened old bytes ≡ scan_of mid
   told_by old mid bytes b e =
       let f = front_rest (kept_of mid) (left (source_of mid)) bytes e in
       elim b.enough [
@@ -70,34 +64,34 @@ module _ {R : Type 0} (left : R → Option (List ℕ)) (calls failures : R → �
         ]
       ]
 
-  pub opened_known : (old mid : Capture R) (bytes : List ℕ) → Begins left calls failures old mid → file_of left old ≡ Some bytes → opened_of left old ≡ scan_of mid
+  pub opened_known : (old mid : Input R) (bytes : List ℕ) → Begins left calls failures old mid → file_of left old ≡ Some bytes → opened_of left old ≡ scan_of mid
   opened_known old mid bytes b e =
       let same = same_known (file_of left old) (file_of left mid) bytes (fetched_file old mid b.fetches) e in
       ap (λ (o : Option (List ℕ)). opened old (known o)) e ∙ told_by old mid bytes b same
 
-  pub opened_waiting : (old new : Capture R) (r : Result ℕ DeviceFault) (room : ℕ) (bytes : List ℕ) → Waits left calls failures old new r room → file_of left old ≡ Some bytes → opened_of left old ≡ opened_of left new
+  pub opened_waiting : (old new : Input R) (r : Result ℕ DeviceFault) (room : ℕ) (bytes : List ℕ) → Waits left calls failures old new r room → file_of left old ≡ Some bytes → opened_of left old ≡ opened_of left new
   opened_waiting old new r room bytes w e =
       let same = same_known (file_of left old) (file_of left new) bytes (fetched_file old new w.fetches) e in
       let scans : opened old bytes ≡ opened new bytes =
       when_false _ _ _ w.before ∙ ap (λ (v : Scan). record v { head = begun (first_stage bytes) }) (sym w.scan) ∙ sym (when_false _ _ _ w.after) in
       ap (λ (o : Option (List ℕ)). opened old (known o)) e ∙ scans ∙ ap (λ (o : Option (List ℕ)). opened new (known o)) (sym same)
 
-  pub waiting_fault : (old new : Capture R) (r : Result ℕ DeviceFault) (room : ℕ) → Waits left calls failures old new r room → (opened_of left new).fault ≡ (scan_of new).fault
+  pub waiting_fault : (old new : Input R) (r : Result ℕ DeviceFault) (room : ℕ) → Waits left calls failures old new r room → (opened_of left new).fault ≡ (scan_of new).fault
   waiting_fault old new r room w = ap (λ (v : Scan). v.fault) (when_false _ _ _ w.after)
 
   -- what is said of the rest, if it is known
   module _ {X : Type 0} (says : Scan → Option (List ℕ) → Option X) (none : (s : Scan) → says s None ≡ None) where
-    pub said_after : (old mid : Capture R) (o : Option (List ℕ)) → Begins left calls failures old mid → file_of left old ≡ o
+    pub said_after : (old mid : Input R) (o : Option (List ℕ)) → Begins left calls failures old mid → file_of left old ≡ o
         → (says (opened_of left old) (file_of left old) ≡ None) ⊎ (says (opened_of left old) (file_of left old) ≡ says (scan_of mid) (file_of left mid))
     said_after old mid None b e = inl (ap (says (opened_of left old)) e ∙ none (opened_of left old))
     said_after old mid (Some bytes) b e =
         let same = same_known (file_of left old) (file_of left mid) bytes (fetched_file old mid b.fetches) e in
         inr (ap (λ (v : Scan). says v (file_of left old)) (opened_known old mid bytes b e) ∙ ap (says (scan_of mid)) (e ∙ sym same))
 
-    pub said_chosen : (s : Capture R) → chosen_of s ≡ true → says (opened_of left s) (file_of left s) ≡ says (scan_of s) (file_of left s)
+    pub said_chosen : (s : Input R) → chosen_of s ≡ true → says (opened_of left s) (file_of left s) ≡ says (scan_of s) (file_of left s)
     said_chosen s e = ap (λ (v : Scan). says v (file_of left s)) (opened_chosen s (known (file_of left s)) e)
 
-    pub said_waiting : (old new : Capture R) (r : Result ℕ DeviceFault) (room : ℕ) (o : Option (List ℕ)) → Waits left calls failures old new r room → file_of left old ≡ o
+    pub said_waiting : (old new : Input R) (r : Result ℕ DeviceFault) (room : ℕ) (o : Option (List ℕ)) → Waits left calls failures old new r room → file_of left old ≡ o
         → (says (opened_of left old) (file_of left old) ≡ None) ⊎ (says (opened_of left old) (file_of left old) ≡ says (opened_of left new) (file_of left new))
     said_waiting old new r room None w e = inl (ap (says (opened_of left old)) e ∙ none (opened_of left old))
     said_waiting old new r room (Some bytes) w e =
@@ -131,7 +125,7 @@ after_none (Some packets) n e = λ i. ap packets (omega (arith, e))
 of_no_packet : (a : Option Packets) (packet : Option Packet) (n : ℕ) → n ≡ 0 → AreOfPacket n a packet
 of_no_packet a packet n e = subst (λ (k : ℕ). AreOfPacket k a packet) (sym e) (of_none a packet)
 
-module _ {R : Type 0} (left : R → Option (List ℕ)) (calls failures : R → ℕ) (old new : Capture R) (buffer : List ℕ) where
+module _ {R : Type 0} (left : R → Option (List ℕ)) (calls failures : R → ℕ) (old new : Input R) (buffer : List ℕ) where
   waiting_reads : (r : Result ℕ DeviceFault) → Waits left calls failures old new r (length buffer) → ReadConsumes (left_of left new) (left_of left new) r buffer
   waiting_reads (Err e) w = keeps_all (left_of left new)
   waiting_reads (Ok n) w = (
@@ -172,44 +166,6 @@ module _ {R : Type 0} (left : R → Option (List ℕ)) (calls failures : R → �
       let same : failures_of failures i.mid ≡ failures_of failures old = cc in
       subst (λ (n : ℕ). ReadCounts n (failures_of failures new) r) same (part_fails left failures i.mid new r buffer i.part)
 
--- ---- how often it was called, and of which packet what it handed on was, do not matter
-
-module _ {R : Type 0} (left : R → Option (List ℕ)) (calls failures : R → ℕ) (old : Capture R) (n : ℕ) (a : old.start ≤ old.end) (b : old.end ≤ 65536) (c : old.chosen ≡ false → old.start ≡ 0) where
-  abbrev called : Capture R
-  called = record old { calls = n; in_order = a; in_room = b; untaken = c }
-
-  first_called : (pieces : List (List ℕ)) → AreFirst called pieces → AreFirst old pieces
-  first_called [] f = tt
-  first_called (last ∷ before) f = (f.0, f.1, f.2)
-
-  fetched_called : (new : Capture R) → Fetches left calls called new → Fetches left calls old new
-  fetched_called new f = record { pieces = f.pieces; called = f.called; first = first_called f.pieces f.first; kept = f.kept; gave_up = f.gave_up }
-
-  begins_called : (new : Capture R) → Begins left calls failures called new → Begins left calls failures old new
-  begins_called new f = record { fetches = fetched_called new f.fetches; enough = f.enough; scan = f.scan; chosen = f.chosen; unfailed = f.unfailed }
-
-  module _ (new : Capture R) (packet : Option Packet) (p : new.start ≤ new.end) (q : new.end ≤ 65536) (u : new.chosen ≡ false → new.start ≡ 0) where
-    fetched_repacked : Fetches left calls old new → Fetches left calls old (record new { packet = packet; in_order = p; in_room = q; untaken = u })
-    fetched_repacked f = record { pieces = f.pieces; called = f.called; first = f.first; kept = f.kept; gave_up = f.gave_up }
-
-    pub input_counted : (r : Result ℕ DeviceFault) (buffer : List ℕ) → ReadsInput left calls failures called new r buffer
-        → ReadsInput left calls failures old (record new { packet = packet; in_order = p; in_room = q; untaken = u }) r buffer
-    input_counted r buffer (inl i) = inl (record {
-      mid = i.mid;
-      begins = begins_called i.mid i.begins;
-      part = part_repacked left failures i.mid new packet p q u r buffer i.part;
-      asks = asks_repacked left calls failures i.mid new packet p q u r i.asks;
-      chosen = i.chosen;
-    })
-    input_counted r buffer (inr w) = inr (record {
-      fetches = fetched_repacked (fetched_called new w.fetches);
-      scan = w.scan;
-      before = w.before;
-      after = w.after;
-      counted = w.counted;
-      nothing = w.nothing;
-    })
-
 -- ---- the first bytes
 
 from_start : (bytes : List ℕ) (n : ℕ) → slice_range bytes 0 n ≡ take n bytes
@@ -238,7 +194,7 @@ kept_there bytes start end first size =
     omega (arith, whole, length-take end bytes)
 
 -- in so many turns the source below gave a byte each, or more
-pub record Fetched {R : Type 0} (left : R → Option (List ℕ)) (calls failures : R → ℕ) (turns : ℕ) (old new : Capture R) : Type 0 where
+pub record Fetched {R : Type 0} (left : R → Option (List ℕ)) (calls failures : R → ℕ) (turns : ℕ) (old new : Input R) : Type 0 where
   pub fetches : Fetches left calls old new
   pub found : All HasByte fetches.pieces
   pub many : turns ≤ length (kept_of new)
@@ -246,14 +202,12 @@ pub record Fetched {R : Type 0} (left : R → Option (List ℕ)) (calls failures
   pub scan : scan_of new ≡ scan_of old
   pub chosen : chosen_of new ≡ false
   pub unfailed : failures (source_of new) ≡ failures (source_of old)
-  pub called : calls_of new ≡ calls_of old
-  pub packet : last_packet_of new ≡ last_packet_of old
 
 module _ {R : Type 0} (left : R → Option (List ℕ)) (calls failures : R → ℕ) where
-  pub fetches_nothing : (s : Capture R) → Fetches left calls s s
+  pub fetches_nothing : (s : Input R) → Fetches left calls s s
   fetches_nothing s = record { pieces = []; called = refl; first = tt; kept = sym (append-nil (kept_of s)); gave_up = refl }
 
-  pub fetched_nothing : (s : Capture R) → chosen_of s ≡ false → Fetched left calls failures 0 s s
+  pub fetched_nothing : (s : Input R) → chosen_of s ≡ false → Fetched left calls failures 0 s s
   unfolding fetches_nothing
   fetched_nothing s e = record {
     fetches = fetches_nothing s;
@@ -263,12 +217,10 @@ module _ {R : Type 0} (left : R → Option (List ℕ)) (calls failures : R → �
     scan = refl;
     chosen = e;
     unfailed = refl;
-    called = refl;
-    packet = refl;
   }
 
   -- one more call
-  pub fetches_more : (turns : ℕ) (old mid new : Capture R) (piece : List ℕ) → chosen_of old ≡ false → (f : Fetched left calls failures turns old mid) → length (kept_of mid) < 4
+  pub fetches_more : (turns : ℕ) (old mid new : Input R) (piece : List ℕ) → chosen_of old ≡ false → (f : Fetched left calls failures turns old mid) → length (kept_of mid) < 4
       → ReadsPiece left calls (source_of mid) piece (source_of new) → kept_of new ≡ kept_of mid ++ piece → gave_up_of new ≡ gave_up_of mid → Fetches left calls old new
   fetches_more turns old mid new piece e f few reads kept gave_up =
       let less = subst (λ (l : List ℕ). length l < 4) f.fetches.kept few in
@@ -280,12 +232,12 @@ module _ {R : Type 0} (left : R → Option (List ℕ)) (calls failures : R → �
         gave_up = gave_up ∙ f.fetches.gave_up;
       }
 
-  pub fetched_more : (turns : ℕ) (old mid new : Capture R) (piece : List ℕ) → chosen_of old ≡ false → (f : Fetched left calls failures turns old mid) → length (kept_of mid) < 4
+  pub fetched_more : (turns : ℕ) (old mid new : Input R) (piece : List ℕ) → chosen_of old ≡ false → (f : Fetched left calls failures turns old mid) → length (kept_of mid) < 4
       → ReadsPiece left calls (source_of mid) piece (source_of new) → kept_of new ≡ kept_of mid ++ piece → 0 < length piece → gave_up_of new ≡ gave_up_of mid → new.start ≡ mid.start
-      → scan_of new ≡ scan_of mid → chosen_of new ≡ chosen_of mid → failures (source_of new) ≡ failures (source_of mid) → calls_of new ≡ calls_of mid → last_packet_of new ≡ last_packet_of mid
+      → scan_of new ≡ scan_of mid → chosen_of new ≡ chosen_of mid → failures (source_of new) ≡ failures (source_of mid)
       → Fetched left calls failures (turns + 1) old new
   unfolding fetches_more
-  fetched_more turns old mid new piece e f few reads kept some gave_up start scan chosen source called packet =
+  fetched_more turns old mid new piece e f few reads kept some gave_up start scan chosen source =
       let size = ap length kept in
       let both = length-append (kept_of mid) piece in
       let many = f.many in
@@ -297,12 +249,10 @@ module _ {R : Type 0} (left : R → Option (List ℕ)) (calls failures : R → �
         scan = scan ∙ f.scan;
         chosen = chosen ∙ f.chosen;
         unfailed = source ∙ f.unfailed;
-        called = called ∙ f.called;
-        packet = packet ∙ f.packet;
       }
 
   -- it is known what the input is
-  pub begins_at : (old mid new : Capture R) (bytes : List ℕ) → chosen_of old ≡ false → Fetches left calls old mid → (4 ≤ length (kept_of mid)) ⊎ IsAtEnd (left (source_of mid))
+  pub begins_at : (old mid new : Input R) (bytes : List ℕ) → chosen_of old ≡ false → Fetches left calls old mid → (4 ≤ length (kept_of mid)) ⊎ IsAtEnd (left (source_of mid))
       → failures (source_of mid) ≡ failures (source_of old) → source_of new ≡ source_of mid → kept_of new ≡ kept_of mid → gave_up_of new ≡ gave_up_of mid → scan_of mid ≡ scan_of old
       → bytes ≡ kept_of mid → scan_of new ≡ record (scan_of mid) { head = begun (first_stage bytes) } → chosen_of new ≡ true → Begins left calls failures old new
   begins_at old mid new bytes e f enough unfailed source kept gave_up scan same now chosen = record {
@@ -320,5 +270,5 @@ module _ {R : Type 0} (left : R → Option (List ℕ)) (calls failures : R → �
     unfailed = ap failures source ∙ unfailed;
   }
 
-  pub begins_still : (s : Capture R) → chosen_of s ≡ true → Begins left calls failures s s
+  pub begins_still : (s : Input R) → chosen_of s ≡ true → Begins left calls failures s s
   begins_still s e = record { fetches = fetches_nothing s; enough = inl e; scan = sym (opened_chosen s (kept_of s) e); chosen = e; unfailed = refl }

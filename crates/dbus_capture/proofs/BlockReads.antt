@@ -10,17 +10,19 @@ use Rattle.dbus_capture.specs.declared.interface.Interface.{Interface}
 use Rattle.dbus_capture.specs.declared.scan.Scan.{Scan}
 use Rattle.dbus_capture.specs.Numbers.{u32_bytes, u32_at, u16_at}
 use Rattle.dbus_capture.specs.Stages.{begun, is_raw, want}
+use Rattle.dbus_capture.specs.Steps.{Leads}
 use Rattle.dbus_capture.specs.Scans.{place}
 use Rattle.dbus_capture.specs.Blocks.{padded, is_length, block_stage, block_by, time_of, block_packet, decoded_by}
-use Rattle.dbus_capture.specs.Packets.{FitsTime, head_time, IsTimed, interface_of, packet_original, packet_bytes, packet_time, block_front}
-use Rattle.dbus_capture.specs.BlockFiles.{FitsBody, framed_bytes, FileBlock, InterfaceBlock, PacketBlock, OtherBlock, PacketForm, EnhancedHead, ObsoleteHead, SimpleHead, head_kind, head_bytes, head_interface, FitsHead, block_bytes, block_body, IsCapturedBy, FitsBlock}
+use Rattle.dbus_capture.specs.Packets.{FitsTime, head_time, block_front}
+use Rattle.dbus_capture.specs.BlockFiles.{FitsBody, framed_bytes, PacketBlock, PacketForm, EnhancedHead, ObsoleteHead, SimpleHead, head_kind, head_bytes, head_interface, FitsHead, block_bytes, block_body, IsCapturedBy, FitsBlock}
 use Rattle.dbus_capture.specs.Heads.{give_packet, pass_packet, packet_head}
 use Rattle.dbus_capture.specs.declared.packet.PacketHead.{PacketHead}
 use Rattle.dbus_capture.specs.CutPackets.{Captured}
 use Rattle.dbus_capture.specs.BlockPackets.{packet_by, block_packets}
 use Rattle.dbus_capture.proofs.Choices.{lt_false, le_true, eq_is, eq_not, cases_same, both_true, when_true, when_false}
 use Rattle.dbus_capture.proofs.NumberLaws.{u32_size, u32_again, u16_again}
-use Rattle.dbus_capture.proofs.Leads.{Leads, lead_then, lead_to, lead_of, lead_from, head_leads, bytes_lead, given_whole, packet_cases, Went, went_on, went_whole, went_cut, Begins}
+use Rattle.dbus_capture.proofs.StepLaws.{lead_then, lead_to, lead_of, lead_from}
+use Rattle.dbus_capture.proofs.Leads.{head_leads, bytes_lead, given_whole, packet_cases, Went, went_on, went_whole, went_cut, Begins}
 
 -- between two blocks of a section
 abbrev pub at_blocks : ByteOrder → List Interface → Scan → Scan
@@ -282,14 +284,13 @@ module _ (passes : Bool) (o : ByteOrder) (interfaces : List Interface) (s : Scan
       subst (λ (v : Option Interface). Went (at_blocks o interfaces) (at_blocks o interfaces s) (block_bytes o (PacketBlock head original bytes rest)) (packet_by original bytes v)) (sym f.2.1)
       (packet_read o interfaces s head i original bytes rest p b f.1 passes pass f.2.2.1)
 
-  -- this is reported of it
-  pub block_begins : (i : Interface) (block : FileBlock) (packet : Packet) → FitsBlock passes interfaces block → FitsBody (block_body o block) → IsTimed block → slice_get interfaces (interface_of block) ≡ Some i → i.link_type ≡ 231
-      → packet_original block ≡ length (packet_bytes block) → packet ≡ record { number = place (s.packets + 1); at = place (s.next + 8 + 2 ^ 64 - 8); time = packet_time i block; length = length (packet_bytes block) }
-      → Begins (at_blocks o interfaces s) (block_front o block) (packet_bytes block) packet
-  block_begins i (PacketBlock head original bytes rest) packet f b t found same whole is =
+  -- this is reported of it, if all of it was captured
+  pub block_begins : (i : Interface) (form : PacketForm) (bytes rest : List ℕ) (packet : Packet) → let block = PacketBlock form (length bytes) bytes rest in FitsBlock passes interfaces block → FitsBody (block_body o block)
+      → FitsTime form → slice_get interfaces (head_interface form) ≡ Some i → i.link_type ≡ 231 → packet ≡ record { number = place (s.packets + 1); at = place (s.next + 8 + 2 ^ 64 - 8); time = head_time i form; length = length bytes }
+      → Begins (at_blocks o interfaces s) (block_front o form bytes rest) bytes packet
+  block_begins i form bytes rest packet f b t found same is =
       let one : f.2.0 ≡ i = let x = f.2.1 in cc (x, found) in
-      let p = packet_is o interfaces head i (length bytes) original found (low_in (head_bytes o head (length bytes) original) bytes rest b.size) f.0 (subst (λ (v : Interface). FitsHead head v (length bytes) original) one f.2.2.0) in
-      packet_begins o interfaces s head i original bytes rest p b f.1 same whole packet
-      (is ∙ ap (λ (v : Option ℕ). record { number = place (s.packets + 1); at = place (s.next + 8 + 2 ^ 64 - 8); time = v; length = length bytes }) (sym (p.timed t)))
-  block_begins i (InterfaceBlock a b c d z) packet f x t found same whole is = absurd t
-  block_begins i (OtherBlock kind body) packet f b t found same whole is = absurd t
+      let n = length bytes in
+      let p = packet_is o interfaces form i n n found (low_in (head_bytes o form n n) bytes rest b.size) f.0 (subst (λ (v : Interface). FitsHead form v n n) one f.2.2.0) in
+      packet_begins o interfaces s form i n bytes rest p b f.1 same refl packet
+      (is ∙ ap (λ (v : Option ℕ). record { number = place (s.packets + 1); at = place (s.next + 8 + 2 ^ 64 - 8); time = v; length = n }) (sym (p.timed t)))

@@ -53,31 +53,24 @@ module _ (o : ByteOrder) (bytes : List ℕ) (are : AreBytes bytes) (k : ℕ) whe
   pub u16_low : u16_at o k bytes < 2 ^ 16
   u16_low = u16_fits o _ (are_take (k + 2 - k) (drop k bytes) (are_drop k bytes are))
 
-  pub u32_there : (n : ℕ) → u32_at o k bytes ≡ n → k + 4 ≤ length bytes → drop k bytes ≡ u32_bytes o n ++ drop (k + 4) bytes
-  u32_there n e size =
+  -- they are spelled so, and then comes this
+  pub u32_as : {word rest : List ℕ} → u32_bytes o (u32_at o k bytes) ≡ word → k + 4 ≤ length bytes → drop (k + 4) bytes ≡ rest → drop k bytes ≡ word ++ rest
+  u32_as {word} e size more =
       let left = length-drop k bytes in
       let z : k + 4 - k ≡ 4 = omega arith in
-      sym (take-append-drop 4 (drop k bytes)) ∙ ap (λ l. take 4 (drop k bytes) ++ l) (drop-drop 4 k bytes)
-      ∙ ap (λ l. l ++ drop (k + 4) bytes)
-      (sym (ap (λ m. u32_bytes o (u32_of o (take m (drop k bytes)))) z
-      ∙ u32_respelled o _ (length-take-le 4 (drop k bytes) (omega (arith, size, left))) (are_take 4 _ (are_drop k bytes are))))
-      ∙ ap (λ m. u32_bytes o m ++ drop (k + 4) bytes) e
+      let same = ap (λ m. u32_bytes o (u32_of o (take m (drop k bytes)))) z ∙ u32_respelled o _ (length-take-le 4 (drop k bytes) (omega (arith, size, left))) (are_take 4 _ (are_drop k bytes are)) in
+      sym (take-append-drop 4 (drop k bytes)) ∙ ap (λ l. l ++ drop 4 (drop k bytes)) (sym same ∙ e) ∙ ap (λ l. word ++ l) (drop-drop 4 k bytes ∙ more)
 
-  pub u16_there : (n : ℕ) → u16_at o k bytes ≡ n → k + 2 ≤ length bytes → drop k bytes ≡ u16_bytes o n ++ drop (k + 2) bytes
-  u16_there n e size =
+  pub u16_as : {word rest : List ℕ} → u16_bytes o (u16_at o k bytes) ≡ word → k + 2 ≤ length bytes → drop (k + 2) bytes ≡ rest → drop k bytes ≡ word ++ rest
+  u16_as {word} e size more =
       let left = length-drop k bytes in
       let z : k + 2 - k ≡ 2 = omega arith in
-      sym (take-append-drop 2 (drop k bytes)) ∙ ap (λ l. take 2 (drop k bytes) ++ l) (drop-drop 2 k bytes)
-      ∙ ap (λ l. l ++ drop (k + 2) bytes)
-      (sym (ap (λ m. u16_bytes o (u16_of o (take m (drop k bytes)))) z
-      ∙ u16_respelled o _ (length-take-le 2 (drop k bytes) (omega (arith, size, left))) (are_take 2 _ (are_drop k bytes are))))
-      ∙ ap (λ m. u16_bytes o m ++ drop (k + 2) bytes) e
+      let same = ap (λ m. u16_bytes o (u16_of o (take m (drop k bytes)))) z ∙ u16_respelled o _ (length-take-le 2 (drop k bytes) (omega (arith, size, left))) (are_take 2 _ (are_drop k bytes are)) in
+      sym (take-append-drop 2 (drop k bytes)) ∙ ap (λ l. l ++ drop 2 (drop k bytes)) (sym same ∙ e) ∙ ap (λ l. word ++ l) (drop-drop 2 k bytes ∙ more)
 
   -- the last one
-  pub u32_ends : (n : ℕ) → u32_at o k bytes ≡ n → length bytes ≡ k + 4 → drop k bytes ≡ u32_bytes o n
-  u32_ends n e size = u32_there n e (omega (arith, size)) ∙ ap (λ l. u32_bytes o n ++ l) (drop_all (k + 4) bytes (omega (arith, size)))
-      ∙ append-nil (u32_bytes o n)
+  pub u32_ends : {word : List ℕ} → u32_bytes o (u32_at o k bytes) ≡ word → length bytes ≡ k + 4 → drop k bytes ≡ word
+  u32_ends {word} e size = u32_as e (omega (arith, size)) (drop_all (k + 4) bytes (omega (arith, size))) ∙ append-nil word
 
-  pub u16_ends : (n : ℕ) → u16_at o k bytes ≡ n → length bytes ≡ k + 2 → drop k bytes ≡ u16_bytes o n
-  u16_ends n e size = u16_there n e (omega (arith, size)) ∙ ap (λ l. u16_bytes o n ++ l) (drop_all (k + 2) bytes (omega (arith, size)))
-      ∙ append-nil (u16_bytes o n)
+  pub u16_ends : {word : List ℕ} → u16_bytes o (u16_at o k bytes) ≡ word → length bytes ≡ k + 2 → drop k bytes ≡ word
+  u16_ends {word} e size = u16_as e (omega (arith, size)) (drop_all (k + 2) bytes (omega (arith, size))) ∙ append-nil word

@@ -16,11 +16,11 @@ use Rattle.dbus_capture.specs.Stages.{want, is_raw, begun}
 use Rattle.dbus_capture.specs.Scans.{place}
 use Rattle.dbus_capture.specs.Blocks.{decoded}
 use Rattle.dbus_capture.specs.Steps.{Gathers, turn_by, stepped, step, run, may_end, ended}
-use Rattle.dbus_capture.specs.Outcomes.{AreBytes}
-use Rattle.dbus_capture.specs.PcapFiles.{PcapHeader, PcapPacket, pcap_bytes, packets_bytes, FitsHeader, AllFitPackets}
+use Rattle.dbus_capture.specs.Outcomes.{AreBytes, PcapFile, PcapngFile}
+use Rattle.dbus_capture.specs.PcapFiles.{PcapPacket, packets_bytes, AllFitPackets}
 use Rattle.dbus_capture.specs.BlockFiles.{InterfaceOption, options_bytes, end_bytes, AllFitOptions, FitsEnd, with_options, FileBlock}
 use Rattle.dbus_capture.specs.BlockFiles.{block_kind, block_body, blocks_bytes, interfaces_after, FitsBlock, AllFitBlocks, FileSection}
-use Rattle.dbus_capture.specs.BlockFiles.{sections_bytes, FitsSection, AllFitSections}
+use Rattle.dbus_capture.specs.BlockFiles.{sections_bytes, AllFitSections}
 use Rattle.dbus_capture.proofs.Choices.{eq_told, when}
 use Rattle.dbus_capture.proofs.ByteLaws.{are_joined}
 
@@ -36,24 +36,10 @@ pub record Context : Type 0 where
 abbrev pub context : Scan → Context
 context s = record { passes = s.passes_cut; order = s.order; total = s.total; interfaces = s.interfaces }
 
-pub record PcapFile (passes : Bool) (bytes : List ℕ) : Type 0 where
-  pub head : PcapHeader
-  pub packets : List PcapPacket
-  pub fits : FitsHeader head
-  pub fit : AllFitPackets passes packets
-  pub joined : bytes ≡ pcap_bytes head packets
-
 pub record Packets (passes : Bool) (order : ByteOrder) (bytes : List ℕ) : Type 0 where
   pub packets : List PcapPacket
   pub fit : AllFitPackets passes packets
   pub joined : bytes ≡ packets_bytes order packets
-
-pub record Sections (passes : Bool) (bytes : List ℕ) : Type 0 where
-  pub first : FileSection
-  pub sections : List FileSection
-  pub fits : FitsSection passes first
-  pub fit : AllFitSections passes sections
-  pub joined : bytes ≡ sections_bytes (first ∷ sections)
 
 -- blocks of a section with these interfaces, and then sections
 pub record Blocks (passes : Bool) (order : ByteOrder) (interfaces : List Interface) (bytes : List ℕ) : Type 0 where
@@ -105,7 +91,7 @@ abbrev pub FollowsHead : Stage → Context → (rest : ℕ) → Interface → Li
 FollowsHead Raw c rest i bytes = ⊥
 FollowsHead FileHeader c rest i bytes = PcapFile c.passes bytes
 FollowsHead Record c rest i bytes = Packets c.passes c.order bytes
-FollowsHead Section c rest i bytes = Sections c.passes bytes
+FollowsHead Section c rest i bytes = PcapngFile c.passes bytes
 FollowsHead Block c rest i bytes = Blocks c.passes c.order c.interfaces bytes
 FollowsHead InterfaceHead c rest i bytes = Body c 1 bytes
 FollowsHead OptionHead c rest i bytes = Options c rest i bytes
@@ -191,6 +177,23 @@ module _ (heads : HeadsGo) (p n : ℕ) (s : Scan) (z : Standing p n s) where
   at_none : s.fault ≡ None → IsAt p n s None
   at_none e = subst (IsAt p n s) e z.at
 
+  -- a byte is given or skipped
+  taken : (b : ℕ) → s.fault ≡ None → (give skip : ℕ) → s.give + s.skip ≡ suc (give + skip) → Steps p n s b (record s { give = give; skip = skip })
+  taken b e give skip left =
+      let at = at_none e in
+      let later : IsAt p (suc n) (record s { give = give; skip = skip }) None = (at.0, at.1, omega (arith, at.2, left)) in
+      record {
+        stands = record { filed = z.filed; sound = z.sound; are = z.are; at = subst (IsAt p (suc n) (record s { give = give; skip = skip })) (sym e) later };
+        follows = λ bytes x. record {
+          unfaulted = e;
+          fill = b ∷ x.fill;
+          more = x.more;
+          size = omega (arith, x.size, left);
+          joined = ap (λ l. b ∷ l) x.joined;
+          rest = x.rest;
+        };
+      }
+
   steps_by : (b : ℕ) → b < 256 → (f : Option CaptureFault) (raw : Bool) (give skip : ℕ) → s.fault ≡ f → is_raw s.head.stage ≡ raw
       → s.give ≡ give → s.skip ≡ skip → Steps p n s b (stepped s b (turn_by f raw give skip))
   steps_by b low (Some f) raw give skip e r g k =
@@ -201,48 +204,8 @@ module _ (heads : HeadsGo) (p n : ℕ) (s : Scan) (z : Standing p n s) where
         follows = λ bytes x. absurd (let u = x.unfaulted in let none : ◌≡◌ {A = Option CaptureFault} (Some f) None = sym e ∙ u in cc);
       }
   steps_by b low None true give skip e r g k = absurd (let f = z.filed in cc)
-  steps_by b low None false (suc give) skip e r g k =
-      let at = at_none e in
-      let even = at.2 in
-      record {
-        stands = record {
-          filed = z.filed;
-          sound = z.sound;
-          are = z.are;
-          at = subst (IsAt p (suc n) (record s { give = s.give - 1 }))
-              (sym e) (at.0, at.1, omega (arith, even, g));
-        };
-        follows = λ bytes x. record {
-          unfaulted = e;
-          fill = b ∷ x.fill;
-          more = x.more;
-          size = let size = x.size in
-              omega (arith, size, g);
-          joined = ap (λ l. b ∷ l) x.joined;
-          rest = x.rest;
-        };
-      }
-  steps_by b low None false zero (suc skip) e r g k =
-      let at = at_none e in
-      let even = at.2 in
-      record {
-        stands = record {
-          filed = z.filed;
-          sound = z.sound;
-          are = z.are;
-          at = subst (IsAt p (suc n) (record s { skip = s.skip - 1 }))
-              (sym e) (at.0, at.1, omega (arith, even, g, k));
-        };
-        follows = λ bytes x. record {
-          unfaulted = e;
-          fill = b ∷ x.fill;
-          more = x.more;
-          size = let size = x.size in
-              omega (arith, size, g, k);
-          joined = ap (λ l. b ∷ l) x.joined;
-          rest = x.rest;
-        };
-      }
+  steps_by b low None false (suc give) skip e r g k = taken b e (s.give - 1) s.skip (omega (arith, g))
+  steps_by b low None false zero (suc skip) e r g k = taken b e s.give (s.skip - 1) (omega (arith, g, k))
   steps_by b low None false zero zero e r g k =
       let at = at_none e in
       let even = at.2 in
@@ -260,17 +223,10 @@ module _ (heads : HeadsGo) (p n : ℕ) (s : Scan) (z : Standing p n s) where
       let more : at.0 + length h ≡ suc n = omega (arith, even, longer, g, k) in
       record {
         stands = subst (λ m. Standing p m (decoded (record s { head = begun s.head.stage }) h)) more go.stands;
-        follows =
-            λ bytes x. head_then bytes (go.follows bytes x);
+        follows = λ bytes x. head_then bytes (go.follows bytes x);
       })
       (λ less. record {
-        stands = record {
-          filed = z.filed;
-          sound = z.sound;
-          are = are;
-          at = subst (IsAt p (suc n) part) (sym e)
-              (at.0, at.1, omega (arith, even, longer));
-        };
+        stands = record { filed = z.filed; sound = z.sound; are = are; at = subst (IsAt p (suc n) part) (sym e) (at.0, at.1, omega (arith, even, longer)) };
         follows = λ bytes x. head_then bytes (unfilled part bytes g k x);
       })
 
@@ -283,10 +239,7 @@ EndsAt p n s (Some f) = (w : ℕ) × (f.at ≡ place (p + w)) × (w ≤ n)
 
 module _ (p n : ℕ) (s : Scan) (z : Standing p n s) where
   abbrev cut : Scan
-  cut = record s {
-    fault =
-        Some (record { at = place (s.next + length s.head.bytes + 2 ^ 64 - place (s.give + s.skip)); reason = Truncated });
-  }
+  cut = record s { fault = Some (record { at = place (s.next + length s.head.bytes + 2 ^ 64 - place (s.give + s.skip)); reason = Truncated }) }
 
   cut_at : s.fault ≡ None → EndsAt p n s cut.fault
   cut_at e =

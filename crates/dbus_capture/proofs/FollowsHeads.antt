@@ -15,23 +15,23 @@ use Rattle.dbus_capture.specs.declared.fault.CaptureReason.TheVariants as reason
 use Rattle.dbus_capture.specs.declared.interface.Interface.{Interface}
 use Rattle.dbus_capture.specs.declared.scan.Scan.{Scan}
 use Rattle.dbus_capture.specs.Numbers.{u32_bytes, u16_bytes, u32_at, u16_at}
-use Rattle.dbus_capture.specs.Stages.{is_raw, begun}
+use Rattle.dbus_capture.specs.Stages.{is_raw, begun, want}
 use Rattle.dbus_capture.specs.Scans.{place, refused}
 use Rattle.dbus_capture.specs.Heads.{file_header, file_header_by, file_header_in, record_head, packet_head}
 use Rattle.dbus_capture.specs.declared.packet.PacketHead.{PacketHead}
 use Rattle.dbus_capture.specs.Blocks.{padded, is_length, section_in, section_by, section_head, block_by, block_head, trailer, after_option}
 use Rattle.dbus_capture.specs.Blocks.{interface_head, option_head, pass_option, resolution_head, interface_trailer, block_packet, time_of}
-use Rattle.dbus_capture.specs.Blocks.{enhanced_by, enhanced_head, obsolete_head, captured_length, simple_by, simple_head, decoded}
+use Rattle.dbus_capture.specs.Blocks.{enhanced_by, enhanced_head, obsolete_head, captured_length, simple_by, simple_head, decoded, decoded_by}
 use Rattle.dbus_capture.specs.CutPackets.{IsCaptured}
-use Rattle.dbus_capture.specs.Outcomes.{AreBytes}
+use Rattle.dbus_capture.specs.Outcomes.{AreBytes, PcapngFile}
 use Rattle.dbus_capture.specs.PcapFiles.{magic_number}
 use Rattle.dbus_capture.specs.BlockFiles.{InterfaceBlock, PacketBlock, OtherBlock, PacketForm, EnhancedHead, ObsoleteHead, SimpleHead, head_kind, head_bytes, head_interface, FitsHead, block_kind}
 use Rattle.dbus_capture.specs.BlockFiles.{block_body, blocks_bytes, InterfaceOption, options_bytes, end_bytes, FitsOption}
 use Rattle.dbus_capture.specs.BlockFiles.{with_option, with_options, FileSection, section_body, sections_bytes}
 use Rattle.dbus_capture.proofs.Choices.{eq_told, eq_untold, lt_untold, le_untold, when, when_true, when_false}
 use Rattle.dbus_capture.proofs.NumberLaws.{u32_size, u16_size}
-use Rattle.dbus_capture.proofs.ByteLaws.{u32_low, u16_low, u32_there, u16_there, u32_ends, u16_ends}
-use Rattle.dbus_capture.proofs.Follows.{Context, context, Packets, Sections, Blocks, Closing, Options, TimeUnit, Body}
+use Rattle.dbus_capture.proofs.ByteLaws.{u32_low, u16_low, u32_as, u16_as, u32_ends, u16_ends}
+use Rattle.dbus_capture.proofs.Follows.{Context, context, Packets, Blocks, Closing, Options, TimeUnit, Body}
 use Rattle.dbus_capture.proofs.Follows.{FollowsHead, FollowsFrom, Follows, IsSound, IsAt, Goes, unfilled, HeadsGo}
 
 cat : (a b c d : List ℕ) → a ≡ b → c ≡ d → a ++ c ≡ b ++ d
@@ -152,11 +152,9 @@ module _ (p w : ℕ) (s : Scan) (h : List ℕ) (clean : s.fault ≡ None) (none 
       let left = length-drop 8 h in
       let unread = take 12 (drop 8 h) in
       let h_is : h ≡ u32_bytes o (magic_number n) ++ (u16_bytes o 2 ++ (u16_bytes o 4 ++ (unread ++ u32_bytes o 231))) =
-      u32_there Little h are 0 _ refl (omega (arith, size)) ∙ ap (λ l. l ++ drop 4 h) spelled
-      ∙ ap (λ l. u32_bytes o (magic_number n) ++ l) (u16_there o h are 4 2 (eq_told _ _ versions.0) (omega (arith, size))
-      ∙ ap (λ l. u16_bytes o 2 ++ l) (u16_there o h are 6 4 (eq_told _ _ versions.1) (omega (arith, size))
-      ∙ ap (λ l. u16_bytes o 4 ++ l) (sym (take-append-drop 12 (drop 8 h))
-      ∙ ap (λ l. unread ++ l) (drop-drop 12 8 h ∙ u32_ends o h are 20 231 (eq_told _ _ link) size)))) in
+      u32_as Little h are 0 spelled (omega (arith, size)) (u16_as o h are 4 (ap (u16_bytes o) (eq_told _ _ versions.0)) (omega (arith, size))
+      (u16_as o h are 6 (ap (u16_bytes o) (eq_told _ _ versions.1)) (omega (arith, size)) (sym (take-append-drop 12 (drop 8 h))
+      ∙ ap (λ l. unread ++ l) (drop-drop 12 8 h ∙ u32_ends o h are 20 (ap (u32_bytes o) (eq_told _ _ link)) size)))) in
       record {
         head = record { order = o; nanoseconds = n; unread = unread };
         packets = q.packets;
@@ -178,17 +176,6 @@ module _ (p w : ℕ) (s : Scan) (h : List ℕ) (clean : s.fault ≡ None) (none 
       (λ _. when P (m == 0x4d3cb2a1) _ _ (λ e. file_in Big true size (ap (u32_bytes Little) (eq_told _ _ e)))
       (λ _. refuse stages.FileHeader 0 reasons.Magic refl tt (omega arith)))))
 
-  -- four words, of which the third is this
-  words : (o : ByteOrder) (k a b c n : ℕ) → a ≡ k + 4 → b ≡ a + 4 → c ≡ b + 4 → u32_at o b h ≡ n → length h ≡ c + 4
-      → drop k h ≡ u32_bytes o (u32_at o k h) ++ (u32_bytes o (u32_at o a h) ++ (u32_bytes o n ++ u32_bytes o (u32_at o c h)))
-  words o k a b c n x y z e size =
-      u32_there o h are k _ refl (omega (arith, size, x, y, z)) ∙ ap (λ (v : ℕ). u32_bytes o (u32_at o k h) ++ drop v h) (sym x)
-      ∙ ap (λ l. u32_bytes o (u32_at o k h) ++ l) (u32_there o h are a _ refl (omega (arith, size, y, z))
-      ∙ ap (λ (v : ℕ). u32_bytes o (u32_at o a h) ++ drop v h) (sym y)
-      ∙ ap (λ l. u32_bytes o (u32_at o a h) ++ l) (u32_there o h are b n e (omega (arith, size, z))
-      ∙ ap (λ (v : ℕ). u32_bytes o n ++ drop v h) (sym z)
-      ∙ ap (λ l. u32_bytes o n ++ l) (u32_ends o h are c _ refl size)))
-
   packet_first : length h ≡ 16 → IsCaptured s.passes_cut (u32_at s.order 12 h) (u32_at s.order 8 h) → (more fill after : List ℕ)
       → length fill ≡ u32_at s.order 8 h → more ≡ fill ++ after → Packets s.passes_cut s.order after
       → Packets s.passes_cut s.order (h ++ more)
@@ -197,16 +184,11 @@ module _ (p w : ℕ) (s : Scan) (h : List ℕ) (clean : s.fault ≡ None) (none 
       record {
         packets = record { seconds = u32_at o 0 h; fraction = u32_at o 4 h; original = u32_at o 12 h; bytes = fill } ∷ q.packets;
         fit = (
-          record {
-            seconds = u32_low o h are 0;
-            fraction = u32_low o h are 4;
-            original = u32_low o h are 12;
-            captured =
-                subst (IsCaptured s.passes_cut (u32_at o 12 h)) (sym long) whole;
-          },
+          record { seconds = u32_low o h are 0; fraction = u32_low o h are 4; original = u32_low o h are 12; captured = subst (IsCaptured s.passes_cut (u32_at o 12 h)) (sym long) whole },
           q.fit,
         );
-        joined = cat _ _ _ _ (words o 0 4 8 12 (length fill) refl refl refl (sym long) size) (m ∙ ap (λ l. fill ++ l) q.joined);
+        joined = cat _ _ _ _ (u32_as o h are 0 refl (omega (arith, size)) (u32_as o h are 4 refl (omega (arith, size))
+            (u32_as o h are 8 (ap (u32_bytes o) (sym long)) (omega (arith, size)) (u32_ends o h are 12 refl size)))) (m ∙ ap (λ l. fill ++ l) q.joined);
       }
 
   record_goes : length h ≡ 16 → G stages.Record (record_head (at stages.Record) h)
@@ -215,17 +197,6 @@ module _ (p w : ℕ) (s : Scan) (h : List ℕ) (clean : s.fault ≡ None) (none 
       (λ more fill after joined long whole q. packet_first size whole more fill after long joined q)
 
   -- ---- the first block of a section
-
-  section_at : (o : ByteOrder) → length h ≡ 24 → u32_bytes Little (u32_at Little 0 h) ≡ u32_bytes o 0x0a0d0d0a → (n : ℕ)
-      → u32_at o 4 h ≡ n → u32_bytes Little (u32_at Little 8 h) ≡ u32_bytes o 0x1a2b3c4d → u16_at o 12 h ≡ 1
-      → h ≡ u32_bytes o 0x0a0d0d0a ++
-      (u32_bytes o n ++ (u32_bytes o 0x1a2b3c4d ++ (u16_bytes o 1 ++ (u16_bytes o (u16_at o 14 h) ++ drop 16 h))))
-  section_at o size kind n total mark major =
-      u32_there Little h are 0 _ refl (omega (arith, size)) ∙ ap (λ l. l ++ drop 4 h) kind
-      ∙ ap (λ l. u32_bytes o 0x0a0d0d0a ++ l) (u32_there o h are 4 n total (omega (arith, size))
-      ∙ ap (λ l. u32_bytes o n ++ l) (u32_there Little h are 8 _ refl (omega (arith, size)) ∙ ap (λ l. l ++ drop 12 h) mark
-      ∙ ap (λ l. u32_bytes o 0x1a2b3c4d ++ l) (u16_there o h are 12 1 major (omega (arith, size))
-      ∙ ap (λ l. u16_bytes o 1 ++ l) (u16_there o h are 14 _ refl (omega (arith, size))))))
 
   minor_told : (n : ℕ) → ((n == 0) || (n == 2)) ≡ true → (n ≡ 0) ⊎ (n ≡ 2)
   minor_told n e = elim (or_cases (n == 0) (n == 2) e) [ inl a ↦ inl (eq_told n 0 a) | inr a ↦ inr (eq_told n 2 a) ]
@@ -255,15 +226,13 @@ module _ (p w : ℕ) (s : Scan) (h : List ℕ) (clean : s.fault ≡ None) (none 
         fits = record {
           minor = minor_told minor versions.1;
           size = eight;
-          body = record {
-            size = let low = u32_low o h are 4 in omega (arith, body, low);
-            whole = ap (λ (v : ℕ). v % 4) body
-                ∙ whole.0;
-          };
+          body = record { size = omega (arith, body, u32_low o h are 4); whole = ap (λ (v : ℕ). v % 4) body ∙ whole.0 };
           blocks = q.blocks.fit;
         };
         fit = q.blocks.fits;
-        joined = cat _ _ _ _ (section_at o size kind (12 + length (section_body x)) (sym body) mark (eq_told _ _ versions.0))
+        joined = cat _ _ _ _ (u32_as Little h are 0 kind (omega (arith, size)) (u32_as o h are 4 (ap (u32_bytes o) (sym body)) (omega (arith, size))
+            (u32_as Little h are 8 mark (omega (arith, size)) (u16_as o h are 12 (ap (u16_bytes o) (eq_told _ _ versions.0)) (omega (arith, size))
+            (u16_as o h are 14 refl (omega (arith, size)) refl)))))
             (f.joined ∙ ap (λ l. f.fill ++ l) (q.joined ∙ ap (λ (v : ℕ). u32_bytes o v ++ q.tail) (sym body)
             ∙ ap (λ l. u32_bytes o (12 + length (section_body x)) ++ l) q.blocks.joined))
             ∙ regroup_section (u32_bytes o 0x0a0d0d0a) (u32_bytes o (12 + length (section_body x))) (u32_bytes o 0x1a2b3c4d)
@@ -300,8 +269,7 @@ module _ (p w : ℕ) (s : Scan) (h : List ℕ) (clean : s.fault ≡ None) (none 
         sections = q.closing.blocks.sections;
         fit = (q.fits, record { size = omega (arith, same, low); whole = ap (λ (v : ℕ). v % 4) same ∙ whole }, q.closing.blocks.fit);
         fits = q.closing.blocks.fits;
-        joined = cat _ _ _ _ (u32_there o h are 0 (block_kind q.block) (type ∙ sym q.kind_is) (omega (arith, size))
-            ∙ ap (λ l. u32_bytes o (block_kind q.block) ++ l) (u32_ends o h are 4 n (sym same) size))
+        joined = cat _ _ _ _ (u32_as o h are 0 (ap (u32_bytes o) (type ∙ sym q.kind_is)) (omega (arith, size)) (u32_ends o h are 4 (ap (u32_bytes o) (sym same)) size))
             (q.joined ∙ ap (λ l. block_body o q.block ++ l) (q.closing.joined ∙ ap (λ (v : ℕ). u32_bytes o v ++ q.closing.tail)
             (sym same) ∙ ap (λ l. u32_bytes o n ++ l) q.closing.blocks.joined))
             ∙ regroup_block (u32_bytes o (block_kind q.block)) (u32_bytes o n) (block_body o q.block) bl se;
@@ -315,7 +283,7 @@ module _ (p w : ℕ) (s : Scan) (h : List ℕ) (clean : s.fault ≡ None) (none 
       let P : Option (Stage × ℕ) → Type 0 = λ (v : Option (Stage × ℕ)). G stages.Block (block_by (at stages.Block) total v) in
       when (G stages.Block) (kind == 0x0a0d0d0a) _ _
       (λ e. go stages.Block _ 0 refl tt are clean (omega (arith, next_is)) (omega (arith, none, no_skip)) (λ more f.
-      let q : Sections s.passes_cut (h ++ more) = unfilled _ more none no_skip f in
+      let q : PcapngFile s.passes_cut (h ++ more) = unfilled _ more none no_skip f in
       record { blocks = []; sections = q.first ∷ q.sections; fit = tt; fits = (q.fits, q.fit); joined = q.joined }))
       (λ no_section. when P (kind == 1) _ _ (λ e. reads stages.InterfaceHead 20 1 refl (λ whole least. (least, refl, whole))
       (λ bytes f. f) (eq_told _ _ e))
@@ -353,12 +321,7 @@ module _ (p w : ℕ) (s : Scan) (h : List ℕ) (clean : s.fault ≡ None) (none 
   trailer_goes size =
       when (G stages.Trailer) (u32_at s.order 0 h == s.total) _ _
       (λ e. go stages.Trailer _ 4 refl tt tt clean refl (omega (arith, size, none, no_skip))
-      (λ more f. record {
-        tail = more;
-        joined = ap (λ l. l ++ more) (u32_ends s.order h are 0 s.total (eq_told _ _ e) size);
-        blocks =
-            unfilled _ more none no_skip f;
-      }))
+      (λ more f. record { tail = more; joined = ap (λ l. l ++ more) (u32_ends s.order h are 0 (ap (u32_bytes s.order) (eq_told _ _ e)) size); blocks = unfilled _ more none no_skip f }))
       (λ other. refuse stages.Trailer 0 reasons.BlockLengths refl tt (omega arith))
 
   -- ---- an interface
@@ -370,12 +333,7 @@ module _ (p w : ℕ) (s : Scan) (h : List ℕ) (clean : s.fault ≡ None) (none 
       (λ many. refuse stages.InterfaceTrailer 0 reasons.TooManyInterfaces refl tt (omega arith))
       (λ few. go stages.InterfaceTrailer _ 4 refl tt tt clean refl (omega (arith, size, none, no_skip)) (λ more f. (
         le_untold 64 (length s.interfaces) few,
-        record {
-          tail = more;
-          joined = ap (λ l. l ++ more) (u32_ends s.order h are 0 s.total (eq_told _ _ e) size);
-          blocks =
-              unfilled _ more none no_skip f;
-        },
+        record { tail = more; joined = ap (λ l. l ++ more) (u32_ends s.order h are 0 (ap (u32_bytes s.order) (eq_told _ _ e)) size); blocks = unfilled _ more none no_skip f },
       ))))
       (λ other. refuse stages.InterfaceTrailer 0 reasons.BlockLengths refl tt (omega arith))
 
@@ -392,9 +350,7 @@ module _ (p w : ℕ) (s : Scan) (h : List ℕ) (clean : s.fault ≡ None) (none 
       let options = options_bytes o q.options ++ end_bytes o q.end in
       let q_size : length options ≡ s.rest = q.size in
       let front = u16_bytes o (u16_at o 0 h) ++ (u16_bytes o (u16_at o 2 h) ++ u32_bytes o (u32_at o 4 h)) in
-      let h_is : h ≡ front = u16_there o h are 0 _ refl (omega (arith, size)) ∙ ap (λ l. u16_bytes o (u16_at o 0 h) ++ l)
-      (u16_there o h are 2 _ refl (omega (arith, size)) ∙ ap (λ l. u16_bytes o (u16_at o 2 h) ++ l)
-      (u32_ends o h are 4 _ refl size)) in
+      let h_is : h ≡ front = u16_as o h are 0 refl (omega (arith, size)) (u16_as o h are 2 refl (omega (arith, size)) (u32_ends o h are 4 refl size)) in
       let eight : length front ≡ 8 = sym (ap length h_is) ∙ size in
       let all = length-append front options in
       record {
@@ -418,8 +374,7 @@ module _ (p w : ℕ) (s : Scan) (h : List ℕ) (clean : s.fault ≡ None) (none 
       let q_size = q.size in
       let filled = fits.filled in
       let front = u16_bytes order o.code ++ u16_bytes order (length o.value) in
-      let h_is : h ≡ front = u16_there order h are 0 _ code (omega (arith, size)) ∙ ap (λ l. u16_bytes order o.code ++ l)
-      (u16_ends order h are 2 _ long size) in
+      let h_is : h ≡ front = u16_as order h are 0 (ap (u16_bytes order) code) (omega (arith, size)) (u16_ends order h are 2 (ap (u16_bytes order) long) size) in
       let four : length front ≡ 4 = sym (ap length h_is) ∙ size in
       record {
         options = o ∷ q.options;
@@ -427,10 +382,7 @@ module _ (p w : ℕ) (s : Scan) (h : List ℕ) (clean : s.fault ≡ None) (none 
         tail = q.tail;
         fit = (fits, q.fit);
         ends = q.ends;
-        size = let value_filled = length-append o.value o.filler in let a = length-append front (o.value ++ o.filler) in
-            let b = length-append (front ++ (o.value ++ o.filler)) others in
-            let c = length-append ((front ++ (o.value ++ o.filler)) ++ others) end in let d = length-append others end in
-            omega (arith, a, b, c, d, value_filled, four, filled, q_size, left);
+        size = grind (arith, length-append, four, filled, q_size, left);
         joined = cat _ _ _ _ h_is (b ∙ ap (λ l. (o.value ++ o.filler) ++ l) q.joined) ∙ regroup_option (u16_bytes order o.code)
             (u16_bytes order (length o.value)) o.value o.filler others end q.tail;
         few = q.few;
@@ -445,23 +397,17 @@ module _ (p w : ℕ) (s : Scan) (h : List ℕ) (clean : s.fault ≡ None) (none 
       let n = u16_at o 2 h in
       let some = sound.1 in
       let four : 4 ≤ s.rest = let whole = sound.0 in omega (arith, whole, some) in
-      let h_is : h ≡ u16_bytes o code ++ u16_bytes o n = u16_there o h are 0 _ refl (omega (arith, size))
-      ∙ ap (λ l. u16_bytes o code ++ l) (u16_ends o h are 2 _ refl size) in
+      let h_is : h ≡ u16_bytes o code ++ u16_bytes o n = u16_as o h are 0 refl (omega (arith, size)) (u16_ends o h are 2 refl size) in
       when (G stages.OptionHead) (code == 0) _ _
       (λ e. go stages.OptionHead _ s.rest refl tt tt clean refl (omega (arith, size, none, four)) (λ more f.
       let q : (length s.interfaces < 64) × Closing s.passes_cut o s.total (s.interfaces ++ s.interface ∷ []) f.more = f.rest in
-      let long = f.size in
-      let two = u16_size o n in
-      let two_zero = u16_size o 0 in
-      let unread = length-append (u16_bytes o n) f.fill in
-      let all = length-append (u16_bytes o 0) (u16_bytes o n ++ f.fill) in
       record {
         options = [];
         end = Some (u16_bytes o n ++ f.fill);
         tail = f.more;
         fit = tt;
-        ends = omega (arith, two, unread);
-        size = omega (arith, all, unread, two, two_zero, long, none, four);
+        ends = grind (arith, length-append, u16_size);
+        size = grind (arith, length-append, u16_size, f.size, none, four);
         joined = cat _ _ _ _ (h_is ∙ ap (λ (v : ℕ). u16_bytes o v ++ u16_bytes o n) (eq_told code 0 e)) f.joined
             ∙ regroup_end (u16_bytes o 0) (u16_bytes o n) f.fill f.more;
         few = q.0;
@@ -597,12 +543,17 @@ module _ (p w : ℕ) (s : Scan) (h : List ℕ) (clean : s.fault ≡ None) (none 
       subst (λ (v : ℕ). G stage (block_packet (at stage) i.link_type (record { before = 8; size = v; captured_at = 12; original_at = 12; room = s.total - (v + 12); time = time; captured = u32_at s.order 12 h; original = u32_at s.order 16 h }))) size
       (packet_goes stage 12 form i time (u32_at s.order 12 h) (u32_at s.order 16 h) filed sound (omega (arith, size)) (omega (arith, size)) (omega (arith, size, least)) e (u32_low s.order h are 16) (words i) taken)
 
+  four_words : (o : ByteOrder) → length h ≡ 20 → (n : ℕ) → u32_at o 12 h ≡ n
+      → drop 4 h ≡ u32_bytes o (u32_at o 4 h) ++ (u32_bytes o (u32_at o 8 h) ++ (u32_bytes o n ++ u32_bytes o (u32_at o 16 h)))
+  four_words o size n e = u32_as o h are 4 refl (omega (arith, size)) (u32_as o h are 8 refl (omega (arith, size))
+      (u32_as o h are 12 (ap (u32_bytes o) e) (omega (arith, size)) (u32_ends o h are 16 refl size)))
+
   enhanced_goes : length h ≡ 20 → 32 ≤ s.total → G stages.Enhanced (enhanced_head (at stages.Enhanced) h)
   enhanced_goes size least =
       let o = s.order in
       let number = u32_at o 0 h in
       enhanced_by_goes stages.Enhanced (EnhancedHead number (u32_at o 4 h) (u32_at o 8 h)) refl least least size
-      (λ i n e. (u32_there o h are 0 _ refl (omega (arith, size)) ∙ ap (λ l. u32_bytes o number ++ l) (words o 4 8 12 16 n refl refl refl e size), u32_low o h are 0))
+      (λ i n e. (u32_as o h are 0 refl (omega (arith, size)) (four_words o size n e), u32_low o h are 0))
       (λ bytes b. b) (slice_get s.interfaces number) refl
 
   obsolete_goes : length h ≡ 20 → 32 ≤ s.total → G stages.ObsoletePacket (obsolete_head (at stages.ObsoletePacket) h)
@@ -612,8 +563,7 @@ module _ (p w : ℕ) (s : Scan) (h : List ℕ) (clean : s.fault ≡ None) (none 
       let drops = u16_at o 2 h in
       enhanced_by_goes stages.ObsoletePacket (ObsoleteHead number drops (u32_at o 4 h) (u32_at o 8 h)) refl least least size
       (λ i n e. (
-        u16_there o h are 0 _ refl (omega (arith, size)) ∙ ap (λ l. u16_bytes o number ++ l) (u16_there o h are 2 _ refl (omega (arith, size))
-            ∙ ap (λ l. u16_bytes o drops ++ l) (words o 4 8 12 16 n refl refl refl e size)) ∙ sym (append_assoc (u16_bytes o number) (u16_bytes o drops) _),
+        u16_as o h are 0 refl (omega (arith, size)) (u16_as o h are 2 refl (omega (arith, size)) (four_words o size n e)) ∙ sym (append_assoc (u16_bytes o number) (u16_bytes o drops) _),
         u16_low o h are 0,
       ))
       (λ bytes b. b) (slice_get s.interfaces number) refl
@@ -625,27 +575,26 @@ module _ (p w : ℕ) (s : Scan) (h : List ℕ) (clean : s.fault ≡ None) (none 
       let n = captured_length i.snap_length original in
       subst (λ (v : ℕ). G stages.Simple (block_packet (at stages.Simple) i.link_type (record { before = 8; size = v; captured_at = 0; original_at = 0; room = s.total - (v + 12); time = None; captured = n; original = original }))) size
       (packet_goes stages.Simple 0 SimpleHead i None n original refl least (omega arith) (omega (arith, size)) (omega (arith, size, least)) e (u32_low s.order h are 0)
-      (λ m same. (u32_ends s.order h are 0 _ refl size, same)) (λ bytes b. b))
+      (λ m same. (u32_ends s.order h are 0 refl size, same)) (λ bytes b. b))
 
   simple_goes : length h ≡ 4 → 16 ≤ s.total → G stages.Simple (simple_head (at stages.Simple) h)
   simple_goes size least = simple_goes_by size least (slice_get s.interfaces 0) refl
 
+  goes : (stage : Stage) → is_raw stage ≡ false → IsSound stage s.total s.rest → length h ≡ want stage → G stage (decoded_by stage (at stage) h)
+  goes stages.Raw filed sound size = absurd (let no : ◌≡◌ {A = Bool} true false = filed in cc)
+  goes stages.FileHeader filed sound size = file_goes size
+  goes stages.Record filed sound size = record_goes size
+  goes stages.Section filed sound size = section_goes size
+  goes stages.Block filed sound size = block_goes size
+  goes stages.InterfaceHead filed sound size = interface_goes size sound
+  goes stages.OptionHead filed sound size = option_goes size sound
+  goes stages.Resolution filed sound size = resolution_goes size sound
+  goes stages.InterfaceTrailer filed sound size = interface_ends size
+  goes stages.Enhanced filed sound size = enhanced_goes size sound
+  goes stages.ObsoletePacket filed sound size = obsolete_goes size sound
+  goes stages.Simple filed sound size = simple_goes size sound
+  goes stages.Trailer filed sound size = trailer_goes size
+
 pub heads_go : HeadsGo
 unfolding decoded
-heads_go stages.Raw p w s h filed sound clean none no_skip next are size = absurd (let no : ◌≡◌ {A = Bool} true false = filed in cc)
-heads_go stages.FileHeader p w s h filed sound clean none no_skip next are size = file_goes p w s h clean none no_skip next are size
-heads_go stages.Record p w s h filed sound clean none no_skip next are size = record_goes p w s h clean none no_skip next are size
-heads_go stages.Section p w s h filed sound clean none no_skip next are size = section_goes p w s h clean none no_skip next are size
-heads_go stages.Block p w s h filed sound clean none no_skip next are size = block_goes p w s h clean none no_skip next are size
-heads_go stages.InterfaceHead p w s h filed sound clean none no_skip next are size =
-    interface_goes p w s h clean none no_skip next are size sound
-heads_go stages.OptionHead p w s h filed sound clean none no_skip next are size = option_goes p w s h clean none no_skip next are size sound
-heads_go stages.Resolution p w s h filed sound clean none no_skip next are size =
-    resolution_goes p w s h clean none no_skip next are size sound
-heads_go stages.InterfaceTrailer p w s h filed sound clean none no_skip next are size =
-    interface_ends p w s h clean none no_skip next are size
-heads_go stages.Enhanced p w s h filed sound clean none no_skip next are size = enhanced_goes p w s h clean none no_skip next are size sound
-heads_go stages.ObsoletePacket p w s h filed sound clean none no_skip next are size =
-    obsolete_goes p w s h clean none no_skip next are size sound
-heads_go stages.Simple p w s h filed sound clean none no_skip next are size = simple_goes p w s h clean none no_skip next are size sound
-heads_go stages.Trailer p w s h filed sound clean none no_skip next are size = trailer_goes p w s h clean none no_skip next are size
+heads_go stage p w s h filed sound clean none no_skip next are size = goes p w s h clean none no_skip next are stage filed sound size

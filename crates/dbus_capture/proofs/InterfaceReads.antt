@@ -13,11 +13,12 @@ use Rattle.dbus_capture.specs.Stages.{is_raw, begun}
 use Rattle.dbus_capture.specs.Scans.{place, refused}
 use Rattle.dbus_capture.specs.declared.fault.CaptureReason.TheVariants as reasons
 use Rattle.dbus_capture.specs.Blocks.{padded, after_option, pass_option, option_in}
-use Rattle.dbus_capture.specs.Steps.{run, told, given}
+use Rattle.dbus_capture.specs.Steps.{run, told, given, Leads}
 use Rattle.dbus_capture.specs.BlockFiles.{FitsBody, InterfaceOption, option_bytes, options_bytes, FitsOption, AllFitOptions, with_option, with_options, end_bytes, FitsEnd, InterfaceBlock, block_bytes, block_body, interfaces_after, FitsBlock}
 use Rattle.dbus_capture.proofs.Choices.{lt_false, eq_is, eq_not, cases_same, when_true, when_false}
 use Rattle.dbus_capture.proofs.NumberLaws.{u32_size, u16_size, u32_again, u16_again}
-use Rattle.dbus_capture.proofs.Leads.{Leads, lead_then, lead_to, lead_of, lead_from, head_leads, bytes_lead, Went, went_on}
+use Rattle.dbus_capture.proofs.StepLaws.{lead_then, lead_to, lead_of, lead_from}
+use Rattle.dbus_capture.proofs.Leads.{head_leads, bytes_lead, Went, went_on}
 use Rattle.dbus_capture.proofs.BlockReads.{at_blocks, opens_as, framed_size, one_told}
 
 two_told : (o : ByteOrder) (a b : ℕ) → a < 2 ^ 16 → b < 2 ^ 16 → let h = u16_bytes o a ++ u16_bytes o b in (length h ≡ 4) × (u16_at o 0 h ≡ a) × (u16_at o 2 h ≡ b)

@@ -7,34 +7,15 @@ use Rattle.dbus_capture.specs.Stages.{want, is_raw, begun}
 use Rattle.dbus_capture.specs.Scans.{place, fresh}
 use Rattle.dbus_capture.specs.Beginnings.{first_stage, first_scan}
 use Rattle.dbus_capture.specs.Blocks.{decoded, decoded_by}
-use Rattle.dbus_capture.specs.Steps.{run, given, told, packet_given, ended}
+use Rattle.dbus_capture.specs.Steps.{run, given, packet_given, ended, Leads}
 use Rattle.dbus_capture.specs.Reading.{IsReadOf}
 use Rattle.dbus_capture.specs.CutPackets.{Captured, IsCaptured, is_cut, whole_payload, whole_count, cut_count}
 use Rattle.dbus_capture.proofs.Choices.{lt_true, lt_false, eq_is, eq_not, when_true, when_false}
 use Rattle.std.proofs.lemmas.Bool.{cases_lt}
 use Rattle.dbus_capture.specs.declared.packet.PacketHead.{PacketHead}
 use Rattle.dbus_capture.specs.Heads.{give_packet, pass_packet, packet_head}
-use Rattle.dbus_capture.proofs.StepLaws.{run-append, given-append, run_gives, run_skips, run_head}
+use Rattle.dbus_capture.proofs.StepLaws.{run-append, lead_nothing, lead_then, lead_to, run_gives, run_skips, run_head}
 use Rattle.dbus_capture.proofs.PacketSteps.{packet_after}
-
-pub record Leads (s : Scan) (bytes out : List ℕ) (t : Scan) : Type 0 where
-  pub ran : run s bytes ≡ t
-  pub gave : given s bytes ≡ out
-
-pub lead_then : {s m t : Scan} {xs ys a b : List ℕ} → Leads s xs a m → Leads m ys b t → Leads s (xs ++ ys) (a ++ b) t
-lead_then {s} {m} {t} {xs} {ys} {a} {b} p q = record {
-  ran = run-append s xs ys ∙ ap (λ (v : Scan). run v ys) p.ran ∙ q.ran;
-  gave = given-append s xs ys ∙ ap (λ l. l ++ given (run s xs) ys) p.gave ∙ ap (λ (v : Scan). a ++ given v ys) p.ran ∙ ap (λ l. a ++ l) q.gave;
-}
-
-pub lead_to : {s t u : Scan} {bytes out : List ℕ} → Leads s bytes out t → t ≡ u → Leads s bytes out u
-lead_to p e = record { ran = p.ran ∙ e; gave = p.gave }
-
-pub lead_of : {s t : Scan} {xs ys out : List ℕ} → xs ≡ ys → Leads s ys out t → Leads s xs out t
-lead_of {s} e p = record { ran = ap (run s) e ∙ p.ran; gave = ap (given s) e ∙ p.gave }
-
-pub lead_from : {s t u : Scan} {bytes out : List ℕ} → s ≡ t → Leads t bytes out u → Leads s bytes out u
-lead_from {s} {t} {u} {bytes} e p = record { ran = ap (λ (v : Scan). run v bytes) e ∙ p.ran; gave = ap (λ (v : Scan). given v bytes) e ∙ p.gave }
 
 -- a head of this kind comes
 abbrev pub ready : Stage → Scan → Scan
@@ -44,21 +25,20 @@ pub head_leads : (stage : Stage) (t : Scan) (h : List ℕ) → is_raw stage ≡ 
     → Leads (ready stage t) h [] (decoded_by stage (ready stage t) h)
 unfolding decoded
 head_leads stage t h filed some size =
-    let law = run_head (ready stage t) h refl filed refl refl (λ e. let no : length h ≡ 0 = ap length e in absurd (omega (arith, some, no))) (omega (arith, size)) in
-    record { ran = law.0; gave = law.1 }
+    run_head (ready stage t) h refl filed refl refl some (omega (arith, size))
 
 -- the bytes of a packet, and those that are passed over
 pub gives_lead : (t : Scan) (bytes : List ℕ) → is_raw t.head.stage ≡ false
     → Leads (record t { give = length bytes; fault = None }) bytes bytes (record t { give = 0; fault = None })
 gives_lead t bytes filed =
-    let law = run_gives (record t { give = length bytes; fault = None }) bytes refl filed (omega arith) in
-    record { ran = law.0 ∙ ap (λ (n : ℕ). record t { give = n; fault = None }) (let z : length bytes - length bytes ≡ 0 = omega arith in z); gave = law.1 }
+    lead_to (run_gives (record t { give = length bytes; fault = None }) bytes refl filed (omega arith))
+    (ap (λ (n : ℕ). record t { give = n; fault = None }) (let z : length bytes - length bytes ≡ 0 = omega arith in z))
 
 pub skips_lead : (t : Scan) (bytes : List ℕ) → is_raw t.head.stage ≡ false
     → Leads (record t { give = 0; skip = length bytes; fault = None }) bytes [] (record t { give = 0; skip = 0; fault = None })
 skips_lead t bytes filed =
-    let law = run_skips (record t { give = 0; skip = length bytes; fault = None }) bytes refl filed refl (omega arith) in
-    record { ran = law.0 ∙ ap (λ (n : ℕ). record t { give = 0; skip = n; fault = None }) (let z : length bytes - length bytes ≡ 0 = omega arith in z); gave = law.1 }
+    lead_to (run_skips (record t { give = 0; skip = length bytes; fault = None }) bytes refl filed refl (omega arith))
+    (ap (λ (n : ℕ). record t { give = 0; skip = n; fault = None }) (let z : length bytes - length bytes ≡ 0 = omega arith in z))
 
 pub bytes_lead : (t : Scan) (bytes rest : List ℕ) (give skip : ℕ) → is_raw t.head.stage ≡ false → give ≡ length bytes → skip ≡ length rest
     → Leads (record t { give = give; skip = skip; fault = None }) (bytes ++ rest) bytes (record t { give = 0; skip = 0; fault = None })
@@ -73,27 +53,21 @@ bytes_lead t bytes rest give skip filed g k =
 -- The bytes are those of these packets and what is around them, and lead to such a place of a file.
 pub record Went (at : Scan → Scan) (s : Scan) (bytes : List ℕ) (packets : List Captured) : Type 0 where
   pub final : Scan
-  pub ran : run s bytes ≡ at final
-  pub gave : given s bytes ≡ whole_payload packets
+  pub leads : Leads s bytes (whole_payload packets) (at final)
   pub passes : (at final).passes_cut ≡ s.passes_cut
   pub next : s.next ≡ place s.next → (at final).next ≡ place (s.next + length bytes)
   pub packets_is : place (at final).packets ≡ place (s.packets + whole_count packets)
   pub cut : s.cut ≡ place s.cut → (at final).cut ≡ place (s.cut + cut_count packets)
 
 pub went_nothing : (at : Scan → Scan) (s : Scan) → Went at (at s) [] []
-unfolding run given told
 went_nothing at s = record {
   final = s;
-  ran = refl;
-  gave = refl;
+  leads = lead_nothing (at s);
   passes = refl;
   next = λ low. omega (arith, low);
   packets_is = omega arith;
   cut = λ low. omega (arith, low);
 }
-
-leads_of : {at : Scan → Scan} {s : Scan} {bytes : List ℕ} {packets : List Captured} (w : Went at s bytes packets) → Leads s bytes (whole_payload packets) (at w.final)
-leads_of w = record { ran = w.ran; gave = w.gave }
 
 payload_both : (xs ys : List Captured) → whole_payload (xs ++ ys) ≡ whole_payload xs ++ whole_payload ys
 payload_both [] ys = refl
@@ -105,13 +79,12 @@ counts_both (p ∷ xs) ys = let e = counts_both xs ys in (omega (arith, e.0), om
 
 pub went_then : {at by : Scan → Scan} {s : Scan} {xs ys : List ℕ} {ps qs : List Captured} (w : Went at s xs ps) → Went by (at w.final) ys qs → Went by s (xs ++ ys) (ps ++ qs)
 went_then {at} {by} {s} {xs} {ys} {ps} {qs} w v =
-    let both = lead_then (leads_of w) (leads_of v) in
+    let both = lead_then w.leads v.leads in
     let counts = counts_both ps qs in
     let size = length-append xs ys in
     record {
       final = v.final;
-      ran = both.ran;
-      gave = both.gave ∙ sym (payload_both ps qs);
+      leads = record { ran = both.ran; gave = both.gave ∙ sym (payload_both ps qs) };
       passes = v.passes ∙ w.passes;
       next = λ low. let e = w.next low in let f = v.next (omega (arith, e)) in omega (arith, e, f, size);
       packets_is = omega (arith, w.packets_is, v.packets_is, counts.0);
@@ -123,8 +96,7 @@ pub went_on : (at : Scan → Scan) (s t : Scan) (bytes : List ℕ) → Leads s b
     → (at t).packets ≡ s.packets → (at t).cut ≡ s.cut → Went at s bytes []
 went_on at s t bytes l same next packets cut = record {
   final = t;
-  ran = l.ran;
-  gave = l.gave;
+  leads = l;
   passes = same;
   next = λ low. next;
   packets_is = omega (arith, packets);
@@ -137,8 +109,7 @@ went_whole at s t bytes p all l same next packets cut =
     let whole : is_cut p ≡ false = lt_false (length p.bytes) p.original (omega (arith, all)) in
     record {
       final = t;
-      ran = l.ran;
-      gave = l.gave ∙ sym (append-nil p.bytes) ∙ sym (ap (λ (v : Bool). cond v [] p.bytes ++ []) whole);
+      leads = record { ran = l.ran; gave = l.gave ∙ sym (append-nil p.bytes) ∙ sym (ap (λ (v : Bool). cond v [] p.bytes ++ []) whole) };
       passes = same;
       next = λ low. next;
       packets_is = let n : cond (is_cut p) 0 1 + 0 ≡ 1 = ap (λ (v : Bool). cond v 0 1 + 0) whole in omega (arith, packets, n);
@@ -151,8 +122,7 @@ went_cut at s t bytes p short l same next packets cut =
     let part : is_cut p ≡ true = lt_true (length p.bytes) p.original short in
     record {
       final = t;
-      ran = l.ran;
-      gave = l.gave ∙ sym (ap (λ (v : Bool). cond v [] p.bytes ++ []) part);
+      leads = record { ran = l.ran; gave = l.gave ∙ sym (ap (λ (v : Bool). cond v [] p.bytes ++ []) part) };
       passes = same;
       next = λ low. next;
       packets_is = let n : cond (is_cut p) 0 1 + 0 ≡ 0 = ap (λ (v : Bool). cond v 0 1 + 0) part in omega (arith, packets, n);
@@ -179,10 +149,10 @@ pub read_whole : (at : Scan → Scan) (stage : Stage) (passes : Bool) (bytes : L
     → first_stage bytes ≡ stage → Went at (fresh passes stage) bytes packets → IsReadOf passes bytes packets
 read_whole at stage passes bytes packets ends first w = record {
   read = record {
-    gives = ap (λ (v : Stage). given (fresh passes v) bytes) first ∙ w.gave;
-    unfaulted = ap (λ (v : Stage). (ended (run (fresh passes v) bytes)).fault) first ∙ ap (λ (v : Scan). (ended v).fault) w.ran ∙ ends w.final;
+    gives = ap (λ (v : Stage). given (fresh passes v) bytes) first ∙ w.leads.gave;
+    unfaulted = ap (λ (v : Stage). (ended (run (fresh passes v) bytes)).fault) first ∙ ap (λ (v : Scan). (ended v).fault) w.leads.ran ∙ ends w.final;
   };
-  counted = ap (λ (v : Stage). (run (fresh passes v) bytes).cut) first ∙ ap (λ (v : Scan). v.cut) w.ran ∙ w.cut refl ∙ ap place (let z : 0 + cut_count packets ≡ cut_count packets = omega arith in z);
+  counted = ap (λ (v : Stage). (run (fresh passes v) bytes).cut) first ∙ ap (λ (v : Scan). v.cut) w.leads.ran ∙ w.cut refl ∙ ap place (let z : 0 + cut_count packets ≡ cut_count packets = omega arith in z);
 }
 
 pub same_packet : {n m a b : ℕ} (time : Option ℕ) (l : ℕ) → n ≡ m → a ≡ b → ◌≡◌ {A = Packet} (record { number = n; at = a; time = time; length = l }) (record { number = m; at = b; time = time; length = l })
@@ -203,13 +173,13 @@ module _ {at : Scan → Scan} {stage : Stage} {passes : Bool} {before head bytes
   out = whole_payload packets
 
   begun_at : Leads (fresh passes stage) (before ++ head) (out ++ []) b.state
-  begun_at = lead_then (leads_of w) b.leads
+  begun_at = lead_then w.leads b.leads
 
   hands : (front back : List ℕ) → bytes ≡ front ++ back → ((run b.state front).packet ≡ Some packet) × (given b.state front ≡ front)
   hands front back e =
       let size = ap length e ∙ length-append front back in
       let law = run_gives b.state front b.unfaulted b.filed (omega (arith, size, b.gives)) in
-      (ap (λ (v : Scan). v.packet) law.0 ∙ b.reported, law.1)
+      (ap (λ (v : Scan). v.packet) law.ran ∙ b.reported, law.gave)
 
   pub reported_from : (front back : List ℕ) → bytes ≡ front ++ back → (run (first_scan passes (before ++ (head ++ front))) (before ++ (head ++ front))).packet ≡ Some packet
   reported_from front back e =

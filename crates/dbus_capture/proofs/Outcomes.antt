@@ -7,11 +7,11 @@ use Rattle.dbus_capture.specs.declared.scan.Scan.{Scan}
 use Rattle.dbus_capture.specs.Stages.{is_raw}
 use Rattle.dbus_capture.specs.Scans.{place, fresh}
 use Rattle.dbus_capture.specs.Beginnings.{first_stage, first_scan}
-use Rattle.dbus_capture.specs.Steps.{run, given, ended}
+use Rattle.dbus_capture.specs.Steps.{run, given, ended, Leads}
 use Rattle.dbus_capture.specs.CutPackets.{Captured, whole_payload}
 use Rattle.dbus_capture.specs.BlockFiles.{interfaces_all, last_section}
 use Rattle.dbus_capture.specs.Outcomes.{AreBytes, IsPcap, IsPcapng, IsBehind, IsOutcome}
-use Rattle.dbus_capture.proofs.StepLaws.{run-append, given-append}
+use Rattle.dbus_capture.proofs.StepLaws.{run-append, given-append, lead_of}
 use Rattle.dbus_capture.proofs.Leads.{Went}
 use Rattle.dbus_capture.proofs.PcapReads.{at_packets, file_read as pcap_file}
 use Rattle.dbus_capture.proofs.BlockReads.{at_blocks}
@@ -22,8 +22,7 @@ use Rattle.dbus_capture.proofs.FollowsHeads.{heads_go}
 -- a front was read
 record Fronted (s : Scan) (front payload : List ℕ) : Type 0 where
   final : Scan
-  ran : run s front ≡ final
-  gave : given s front ≡ payload
+  leads : Leads s front payload final
   stands : Standing (length front) 0 final
 
 module _ (passes : Bool) (first : Stage) (filed : is_raw first ≡ false) (sound : IsSound first 0 0) (IsFile : List ℕ → List ℕ → Type 0)
@@ -43,8 +42,8 @@ module _ (passes : Bool) (first : Stage) (filed : is_raw first ≡ false) (sound
       → bytes ≡ front ++ rest → IsBehind front rest payload (given s bytes) f
   behind front rest payload f e file joined =
       let w = fronted front payload file in
-      let runs : run s bytes ≡ run w.final rest = ap (run s) joined ∙ run-append s front rest ∙ ap (λ (v : Scan). run v rest) w.ran in
-      let gives = ap (given s) joined ∙ given-append s front rest ∙ ap (λ l. l ++ given (run s front) rest) w.gave in
+      let runs : run s bytes ≡ run w.final rest = ap (run s) joined ∙ run-append s front rest ∙ ap (λ (v : Scan). run v rest) w.leads.ran in
+      let gives = ap (given s) joined ∙ given-append s front rest ∙ ap (λ l. l ++ given (run s front) rest) w.leads.gave in
       let k = (reaches heads_go (length front) 0 w.final rest w.stands
       (are_rest front rest bytes joined are)).within f (sym (ap (λ (v : Scan). (ended v).fault) runs) ∙ e) in
       let low = k.2 in
@@ -66,20 +65,19 @@ fronted_by at s front bytes payload packets stands zero same gives w =
     let size = ap length same in
     record {
       final = at w.final;
-      ran = ap (run s) same ∙ w.ran;
-      gave = ap (given s) same ∙ w.gave ∙ sym gives;
+      leads = lead_of same (record { ran = w.leads.ran; gave = w.leads.gave ∙ sym gives });
       stands = stands w.final (length front) (let e = w.next (omega (arith, zero)) in omega (arith, e, zero, size));
     }
 
 pcap_fronted : (passes : Bool) (front payload : List ℕ) → IsPcap passes front payload → Fronted (fresh passes FileHeader) front payload
-pcap_fronted passes front payload f =
-    fronted_by (at_packets f.head.order f.head.nanoseconds) (fresh passes FileHeader) front _ payload _ (λ t n e. record { filed = refl; sound = tt; are = tt; at = (0, omega (arith, e), omega arith) }) refl f.joined f.gives
+pcap_fronted passes front payload (f, gives) =
+    fronted_by (at_packets f.head.order f.head.nanoseconds) (fresh passes FileHeader) front _ payload _ (λ t n e. record { filed = refl; sound = tt; are = tt; at = (0, omega (arith, e), omega arith) }) refl f.joined gives
     (pcap_file passes f.head f.fits f.packets f.fit)
 
 pcapng_fronted : (passes : Bool) (front payload : List ℕ) → IsPcapng passes front payload → Fronted (fresh passes Section) front payload
-pcapng_fronted passes front payload f =
+pcapng_fronted passes front payload (f, gives) =
     let last = last_section f.first f.sections in
-    fronted_by (at_blocks last.order (interfaces_all [] last.blocks)) (fresh passes Section) front _ payload _ (λ t n e. record { filed = refl; sound = tt; are = tt; at = (0, omega (arith, e), omega arith) }) refl f.joined f.gives
+    fronted_by (at_blocks last.order (interfaces_all [] last.blocks)) (fresh passes Section) front _ payload _ (λ t n e. record { filed = refl; sound = tt; are = tt; at = (0, omega (arith, e), omega arith) }) refl f.joined gives
     (pcapng_file passes f.first f.sections f.fits f.fit)
 
 pub pcap_outcome : (passes : Bool) (bytes : List ℕ) → AreBytes bytes → first_stage bytes ≡ FileHeader
@@ -87,31 +85,11 @@ pub pcap_outcome : (passes : Bool) (bytes : List ℕ) → AreBytes bytes → fir
 pcap_outcome passes bytes are first =
     subst (λ (v : Stage). IsOutcome (IsPcap passes) bytes (given (fresh passes v) bytes) (ended (run (fresh passes v) bytes)).fault)
     (sym first)
-    (outcome passes FileHeader refl tt (IsPcap passes) (pcap_fronted passes) bytes are (λ f.
-    let t = pcap_file passes f.head f.fits f.packets f.fit in
-    record {
-      head = f.head;
-      packets = f.packets;
-      fits = f.fits;
-      fit = f.fit;
-      joined = f.joined;
-      gives =
-          ap (given (fresh passes FileHeader)) f.joined ∙ t.gave;
-    }))
+    (outcome passes FileHeader refl tt (IsPcap passes) (pcap_fronted passes) bytes are (λ f. (f, ap (given (fresh passes FileHeader)) f.joined ∙ (pcap_file passes f.head f.fits f.packets f.fit).leads.gave)))
 
 pub pcapng_outcome : (passes : Bool) (bytes : List ℕ) → AreBytes bytes → first_stage bytes ≡ Section
     → IsOutcome (IsPcapng passes) bytes (given (first_scan passes bytes) bytes) (ended (run (first_scan passes bytes) bytes)).fault
 pcapng_outcome passes bytes are first =
     subst (λ (v : Stage). IsOutcome (IsPcapng passes) bytes (given (fresh passes v) bytes) (ended (run (fresh passes v) bytes)).fault)
     (sym first)
-    (outcome passes Section refl tt (IsPcapng passes) (pcapng_fronted passes) bytes are (λ f.
-    let t = pcapng_file passes f.first f.sections f.fits f.fit in
-    record {
-      first = f.first;
-      sections = f.sections;
-      fits = f.fits;
-      fit = f.fit;
-      joined = f.joined;
-      gives =
-          ap (given (fresh passes Section)) f.joined ∙ t.gave;
-    }))
+    (outcome passes Section refl tt (IsPcapng passes) (pcapng_fronted passes) bytes are (λ f. (f, ap (given (fresh passes Section)) f.joined ∙ (pcapng_file passes f.first f.sections f.fits f.fit).leads.gave)))

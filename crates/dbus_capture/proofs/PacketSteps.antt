@@ -7,7 +7,7 @@ use Rattle.dbus_device.specs.declared.packet.Packet.{Packet}
 use Rattle.dbus_device.specs.Packets.{Packets, PacketsAfter, AreOfPacket, ReadsOfPacket}
 use Rattle.dbus_capture.specs.declared.stage.Stage.TheVariants.{Raw}
 use Rattle.dbus_capture.specs.declared.scan.Scan.{Scan}
-use Rattle.dbus_capture.specs.declared.capture.Capture.{Capture}
+use Rattle.dbus_capture.specs.declared.input.Input.{Input}
 use Rattle.dbus_capture.specs.Stages.{is_raw}
 use Rattle.dbus_capture.specs.Beginnings.{first_stage, first_scan}
 use Rattle.dbus_capture.specs.Steps.{Turn, Stays, Passes, Gives, Skips, Gathers, turn_of, stepped, with_byte, step, run, told, given, packets_given, packet_given}
@@ -123,7 +123,7 @@ packets_read s (Some x) (Some y) before last used n c joined size none gave = λ
     ∙ sym (ap (λ (v : Scan). v.packet) (ap (run s) joined ∙ run-append s before last) ∙ one.0)
 
 -- of which packet each byte is that is left to give, if it is known what the input is
-abbrev pub packets_rest : {R : Type 0} → (R → Option (List ℕ)) → Capture R → Option Packets
+abbrev pub packets_rest : {R : Type 0} → (R → Option (List ℕ)) → Input R → Option Packets
 packets_rest left s = packets_by (scan_of s) (file_of left s)
 
 pub of_none : (a : Option Packets) (packet : Option Packet) → AreOfPacket 0 a packet
@@ -131,24 +131,24 @@ of_none None packet = tt
 of_none (Some packets) packet = λ i low. absurd (omega (arith, low))
 
 -- what was read is of the packet that began last
-pub part_packets : {R : Type 0} (left : R → Option (List ℕ)) (failures : R → ℕ) (old new : Capture R) (r : Result ℕ DeviceFault) (buffer : List ℕ) (before : Option Packet)
+pub part_packets : {R : Type 0} (left : R → Option (List ℕ)) (failures : R → ℕ) (old new : Input R) (r : Result ℕ DeviceFault) (buffer : List ℕ) (before : Option Packet)
     → MatchResult r (λ n. n ≤ length buffer) (λ e. Unit {0}) → ReadsPart left failures old new r buffer
     → ReadsOfPacket (packets_rest left old) (packets_rest left new) (last_packet r (scan_of new).packet before) r
 part_packets left failures old new (Err e) buffer before b (inl f) =
-    let r = f.reads in packets_left (scan_of old) (scan_of new) (file_of left old) (file_of left new) r.used 0 r.consumed (ap length r.gave) r.ran
+    let r = f.reads in packets_left (scan_of old) (scan_of new) (file_of left old) (file_of left new) r.used 0 r.consumed (ap length r.leads.gave) (sym r.leads.ran)
 part_packets left failures old new (Err e) buffer before b (inr f) =
-    let r = f.reads in packets_left (scan_of old) (scan_of new) (file_of left old) (file_of left new) r.used 0 r.consumed (ap length r.gave) r.ran
+    let r = f.reads in packets_left (scan_of old) (scan_of new) (file_of left old) (file_of left new) r.used 0 r.consumed (ap length r.leads.gave) (sym r.leads.ran)
 part_packets left failures old new (Ok zero) buffer before b (u, inl g) =
     let r = g.0.reads in (
-      packets_left (scan_of old) (scan_of new) (file_of left old) (file_of left new) r.used 0 r.consumed (ap length r.gave) r.ran,
+      packets_left (scan_of old) (scan_of new) (file_of left old) (file_of left new) r.used 0 r.consumed (ap length r.leads.gave) (sym r.leads.ran),
       of_none (packets_rest left old) before,
     )
 part_packets left failures old new (Ok (suc n)) buffer before b (u, inl g) =
     let r = g.0.reads in
     let one = g.0.one (omega arith) in
-    let size = ap length r.gave ∙ length-take-le (suc n) buffer b in (
-      packets_left (scan_of old) (scan_of new) (file_of left old) (file_of left new) r.used (suc n) r.consumed size r.ran,
-      subst (AreOfPacket (suc n) (packets_rest left old)) (sym (ap (λ (v : Scan). v.packet) r.ran))
+    let size = ap length r.leads.gave ∙ length-take-le (suc n) buffer b in (
+      packets_left (scan_of old) (scan_of new) (file_of left old) (file_of left new) r.used (suc n) r.consumed size (sym r.leads.ran),
+      subst (AreOfPacket (suc n) (packets_rest left old)) (ap (λ (v : Scan). v.packet) r.leads.ran)
           (packets_read (scan_of old) (file_of left old) (file_of left new) one.before one.last r.used (suc n) r.consumed one.joined one.size one.nothing size),
     )
 part_packets left failures old new (Ok zero) buffer before b (u, inr g) = (
@@ -180,5 +180,5 @@ defaults (suc n) (suc i) packet = defaults n i packet
 pub stream_packets : (passes : Bool) (bytes : List ℕ) (i : ℕ) → first_stage bytes ≡ Raw → packet_given (first_scan passes bytes) bytes i ≡ None
 stream_packets passes bytes i raw =
     let s = first_scan passes bytes in
-    let one = one_packet s bytes (packets-size s bytes ∙ ap length (run_raw s bytes refl (ap is_raw raw)).1) in
+    let one = one_packet s bytes (packets-size s bytes ∙ ap length (run_raw s bytes refl (ap is_raw raw)).gave) in
     ap (λ l. get_or l i None) one.1 ∙ defaults (length bytes) i None

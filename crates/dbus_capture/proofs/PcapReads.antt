@@ -13,12 +13,13 @@ use Rattle.dbus_capture.specs.Heads.{magic, record_time, give_packet, pass_packe
 use Rattle.dbus_capture.specs.declared.packet.PacketHead.{PacketHead}
 use Rattle.dbus_capture.specs.CutPackets.{Captured, IsCaptured, whole_payload}
 use Rattle.dbus_capture.specs.PcapFiles.{PcapHeader, PcapPacket, magic_number, header_bytes, packet_header_bytes, packets_bytes, pcap_bytes, captures, FitsHeader, FitsPacket, AllFitPackets}
-use Rattle.dbus_capture.specs.Steps.{packet_given}
+use Rattle.dbus_capture.specs.Steps.{packet_given, Leads}
 use Rattle.dbus_capture.specs.Reading.{IsReadOf}
 use Rattle.dbus_capture.specs.Packets.{pcap_packet_reported}
 use Rattle.dbus_capture.proofs.NumberLaws.{u32_size, u16_size, u32_again, u32_last}
 use Rattle.dbus_capture.proofs.FirstLaws.{first_front, begins_pcap}
-use Rattle.dbus_capture.proofs.Leads.{Leads, lead_then, lead_to, head_leads, gives_lead, skips_lead, given_whole, packet_cases, Went, went_nothing, went_then, went_on, went_whole, went_cut, read_whole, Begins, same_packet, packet_from}
+use Rattle.dbus_capture.proofs.StepLaws.{lead_then, lead_to}
+use Rattle.dbus_capture.proofs.Leads.{head_leads, gives_lead, skips_lead, given_whole, packet_cases, Went, went_nothing, went_then, went_on, went_whole, went_cut, read_whole, Begins, same_packet, packet_from}
 
 -- between two packets of a file
 abbrev pub at_packets : ByteOrder → Bool → Scan → Scan

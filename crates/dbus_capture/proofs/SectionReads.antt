@@ -9,16 +9,17 @@ use Rattle.dbus_capture.specs.declared.scan.Scan.{Scan}
 use Rattle.dbus_capture.specs.Numbers.{u32_bytes, u16_bytes, u32_at, u16_at}
 use Rattle.dbus_capture.specs.Stages.{begun}
 use Rattle.dbus_capture.specs.Beginnings.{first_stage}
+use Rattle.dbus_capture.specs.Steps.{Leads}
 use Rattle.dbus_capture.specs.Scans.{place, fresh}
 use Rattle.dbus_capture.specs.Blocks.{block_by, block_stage, order_mark, section_head, decoded}
 use Rattle.dbus_capture.specs.Reading.{IsReadOf}
-use Rattle.dbus_capture.specs.BlockFiles.{FitsBody, framed_bytes, FileBlock, InterfaceBlock, PacketBlock, OtherBlock, block_bytes, block_body, blocks_bytes, interfaces_after, FitsBlock, AllFitBlocks, FileSection, section_body, FitsSection, sections_bytes, AllFitSections, interfaces_all, last_section}
+use Rattle.dbus_capture.specs.BlockFiles.{FitsBody, framed_bytes, PacketForm, head_interface, FileBlock, InterfaceBlock, PacketBlock, OtherBlock, block_bytes, block_body, blocks_bytes, interfaces_after, FitsBlock, AllFitBlocks, FileSection, section_body, FitsSection, sections_bytes, AllFitSections, interfaces_all, last_section}
 use Rattle.dbus_capture.specs.BlockPackets.{block_packets, blocks_packets, sections_packets}
-use Rattle.dbus_capture.specs.Packets.{IsTimed, interface_of, packet_original, packet_bytes, block_front, pcapng_packet_reported}
+use Rattle.dbus_capture.specs.Packets.{FitsTime, block_front, pcapng_packet_reported}
 use Rattle.dbus_capture.proofs.NumberLaws.{u32_again, u16_again}
 use Rattle.dbus_capture.proofs.FirstLaws.{begins_section}
-use Rattle.dbus_capture.proofs.StepLaws.{run_head}
-use Rattle.dbus_capture.proofs.Leads.{Leads, lead_then, lead_to, lead_of, head_leads, Went, went_nothing, went_then, went_on, read_whole, Begins, same_packet}
+use Rattle.dbus_capture.proofs.StepLaws.{lead_then, lead_to, lead_of, run_head}
+use Rattle.dbus_capture.proofs.Leads.{head_leads, Went, went_nothing, went_then, went_on, read_whole, Begins, same_packet}
 use Rattle.dbus_capture.proofs.BlockReads.{at_blocks, length_ok, framed_size, ends, other_read, block_read as packet_read, block_begins}
 use Rattle.dbus_capture.proofs.InterfaceReads.{interface_read}
 
@@ -100,8 +101,7 @@ rest_leads : (t : Scan) (front more : List ℕ) → length front + length more �
     → Leads (record t { head = record { stage = stages.Section; bytes = front }; give = 0; skip = 0; fault = None }) more [] (section_head (record t { head = begun stages.Section; give = 0; skip = 0; fault = None }) (front ++ more))
 unfolding decoded
 rest_leads t front more long some =
-    let law = run_head (record t { head = record { stage = stages.Section; bytes = front }; give = 0; skip = 0; fault = None }) more refl refl refl refl (λ z. let no : length more ≡ 0 = ap length z in absurd (omega (arith, some, no))) long in
-    record { ran = law.0; gave = law.1 }
+    run_head (record t { head = record { stage = stages.Section; bytes = front }; give = 0; skip = 0; fault = None }) more refl refl refl refl some long
 
 next_section : (passes : Bool) (o : ByteOrder) (interfaces : List Interface) (s : Scan) (x : FileSection) → FitsSection passes x → Went (at_blocks x.order []) (at_blocks o interfaces s) (framed_bytes x.order 0x0a0d0d0a (section_body x)) []
 next_section passes o interfaces s x f =
@@ -148,12 +148,14 @@ pcapng_read passes x sections f g =
     read_whole (at_blocks last.order (interfaces_all [] last.blocks)) stages.Section passes bytes (sections_packets (x ∷ sections)) (λ t. refl) (ap first_stage (sym (append-nil bytes)) ∙ first_of_sections x sections []) (file_read passes x sections f g)
 
 -- a packet that follows is reported
-pub packet_follows : (passes : Bool) (x : FileSection) (sections : List FileSection) (i : Interface) (block : FileBlock) (f : FitsSection passes x) (g : AllFitSections passes sections) → let last = last_section x sections in
-    let interfaces = interfaces_all [] last.blocks in FitsBlock passes interfaces block → FitsBody (block_body last.order block) → IsTimed block → slice_get interfaces (interface_of block) ≡ Some i → i.link_type ≡ 231
-    → packet_original block ≡ length (packet_bytes block) → Begins (at_blocks last.order interfaces (file_read passes x sections f g).final) (block_front last.order block) (packet_bytes block) (pcapng_packet_reported (x ∷ sections) i block)
-packet_follows passes x sections i block f g fits body timed found same whole =
+pub packet_follows : (passes : Bool) (x : FileSection) (sections : List FileSection) (i : Interface) (form : PacketForm) (bytes rest : List ℕ) (f : FitsSection passes x) (g : AllFitSections passes sections)
+    → let last = last_section x sections in let interfaces = interfaces_all [] last.blocks in let block = PacketBlock form (length bytes) bytes rest in
+    FitsBlock passes interfaces block → FitsBody (block_body last.order block) → FitsTime form → slice_get interfaces (head_interface form) ≡ Some i → i.link_type ≡ 231
+    → Begins (at_blocks last.order interfaces (file_read passes x sections f g).final) (block_front last.order form bytes rest) bytes (pcapng_packet_reported (x ∷ sections) i form bytes)
+packet_follows passes x sections i form bytes rest f g fits body timed found same =
     let last = last_section x sections in
     let w = file_read passes x sections f g in
-    let next : place (w.final.next + 8 + 2 ^ 64 - 8) ≡ place (length (sections_bytes (x ∷ sections))) = let e = w.next refl in omega (arith, e) in
-    let number : place (w.final.packets + 1) ≡ (pcapng_packet_reported (x ∷ sections) i block).number = let e = w.packets_is in omega (arith, e) in
-    block_begins passes last.order (interfaces_all [] last.blocks) w.final i block (pcapng_packet_reported (x ∷ sections) i block) fits body timed found same whole (sym (same_packet _ _ number next))
+    let told = pcapng_packet_reported (x ∷ sections) i form bytes in
+    let next : place (w.final.next + 8 + 2 ^ 64 - 8) ≡ told.at = omega (arith, w.next refl) in
+    let number : place (w.final.packets + 1) ≡ told.number = omega (arith, w.packets_is) in
+    block_begins passes last.order (interfaces_all [] last.blocks) w.final i form bytes rest told fits body timed found same (sym (same_packet _ _ number next))

@@ -1,12 +1,15 @@
 -- How many bytes at once are read as they are one by one.
-use Rattle.std.proofs.Common.{◌≡◌, ℕ, zero, suc, ◌+◌, ◌-◌, ◌≤◌, ◌^◌, Bool, true, false, cond, List, [], ◌∷◌, ◌++◌, length, Option, Some, None, is_some, refl, sym, ap, ◌∙◌, arith, ◌≢◌, ◌<◌, append_assoc, append-nil, nat_eq, length-append}
+use Rattle.std.proofs.Common.{◌≡◌, ℕ, suc, ◌+◌, ◌-◌, ◌≤◌, ◌^◌, Bool, true, false, cond, List, [], ◌∷◌, ◌++◌, length, Option, Some, None}
+use Rattle.std.proofs.Common.{is_some, refl, sym, ap, ◌∙◌, arith, ◌<◌, append_assoc, append-nil, length-append}
 use Rattle.dbus_capture.specs.declared.fault.CaptureFault.{CaptureFault}
 use Rattle.dbus_capture.specs.Stages.{want, is_raw, begun}
 use Rattle.dbus_capture.specs.declared.scan.Scan.{Scan}
-use Rattle.dbus_capture.specs.Steps.{Turn, Stays, Passes, Gives, Skips, Gathers, turn_by, turn_of, stepped, gathered, with_byte, step, run, told, given, may_end, ended}
+use Rattle.dbus_capture.specs.Steps.{Turn, Stays, Passes, Gives, Skips, Gathers, counted_turn, turn_by, turn_of, stepped, gathered, with_byte, step}
+use Rattle.dbus_capture.specs.Steps.{run, told, given, Leads, may_end, ended}
 use Rattle.dbus_capture.specs.Scans.{place}
 use Rattle.dbus_capture.specs.Blocks.{decoded}
 use Rattle.dbus_capture.specs.declared.fault.CaptureReason.TheVariants.{Truncated}
+use Rattle.dbus_capture.proofs.Choices.{eq_is, eq_not, when_true, when_false}
 
 -- ---- any pieces
 
@@ -33,46 +36,40 @@ pub given-append : (s : Scan) (xs ys : List ℕ) → given s (xs ++ ys) ≡ give
 unfolding given
 given-append s xs ys = told-append (λ t b. b) s xs ys
 
--- ---- which turn it is
+-- a step relation of whole pieces
+pub lead_nothing : (s : Scan) → Leads s [] [] s
+unfolding run given told
+lead_nothing s = record { ran = refl; gave = refl }
 
-pub turn_passes : (f : Option CaptureFault) (raw : Bool) (give skip : ℕ) → f ≡ None → raw ≡ true → turn_by f raw give skip ≡ Passes
-turn_passes (Some f) raw give skip p q = cc
-turn_passes None true give skip p q = refl
-turn_passes None false give skip p q = cc
+pub lead_then : {s m t : Scan} {xs ys a b : List ℕ} → Leads s xs a m → Leads m ys b t → Leads s (xs ++ ys) (a ++ b) t
+lead_then {s} {m} {t} {xs} {ys} {a} {b} p q = record {
+  ran = run-append s xs ys ∙ ap (λ (v : Scan). run v ys) p.ran ∙ q.ran;
+  gave = given-append s xs ys ∙ ap (λ l. l ++ given (run s xs) ys) p.gave ∙ ap (λ (v : Scan). a ++ given v ys) p.ran ∙ ap (λ l. a ++ l) q.gave;
+}
 
-pub turn_gives : (f : Option CaptureFault) (raw : Bool) (give skip n : ℕ) → f ≡ None → raw ≡ false → give ≡ suc n → turn_by f raw give skip ≡ Gives
-turn_gives (Some f) raw give skip n p q h = cc
-turn_gives None true give skip n p q h = cc
-turn_gives None false zero skip n p q h = absurd (omega (arith, h))
-turn_gives None false (suc m) skip n p q h = refl
+pub lead_to : {s t u : Scan} {bytes out : List ℕ} → Leads s bytes out t → t ≡ u → Leads s bytes out u
+lead_to p e = record { ran = p.ran ∙ e; gave = p.gave }
 
-pub turn_skips : (f : Option CaptureFault) (raw : Bool) (give skip n : ℕ) → f ≡ None → raw ≡ false → give ≡ 0 → skip ≡ suc n → turn_by f raw give skip ≡ Skips
-turn_skips (Some f) raw give skip n p q h k = cc
-turn_skips None true give skip n p q h k = cc
-turn_skips None false (suc m) skip n p q h k = absurd (omega (arith, h))
-turn_skips None false zero zero n p q h k = absurd (omega (arith, k))
-turn_skips None false zero (suc m) n p q h k = refl
+pub lead_of : {s t : Scan} {xs ys out : List ℕ} → xs ≡ ys → Leads s ys out t → Leads s xs out t
+lead_of {s} e p = record { ran = ap (run s) e ∙ p.ran; gave = ap (given s) e ∙ p.gave }
 
-pub turn_gathers : (f : Option CaptureFault) (raw : Bool) (give skip : ℕ) → f ≡ None → raw ≡ false → give ≡ 0 → skip ≡ 0 → turn_by f raw give skip ≡ Gathers
-turn_gathers (Some f) raw give skip p q h k = cc
-turn_gathers None true give skip p q h k = cc
-turn_gathers None false (suc m) skip p q h k = absurd (omega (arith, h))
-turn_gathers None false zero (suc m) p q h k = absurd (omega (arith, k))
-turn_gathers None false zero zero p q h k = refl
+pub lead_from : {s t u : Scan} {bytes out : List ℕ} → s ≡ t → Leads t bytes out u → Leads s bytes out u
+lead_from {s} {t} {u} {bytes} e p = record { ran = ap (λ (v : Scan). run v bytes) e ∙ p.ran; gave = ap (λ (v : Scan). given v bytes) e ∙ p.gave }
 
 -- ---- one turn
 
-step_as : (s : Scan) (b : ℕ) (t : Turn) → turn_of s ≡ t → step s b ≡ stepped s b t
-unfolding step
-step_as s b t e = ap (stepped s b) e
+pub turn_passes : (f : Option CaptureFault) (raw : Bool) (give skip : ℕ) → f ≡ None → raw ≡ true → turn_by f raw give skip ≡ Passes
+turn_passes f raw give skip p q = rw (p, q)
 
-pub run_first : (s : Scan) (b : ℕ) (t : Turn) (bytes : List ℕ) → turn_of s ≡ t → run s (b ∷ bytes) ≡ run (stepped s b t) bytes
-unfolding run
-run_first s b t bytes e = ap (λ v. run v bytes) (step_as s b t e)
+turn_counted : (s : Scan) (give skip : ℕ) → s.fault ≡ None → is_raw s.head.stage ≡ false → s.give ≡ give → s.skip ≡ skip → turn_of s ≡ counted_turn give skip
+turn_counted s give skip p q g k = rw (p, q, g, k)
 
-pub given_first : (s : Scan) (b : ℕ) (t : Turn) (bytes : List ℕ) → turn_of s ≡ t → given s (b ∷ bytes) ≡ with_byte t b (given (stepped s b t) bytes)
-unfolding given told
-given_first s b t bytes e = ap (λ v. with_byte v b (given (step s b) bytes)) e ∙ ap (λ v. with_byte t b (given v bytes)) (step_as s b t e)
+lead_first : {s u : Scan} {xs out : List ℕ} (b : ℕ) (t : Turn) → turn_of s ≡ t → Leads (stepped s b t) xs out u → Leads s (b ∷ xs) (with_byte t b out) u
+unfolding run given told step
+lead_first {s} {u} {xs} b t e p = record {
+  ran = ap (λ (v : Turn). run (stepped s b v) xs) e ∙ p.ran;
+  gave = ap (λ (v : Turn). with_byte v b (given (stepped s b v) xs)) e ∙ ap (with_byte t b) p.gave;
+}
 
 -- ---- many
 
@@ -84,115 +81,64 @@ stays_by : (f : Option CaptureFault) (raw : Bool) (give skip : ℕ) → is_some 
 stays_by None raw give skip p = cc
 stays_by (Some f) raw give skip p = refl
 
-pub run_stopped : (s : Scan) (xs : List ℕ) → is_some s.fault ≡ true → (run s xs ≡ s) × (given s xs ≡ [])
-unfolding run given told
-run_stopped s [] p = (refl, refl)
-run_stopped s (x ∷ xs) p =
-    let t : turn_of s ≡ Stays = stays_by s.fault (is_raw s.head.stage) s.give s.skip p in
-    let rest = run_stopped s xs p in
-    (run_first s x Stays xs t ∙ rest.0, given_first s x Stays xs t ∙ rest.1)
+pub run_stopped : (s : Scan) (xs : List ℕ) → is_some s.fault ≡ true → Leads s xs [] s
+run_stopped s [] p = lead_nothing s
+run_stopped s (x ∷ xs) p = lead_first x Stays (stays_by s.fault (is_raw s.head.stage) s.give s.skip p) (run_stopped s xs p)
 
-pub run_raw : (s : Scan) (xs : List ℕ) → is_some s.fault ≡ false → is_raw s.head.stage ≡ true → (run s xs ≡ s) × (given s xs ≡ xs)
-unfolding run given told
-run_raw s [] p q = (refl, refl)
+pub run_raw : (s : Scan) (xs : List ℕ) → is_some s.fault ≡ false → is_raw s.head.stage ≡ true → Leads s xs xs s
+run_raw s [] p q = lead_nothing s
 run_raw s (x ∷ xs) p q =
-    let t : turn_of s ≡ Passes = turn_passes s.fault (is_raw s.head.stage) s.give s.skip (none_of s.fault p) q in
-    let rest = run_raw s xs p q in
-    (run_first s x Passes xs t ∙ rest.0, given_first s x Passes xs t ∙ ap (λ l. x ∷ l) rest.1)
+    lead_first x Passes (turn_passes s.fault (is_raw s.head.stage) s.give s.skip (none_of s.fault p) q) (run_raw s xs p q)
 
 pub run_gives : (s : Scan) (xs : List ℕ) → s.fault ≡ None → is_raw s.head.stage ≡ false → length xs ≤ s.give
-    → (run s xs ≡ record s { give = s.give - length xs }) × (given s xs ≡ xs)
-unfolding run given told
-run_gives s [] p q h = (ap (λ (n : ℕ). record s { give = n }) (let e : s.give ≡ s.give - 0 = omega arith in e), refl)
+    → Leads s xs xs (record s { give = s.give - length xs })
+run_gives s [] p q h = lead_to (lead_nothing s) (ap (λ (n : ℕ). record s { give = n }) (let e : s.give ≡ s.give - 0 = omega arith in e))
 run_gives s (x ∷ xs) p q h =
-    let some : s.give ≡ suc (s.give - 1) = omega (arith, h) in
-    let t : turn_of s ≡ Gives = turn_gives s.fault (is_raw s.head.stage) s.give s.skip (s.give - 1) p q some in
-    let fewer : length xs ≤ s.give - 1 = omega (arith, h) in
-    let rest = run_gives (record s { give = s.give - 1 }) xs p q fewer in
-    let left : s.give - 1 - length xs ≡ s.give - suc (length xs) = omega arith in (
-      run_first s x Gives xs t ∙ rest.0 ∙ ap (λ (n : ℕ). record s { give = n }) left,
-      given_first s x Gives xs t ∙ ap (λ l. x ∷ l) rest.1,
-    )
+    let left : s.give - 1 - length xs ≡ s.give - suc (length xs) = omega arith in
+    lead_first x Gives (turn_counted s (suc (s.give - 1)) s.skip p q (omega (arith, h)) refl)
+    (lead_to (run_gives (record s { give = s.give - 1 }) xs p q (omega (arith, h))) (ap (λ (n : ℕ). record s { give = n }) left))
 
 pub run_skips : (s : Scan) (xs : List ℕ) → s.fault ≡ None → is_raw s.head.stage ≡ false → s.give ≡ 0 → length xs ≤ s.skip
-    → (run s xs ≡ record s { skip = s.skip - length xs }) × (given s xs ≡ [])
-unfolding run given told
-run_skips s [] p q z h = (ap (λ (n : ℕ). record s { skip = n }) (let e : s.skip ≡ s.skip - 0 = omega arith in e), refl)
+    → Leads s xs [] (record s { skip = s.skip - length xs })
+run_skips s [] p q z h = lead_to (lead_nothing s) (ap (λ (n : ℕ). record s { skip = n }) (let e : s.skip ≡ s.skip - 0 = omega arith in e))
 run_skips s (x ∷ xs) p q z h =
-    let some : s.skip ≡ suc (s.skip - 1) = omega (arith, h) in
-    let t : turn_of s ≡ Skips = turn_skips s.fault (is_raw s.head.stage) s.give s.skip (s.skip - 1) p q z some in
-    let fewer : length xs ≤ s.skip - 1 = omega (arith, h) in
-    let rest = run_skips (record s { skip = s.skip - 1 }) xs p q z fewer in
-    let left : s.skip - 1 - length xs ≡ s.skip - suc (length xs) = omega arith in (
-      run_first s x Skips xs t ∙ rest.0 ∙ ap (λ (n : ℕ). record s { skip = n }) left,
-      given_first s x Skips xs t ∙ rest.1,
-    )
+    let left : s.skip - 1 - length xs ≡ s.skip - suc (length xs) = omega arith in
+    lead_first x Skips (turn_counted s 0 (suc (s.skip - 1)) p q z (omega (arith, h)))
+    (lead_to (run_skips (record s { skip = s.skip - 1 }) xs p q z (omega (arith, h))) (ap (λ (n : ℕ). record s { skip = n }) left))
 
 -- ---- a head that comes in pieces
 
-eq_same : (a b : ℕ) → a ≡ b → nat_eq a b ≡ true
-eq_same a b e = grind (arith, e)
+-- these bytes of it are there, and these come
+abbrev held_in : Scan → List ℕ → Scan
+held_in s bytes = record s { head = record { stage = s.head.stage; bytes = bytes } }
 
-eq_other : (a b : ℕ) → a < b → nat_eq a b ≡ false
-eq_other a b h = grind (arith, h)
-
-gathered_more : (s : Scan) (bytes : List ℕ) → length bytes < want s.head.stage → gathered s bytes ≡ record s { head = record { stage = s.head.stage; bytes = bytes } }
-gathered_more s bytes h =
-    ap (λ (b : Bool). cond b (decoded (record s { head = begun s.head.stage }) bytes) (record s { head = record { stage = s.head.stage; bytes = bytes } })) (eq_other _ _ h)
-
-gathered_all : (s : Scan) (bytes : List ℕ) → length bytes ≡ want s.head.stage → gathered s bytes ≡ decoded (record s { head = begun s.head.stage }) bytes
-gathered_all s bytes h =
-    ap (λ (b : Bool). cond b (decoded (record s { head = begun s.head.stage }) bytes) (record s { head = record { stage = s.head.stage; bytes = bytes } })) (eq_same _ _ h)
-
-one_more : (held : List ℕ) (x : ℕ) → length (held ++ x ∷ []) ≡ length held + 1
-one_more held x = length-append held (x ∷ [])
-
-regrouped : (held : List ℕ) (x : ℕ) (xs : List ℕ) → (held ++ x ∷ []) ++ xs ≡ held ++ x ∷ xs
-regrouped held x xs = append_assoc held (x ∷ []) xs
+gathered_more : (s : Scan) (bytes : List ℕ) → length bytes < want s.head.stage → gathered s bytes ≡ held_in s bytes
+gathered_more s bytes h = when_false _ _ _ (eq_not (length bytes) (want s.head.stage) (λ e. absurd (omega (arith, h, e))))
 
 -- less than the whole head
-pub run_gathers : (s : Scan) (xs : List ℕ) → s.fault ≡ None → is_raw s.head.stage ≡ false → s.give ≡ 0 → s.skip ≡ 0 → length s.head.bytes + length xs < want s.head.stage
-    → (run s xs ≡ record s { head = record { stage = s.head.stage; bytes = s.head.bytes ++ xs } }) × (given s xs ≡ [])
-unfolding run given told
-run_gathers s [] p q z k h = (ap (λ (l : List ℕ). record s { head = record { stage = s.head.stage; bytes = l } }) (sym (append-nil s.head.bytes)), refl)
+pub run_gathers : (s : Scan) (xs : List ℕ) → s.fault ≡ None → is_raw s.head.stage ≡ false → s.give ≡ 0 → s.skip ≡ 0
+    → length s.head.bytes + length xs < want s.head.stage → Leads s xs [] (held_in s (s.head.bytes ++ xs))
+run_gathers s [] p q z k h = lead_to (lead_nothing s) (ap (held_in s) (sym (append-nil s.head.bytes)))
 run_gathers s (x ∷ xs) p q z k h =
-    let held = s.head.bytes in
-    let t : turn_of s ≡ Gathers = turn_gathers s.fault (is_raw s.head.stage) s.give s.skip p q z k in
-    let longer = one_more held x in
-    let less : length (held ++ x ∷ []) < want s.head.stage = omega (arith, h, longer) in
-    let next : Scan = record s { head = record { stage = s.head.stage; bytes = held ++ x ∷ [] } } in
-    let now : gathered s (held ++ x ∷ []) ≡ next = gathered_more s (held ++ x ∷ []) less in
-    let fewer : length (held ++ x ∷ []) + length xs < want s.head.stage = omega (arith, h, longer) in
-    let rest = run_gathers next xs p q z k fewer in (
-      run_first s x Gathers xs t ∙ ap (λ v. run v xs) now ∙ rest.0
-          ∙ ap (λ (l : List ℕ). record s { head = record { stage = s.head.stage; bytes = l } }) (regrouped held x xs),
-      given_first s x Gathers xs t ∙ ap (λ v. given v xs) now ∙ rest.1,
-    )
+    let held = s.head.bytes ++ x ∷ [] in
+    let longer = length-append s.head.bytes (x ∷ []) in
+    lead_first x Gathers (turn_counted s 0 0 p q z k) (lead_from (gathered_more s held (omega (arith, h, longer)))
+    (lead_to (run_gathers (held_in s held) xs p q z k (omega (arith, h, longer))) (ap (held_in s) (append_assoc s.head.bytes (x ∷ []) xs))))
 
 -- the whole head
-pub run_head : (s : Scan) (xs : List ℕ) → s.fault ≡ None → is_raw s.head.stage ≡ false → s.give ≡ 0 → s.skip ≡ 0 → xs ≢ [] → length s.head.bytes + length xs ≡ want s.head.stage
-    → (run s xs ≡ decoded (record s { head = begun s.head.stage }) (s.head.bytes ++ xs)) × (given s xs ≡ [])
-unfolding run given told
-run_head s [] p q z k some h = absurd (some refl)
+pub run_head : (s : Scan) (xs : List ℕ) → s.fault ≡ None → is_raw s.head.stage ≡ false → s.give ≡ 0 → s.skip ≡ 0 → 0 < length xs
+    → length s.head.bytes + length xs ≡ want s.head.stage → Leads s xs [] (decoded (record s { head = begun s.head.stage }) (s.head.bytes ++ xs))
+run_head s [] p q z k some h = absurd (omega (arith, some))
 run_head s (x ∷ []) p q z k some h =
-    let held = s.head.bytes in
-    let t : turn_of s ≡ Gathers = turn_gathers s.fault (is_raw s.head.stage) s.give s.skip p q z k in
-    let longer = one_more held x in
-    let all : length (held ++ x ∷ []) ≡ want s.head.stage = omega (arith, h, longer) in
-    (run_first s x Gathers [] t ∙ gathered_all s (held ++ x ∷ []) all, given_first s x Gathers [] t)
+    let longer = length-append s.head.bytes (x ∷ []) in
+    lead_first x Gathers (turn_counted s 0 0 p q z k)
+    (lead_to (lead_nothing _) (when_true _ _ _ (eq_is (length (s.head.bytes ++ x ∷ [])) (want s.head.stage) (omega (arith, h, longer)))))
 run_head s (x ∷ y ∷ xs) p q z k some h =
-    let held = s.head.bytes in
-    let t : turn_of s ≡ Gathers = turn_gathers s.fault (is_raw s.head.stage) s.give s.skip p q z k in
-    let longer = one_more held x in
-    let less : length (held ++ x ∷ []) < want s.head.stage = omega (arith, h, longer) in
-    let next : Scan = record s { head = record { stage = s.head.stage; bytes = held ++ x ∷ [] } } in
-    let now : gathered s (held ++ x ∷ []) ≡ next = gathered_more s (held ++ x ∷ []) less in
-    let fewer : length (held ++ x ∷ []) + length (y ∷ xs) ≡ want s.head.stage = omega (arith, h, longer) in
-    let rest = run_head next (y ∷ xs) p q z k (λ e. cc) fewer in (
-      run_first s x Gathers (y ∷ xs) t ∙ ap (λ v. run v (y ∷ xs)) now ∙ rest.0
-          ∙ ap (λ (l : List ℕ). decoded (record s { head = begun s.head.stage }) l) (regrouped held x (y ∷ xs)),
-      given_first s x Gathers (y ∷ xs) t ∙ ap (λ v. given v (y ∷ xs)) now ∙ rest.1,
-    )
+    let held = s.head.bytes ++ x ∷ [] in
+    let longer = length-append s.head.bytes (x ∷ []) in
+    lead_first x Gathers (turn_counted s 0 0 p q z k) (lead_from (gathered_more s held (omega (arith, h, longer)))
+    (lead_to (run_head (held_in s held) (y ∷ xs) p q z k (omega arith) (omega (arith, h, longer)))
+    (ap (λ (l : List ℕ). decoded (record s { head = begun s.head.stage }) l) (append_assoc s.head.bytes (x ∷ []) (y ∷ xs)))))
 
 -- ---- after a fault
 
@@ -203,5 +149,5 @@ ended_stopped s f e =
 
 pub stopped_after : (s t : Scan) (h more : List ℕ) (f : CaptureFault) → run s h ≡ t → t.fault ≡ Some f → (ended (run s (h ++ more))).fault ≡ Some f
 stopped_after s t h more f e p =
-    let stops = (run_stopped t more (ap is_some p)).0 in
+    let stops = (run_stopped t more (ap is_some p)).ran in
     ap (λ (v : Scan). (ended v).fault) (run-append s h more ∙ ap (λ (v : Scan). run v more) e ∙ stops) ∙ ended_stopped t f p

@@ -14,23 +14,28 @@ abbrev pub AreBytes : List ℕ → Type 0
 AreBytes [] = Unit {0}
 AreBytes (b ∷ bytes) = (b < 256) × AreBytes bytes
 
--- the bytes are a pcap file, and those of its packets that were captured whole are handed on
-pub record IsPcap (passes_cut : Bool) (bytes out : List ℕ) : Type 0 where
+-- the bytes are a pcap file
+pub record PcapFile (passes_cut : Bool) (bytes : List ℕ) : Type 0 where
   pub head : PcapHeader
   pub packets : List PcapPacket
   pub fits : FitsHeader head
   pub fit : AllFitPackets passes_cut packets
   pub joined : bytes ≡ pcap_bytes head packets
-  pub gives : out ≡ whole_payload (captures packets)
 
--- the same of a pcapng file, which ends behind any of its blocks
-pub record IsPcapng (passes_cut : Bool) (bytes out : List ℕ) : Type 0 where
+-- those of its packets that were captured whole are handed on
+abbrev pub IsPcap : (passes_cut : Bool) → (bytes out : List ℕ) → Type 0
+IsPcap passes_cut bytes out = (f : PcapFile passes_cut bytes) × (out ≡ whole_payload (captures f.packets))
+
+-- the bytes are a pcapng file, which ends behind any of its blocks
+pub record PcapngFile (passes_cut : Bool) (bytes : List ℕ) : Type 0 where
   pub first : FileSection
   pub sections : List FileSection
   pub fits : FitsSection passes_cut first
   pub fit : AllFitSections passes_cut sections
   pub joined : bytes ≡ sections_bytes (first ∷ sections)
-  pub gives : out ≡ whole_payload (sections_packets (first ∷ sections))
+
+abbrev pub IsPcapng : (passes_cut : Bool) → (bytes out : List ℕ) → Type 0
+IsPcapng passes_cut bytes out = (f : PcapngFile passes_cut bytes) × (out ≡ whole_payload (sections_packets (f.first ∷ f.sections)))
 
 -- The fault of bytes is at a place of what follows this front, and what the front gives is given first.
 pub record IsBehind (front rest payload out : List ℕ) (fault : CaptureFault) : Type 0 where

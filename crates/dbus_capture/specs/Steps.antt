@@ -74,6 +74,11 @@ told tells s (b ∷ bytes) = with_byte (turn_of s) (tells s b) (told tells (step
 unfoldable pub given : Scan → List ℕ → List ℕ
 given s bytes = told (λ t b. b) s bytes
 
+-- these bytes lead from one state to another, and those that are handed on of them are these
+pub record Leads (old : Scan) (bytes out : List ℕ) (new : Scan) : Type 0 where
+  pub ran : run old bytes ≡ new
+  pub gave : given old bytes ≡ out
+
 -- the packet of each byte that is handed on of these: the one that began last
 unfoldable pub packets_given : Scan → List ℕ → List (Option Packet)
 packets_given s bytes = told (λ t b. t.packet) s bytes

@@ -9,11 +9,11 @@ ghost use Rattle.dbus_capture.specs.Beginnings.{first_stage, first_scan, IsFirst
 ghost use Rattle.dbus_capture.specs.Steps.{run, given, packet_given, ended};
 ghost use Rattle.dbus_capture.specs.Reading.{IsReadOf};
 ghost use Rattle.dbus_capture.specs.PcapFiles.{PcapHeader, PcapPacket, FitsHeader, FitsPacket, AllFitPackets, packet_header_bytes, pcap_bytes, captures};
-ghost use Rattle.dbus_capture.specs.BlockFiles.{FileBlock, FitsBlock, FitsBody, block_body, FileSection, FitsSection, AllFitSections, sections_bytes, interfaces_all, last_section};
+ghost use Rattle.dbus_capture.specs.BlockFiles.{PacketForm, PacketBlock, head_interface, FitsBlock, FitsBody, block_body, FileSection, FitsSection, AllFitSections, sections_bytes, interfaces_all, last_section};
 ghost use Rattle.dbus_capture.specs.CutPackets.{whole_payload};
 ghost use Rattle.dbus_capture.specs.BlockPackets.{sections_packets};
 ghost use Rattle.dbus_capture.specs.Outcomes.{AreBytes, IsPcap, IsPcapng, IsOutcome};
-ghost use Rattle.dbus_capture.specs.Packets.{Reports, IsTimed, interface_of, packet_original, packet_bytes, pcap_packet_reported, block_front, pcapng_packet_reported};
+ghost use Rattle.dbus_capture.specs.Packets.{Reports, FitsTime, pcap_packet_reported, block_front, pcapng_packet_reported};
 ghost use Rattle.dbus_capture.specs.declared.interface.Interface.{Interface};
 ghost use Rattle.dbus_capture.specs.declared.stage.Stage.TheVariants as stages;
 
@@ -72,17 +72,17 @@ pub fn pcap_packet_is_reported()
 /// no time.
 pub fn pcapng_packet_is_reported()
     ensures { (passes_cut : Bool) (x : FileSection) (sections : List FileSection) (i : Interface)
-        (block : FileBlock) (front back : List ℕ) → let last = last_section x sections in
-        let interfaces = interfaces_all [] last.blocks in
+        (form : PacketForm) (packet rest front back : List ℕ) →
+        let last = last_section x sections in let interfaces = interfaces_all [] last.blocks in
+        let block = PacketBlock form (length packet) packet rest in
         FitsSection passes_cut x → AllFitSections passes_cut sections →
-        FitsBlock passes_cut interfaces block →
-        FitsBody (block_body last.order block) → IsTimed block →
-        slice_get interfaces (interface_of block) ≡ Some i → i.link_type ≡ 231 →
-        packet_original block ≡ length (packet_bytes block) →
-        packet_bytes block ≡ front ++ back →
-        let bytes = sections_bytes (x ∷ sections) ++ (block_front last.order block ++ front) in
+        FitsBlock passes_cut interfaces block → FitsBody (block_body last.order block) →
+        FitsTime form → slice_get interfaces (head_interface form) ≡ Some i → i.link_type ≡ 231 →
+        packet ≡ front ++ back →
+        let bytes = sections_bytes (x ∷ sections) ++
+        (block_front last.order form packet rest ++ front) in
         Reports (run (first_scan passes_cut bytes) bytes)
-        (pcapng_packet_reported (x ∷ sections) i block) }
+        (pcapng_packet_reported (x ∷ sections) i form packet) }
 {}
 
 /// Each byte of a packet of a pcap file is of the packet of its number, place, time and length, as a
@@ -102,19 +102,18 @@ pub fn pcap_bytes_have_packets()
 /// The same of each byte of such a packet of a pcapng file.
 pub fn pcapng_bytes_have_packets()
     ensures { (passes_cut : Bool) (x : FileSection) (sections : List FileSection) (i : Interface)
-        (block : FileBlock) (more : List ℕ) (n : ℕ) → let last = last_section x sections in
-        let interfaces = interfaces_all [] last.blocks in
+        (form : PacketForm) (packet rest more : List ℕ) (n : ℕ) →
+        let last = last_section x sections in let interfaces = interfaces_all [] last.blocks in
+        let block = PacketBlock form (length packet) packet rest in
         FitsSection passes_cut x → AllFitSections passes_cut sections →
-        FitsBlock passes_cut interfaces block →
-        FitsBody (block_body last.order block) → IsTimed block →
-        slice_get interfaces (interface_of block) ≡ Some i → i.link_type ≡ 231 →
-        packet_original block ≡ length (packet_bytes block) →
-        n < length (packet_bytes block) →
-        let bytes = (sections_bytes (x ∷ sections) ++ block_front last.order block) ++
-        (packet_bytes block ++ more) in
+        FitsBlock passes_cut interfaces block → FitsBody (block_body last.order block) →
+        FitsTime form → slice_get interfaces (head_interface form) ≡ Some i → i.link_type ≡ 231 →
+        n < length packet →
+        let bytes = (sections_bytes (x ∷ sections) ++ block_front last.order form packet rest) ++
+        (packet ++ more) in
         packet_given (first_scan passes_cut bytes) bytes
         (length (whole_payload (sections_packets (x ∷ sections))) + n) ≡
-        Some (pcapng_packet_reported (x ∷ sections) i block) }
+        Some (pcapng_packet_reported (x ∷ sections) i form packet) }
 {}
 
 /// A capture gives what begins as a message or a handshake as it is.

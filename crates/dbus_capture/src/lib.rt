@@ -24,6 +24,7 @@ mod capture;
 mod fault;
 mod fault_text;
 mod head;
+mod input;
 mod interface;
 pub mod laws;
 mod packet;

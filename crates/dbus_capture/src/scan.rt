@@ -42,7 +42,7 @@ impl Scan {
     ghost use Rattle.std.specs.Prelude.{[], None, false};
     ghost use Rattle.dbus_capture.specs.Scans.{fresh, refused};
     ghost use Rattle.dbus_capture.specs.Stages.{begun, is_raw, want};
-    ghost use Rattle.dbus_capture.specs.Steps.{IsPart, run, given, ended, may_end, turn_of};
+    ghost use Rattle.dbus_capture.specs.Steps.{IsPart, Leads, ended, may_end, turn_of};
     ghost use Rattle.dbus_capture.specs.Blocks.{decoded};
 
     // A file of which no byte was taken.
@@ -86,8 +86,7 @@ impl Scan {
     pub(crate) fn take(&mut self, piece: &[u8], out: &mut [u8]) -> (usize, usize)
         ensures took { result.0 ≤ length piece.now }
         ensures gave { result.1 ≤ length out.new }
-        ensures runs { self.new ≡ run self.old (take result.0 piece.now) }
-        ensures gives { given self.old (take result.0 piece.now) ≡ take result.1 out.new }
+        ensures leads { Leads self.old (take result.0 piece.now) (take result.1 out.new) self.new }
         ensures moves { 0 < length piece.now → 0 < length out.old → 0 < result.0 }
         ensures one { 0 < result.1 → (result.0 ≡ result.1) ×
             IsPart self.old self.new result.1 }
@@ -110,8 +109,7 @@ impl Scan {
         requires filed { is_raw self.old.head.stage ≡ false }
         ensures took { result.0 ≤ length piece.now }
         ensures gave { result.1 ≤ length out.new }
-        ensures runs { self.new ≡ run self.old (take result.0 piece.now) }
-        ensures gives { given self.old (take result.0 piece.now) ≡ take result.1 out.new }
+        ensures leads { Leads self.old (take result.0 piece.now) (take result.1 out.new) self.new }
         ensures moves { 0 < length piece.now → 0 < length out.old → 0 < result.0 }
         ensures one { 0 < result.1 → (result.0 ≡ result.1) ×
             IsPart self.old self.new result.1 }
@@ -133,8 +131,7 @@ impl Scan {
         requires filed { is_raw self.old.head.stage ≡ false }
         ensures took { result ≤ length piece.now }
         ensures gave { result ≤ length out.new }
-        ensures runs { self.new ≡ run self.old (take result piece.now) }
-        ensures gives { given self.old (take result piece.now) ≡ take result out.new }
+        ensures leads { Leads self.old (take result piece.now) (take result out.new) self.new }
         ensures moves { 0 < length piece.now → 0 < length out.old → 0 < result }
         ensures part { IsPart self.old self.new result }
     {
@@ -151,8 +148,7 @@ impl Scan {
         requires some { 0 < self.old.skip }
         requires given { self.old.give ≡ 0 }
         ensures took { result ≤ length piece.now }
-        ensures runs { self.new ≡ run self.old (take result piece.now) }
-        ensures gives { given self.old (take result piece.now) ≡ [] }
+        ensures leads { Leads self.old (take result piece.now) [] self.new }
         ensures moves { 0 < length piece.now → 0 < result }
     {
         let count = self.skip.min(piece.len());
@@ -167,8 +163,7 @@ impl Scan {
         requires given { self.old.give ≡ 0 }
         requires skipped { self.old.skip ≡ 0 }
         ensures took { result ≤ length piece.now }
-        ensures runs { self.new ≡ run self.old (take result piece.now) }
-        ensures gives { given self.old (take result piece.now) ≡ [] }
+        ensures leads { Leads self.old (take result piece.now) [] self.new }
         ensures moves { 0 < length piece.now → 0 < result }
     {
         let missing = self.head.missing();

@@ -7,7 +7,7 @@ use Rattle.dbus_device.specs.declared.device_fault.DeviceFault.{DeviceFault}
 use Rattle.dbus_page.specs.Failing.{MayFail}
 use Rattle.dbus_capture.specs.Captures.{Begins, Ends, GivesPart, Reads, ReadsOn, ReadsPart, ReadsInput, Waits, chosen_of, file_of, kept_of, known, opened, opened_of, scan_of, source_of}
 use Rattle.dbus_capture.specs.Steps.{ended, run}
-use Rattle.dbus_capture.specs.declared.capture.Capture.{Capture}
+use Rattle.dbus_capture.specs.declared.input.Input.{Input}
 use Rattle.dbus_capture.specs.declared.fault.CaptureFault.{CaptureFault}
 use Rattle.dbus_capture.specs.declared.scan.Scan.{Scan}
 use Rattle.dbus_capture.proofs.StepLaws.{run-append, stopped_after}
@@ -27,19 +27,19 @@ some_fault None some = absurd cc
 some_fault (Some f) some = (f, refl)
 
 -- bytes of the file were taken, and what is kept of them is this
-pub record Ran {R : Type 0} (left : R → Option (List ℕ)) (old now : Capture R) : Type 0 where
+pub record Ran {R : Type 0} (left : R → Option (List ℕ)) (old now : Input R) : Type 0 where
   pub used : List ℕ
   pub consumed : Consumes (file_of left old) (file_of left now) used
   pub ran : (bytes : List ℕ) → file_of left old ≡ Some bytes → run (opened old bytes) used ≡ opened_of left now
 
 module _ {R : Type 0} (left : R → Option (List ℕ)) (calls failures : R → ℕ) where
-  pub ran_nothing : (s : Capture R) → Ran left s s
+  pub ran_nothing : (s : Input R) → Ran left s s
   unfolding run
   ran_nothing s = record { used = []; consumed = Consumes-nil (file_of left s); ran = λ bytes is. ap (λ (o : Option (List ℕ)). opened s (known o)) (sym is) }
 
-  module _ (old now : Capture R) (r : Ran left old now) where
+  module _ (old now : Input R) (r : Ran left old now) where
     -- what is kept once it is known what the input is
-    module _ (mid new : Capture R) (b : Begins left calls failures now mid) where
+    module _ (mid new : Input R) (b : Begins left calls failures now mid) where
       at_mid : (bytes : List ℕ) → file_of left old ≡ Some bytes → run (opened old bytes) r.used ≡ scan_of mid
       at_mid bytes is =
           let front = front_of (file_of left old) (file_of left now) r.used bytes r.consumed is in
@@ -54,7 +54,7 @@ module _ {R : Type 0} (left : R → Option (List ℕ)) (calls failures : R → �
       ran_on out p chosen = record {
         used = r.used ++ p.used;
         consumed = consumes_on p.used p.consumed;
-        ran = λ bytes is. run-append (opened old bytes) r.used p.used ∙ (ap (λ (s : Scan). run s p.used) (at_mid bytes is) ∙ (sym p.ran ∙ sym (opened_chosen new (known (file_of left new)) chosen)));
+        ran = λ bytes is. run-append (opened old bytes) r.used p.used ∙ (ap (λ (s : Scan). run s p.used) (at_mid bytes is) ∙ (p.leads.ran ∙ sym (opened_chosen new (known (file_of left new)) chosen)));
       }
 
       -- at the end of the file
@@ -67,7 +67,7 @@ module _ {R : Type 0} (left : R → Option (List ℕ)) (calls failures : R → �
           let joined : run (opened old bytes) (r.used ++ e.used) ≡ run (scan_of mid) e.used = run-append (opened old bytes) r.used e.used ∙ ap (λ (s : Scan). run s e.used) (at_mid bytes is) in
           ap (λ (l : List ℕ). (ended (run (opened old bytes) l)).fault) whole ∙ (ap (λ (s : Scan). (ended s).fault) joined ∙ ap (λ (s : Scan). s.fault) (sym e.ran))
 
-    waited : (new : Capture R) (n : ℕ) (room : ℕ) → Waits left calls failures now new (Ok n) room → Ran left old new
+    waited : (new : Input R) (n : ℕ) (room : ℕ) → Waits left calls failures now new (Ok n) room → Ran left old new
     waited new n room w = record {
       used = r.used;
       consumed = subst (Consumes (file_of left old) (file_of left new)) (append-nil r.used) (Consumes-trans (file_of left old) (file_of left now) (file_of left new) r.used [] r.consumed (fetched_file left calls failures now new w.fetches));
@@ -77,14 +77,14 @@ module _ {R : Type 0} (left : R → Option (List ℕ)) (calls failures : R → �
     }
 
   -- after a fault no byte changes anything
-  stopped_fault : (old new : Capture R) (bytes : List ℕ) → Ran left old new → (opened_of left new).fault ≡ (scan_of new).fault → is_some (scan_of new).fault ≡ true → file_of left old ≡ Some bytes
+  stopped_fault : (old new : Input R) (bytes : List ℕ) → Ran left old new → (opened_of left new).fault ≡ (scan_of new).fault → is_some (scan_of new).fault ≡ true → file_of left old ≡ Some bytes
       → (ended (run (opened old bytes) bytes)).fault ≡ (scan_of new).fault
   stopped_fault old new bytes r same some is =
       let front = front_of (file_of left old) (file_of left new) r.used bytes r.consumed is in
       let f = some_fault (scan_of new).fault some in
       ap (λ (l : List ℕ). (ended (run (opened old bytes) l)).fault) front.2 ∙ (stopped_after (opened old bytes) (opened_of left new) r.used front.0 f.0 (r.ran bytes is) (same ∙ f.1) ∙ sym f.1)
 
-  module _ (old now new : Capture R) (buffer : List ℕ) (r : Ran left old now) where
+  module _ (old now new : Input R) (buffer : List ℕ) (r : Ran left old now) where
     pub input_ran : (n : ℕ) → ReadsInput left calls failures now new (Ok n) buffer → n ≢ 0 → Ran left old new
     input_ran n (inr w) some = absurd (some w.nothing.0)
     input_ran n (inl i) some = elim i.part.1 [ inl g ↦ ran_on old now r i.mid new i.begins (take n buffer) g.0.reads i.chosen | inr e ↦ absurd (some e.0) ]

@@ -4,7 +4,7 @@
 ghost use Rattle.std.specs.Prelude.{◌≡◌, ◌≤◌, ◌++◌, ◌⊎◌, ℕ, List, Some, length, take, true, false, None};
 ghost use Rattle.std.specs.Io.KnownBytes.{Consumes, IsAtEnd};
 ghost use Rattle.dbus_capture.specs.Beginnings.{first_scan};
-ghost use Rattle.dbus_capture.specs.Captures.{file_of, left_of, opened, packets_of, scan_of, source_of};
+ghost use Rattle.dbus_capture.specs.Captures.{file_of, input_of, left_of, opened, packets_of, scan_of, source_of};
 ghost use Rattle.dbus_capture.specs.Steps.{ended, given, packet_given, run};
 ghost use Rattle.dbus_device.specs.Packets.{Packets};
 ghost use Rattle.dbus_page.specs.Parts.{AreParts, IsFaultTold, IsFull, number_in, time_in, time_of};
@@ -85,18 +85,21 @@ fn read_through<R: Source>(
     parts: &mut [PagePart],
 ) -> Filled
     ensures within { result.length ≤ length room.new }
-    ensures read { Consumes (left_of R.left capture.old) (left_of R.left capture.new)
-        (take result.length room.new) }
-    ensures all { result.is_all ≡ true → IsAtEnd (left_of R.left capture.new) }
-    ensures parts { (packets : Packets) → packets_of R.left capture.old ≡ Some packets →
+    ensures read { Consumes (left_of R.left (input_of capture.old))
+        (left_of R.left (input_of capture.new)) (take result.length room.new) }
+    ensures all { result.is_all ≡ true → IsAtEnd (left_of R.left (input_of capture.new)) }
+    ensures parts { (packets : Packets) →
+        packets_of R.left (input_of capture.old) ≡ Some packets →
         AreParts packets 0 (take result.parts parts.new) result.length }
     ensures fault { result.is_all ≡ true → (bytes : List ℕ) →
-        file_of R.left capture.old ≡ Some bytes →
-        (ended (run (opened capture.old bytes) bytes)).fault ≡ (scan_of capture.new).fault }
+        file_of R.left (input_of capture.old) ≡ Some bytes →
+        (ended (run (opened (input_of capture.old) bytes) bytes)).fault ≡
+        (scan_of (input_of capture.new)).fault }
     ensures full { result.is_all ≡ false → (bytes : List ℕ) →
-        file_of R.left capture.old ≡ Some bytes →
+        file_of R.left (input_of capture.old) ≡ Some bytes →
         IsFull room.new parts.new result.length result.parts ⊎
-        MayFail (R.failures (source_of capture.old)) (R.failures (source_of capture.new)) bytes }
+        MayFail (R.failures (source_of (input_of capture.old)))
+        (R.failures (source_of (input_of capture.new))) bytes }
 {
     let mut length = 0;
     for number in 0..parts.len() {

@@ -3,5 +3,5 @@ use Rattle.dbus_capture.proofs.SectionReads.{first_of_sections, file_read, packe
 use Rattle.dbus_capture.proofs.laws.pcapng_packet_is_reported.Goals as goal
 
 pub returns : goal.returns
-returns c passes x sections i block front back f g fits body timed found link_type captured e =
-    reported_from (first_of_sections x sections) (file_read passes x sections f g) (packet_follows passes x sections i block f g fits body timed found link_type captured) front back e
+returns c passes x sections i form packet rest front back f g fits body timed found link_type e =
+    reported_from (first_of_sections x sections) (file_read passes x sections f g) (packet_follows passes x sections i form packet rest f g fits body timed found link_type) front back e

@@ -1,6 +1,6 @@
 use Rattle.std.proofs.Common.{inl}
 use Rattle.dbus_capture.proofs.BeginSteps.{begins_still}
-use Rattle.dbus_capture.proofs.capture.Capture.read_input.Goals as goal
+use Rattle.dbus_capture.proofs.input.Input.read.Goals as goal
 
 pub returns-then-self-clause-input : goal.returns-then-self-clause-input
 returns-then-self-clause-input g c =

@@ -4,7 +4,7 @@ use Rattle.std.specs.Io.KnownBytes.{Consumes}
 use Rattle.dbus_capture.specs.Captures.{kept_of}
 use Rattle.dbus_capture.proofs.CaptureSteps.{consumes_kept}
 use Rattle.dbus_capture.proofs.BeginSteps.{fetched_nothing, fetches_more, fetched_more, kept_put, kept_none, kept_there}
-use Rattle.dbus_capture.proofs.capture.Capture.fetch.Goals as goal
+use Rattle.dbus_capture.proofs.input.Input.fetch.Goals as goal
 
 pub loop-number-init : goal.loop-number-init
 loop-number-init g c = fetched_nothing g.R.Source.left g.R.Source.calls g.R.Source.failures c.args.self.now c.requires
@@ -58,4 +58,4 @@ loop-number-preserved g c =
     let some : 0 < length (take count part) = omega (arith, long, c.if-count-eq0.false) in
     fetched_more left g.R.Source.calls g.R.Source.failures c.loop-number.number c.args.self.now now _ (take count part) c.requires l few
     (record { gave = e.bytes.0; counted = e.called })
-    (kept_put now.bytes part now.start now.end _ count l.start fits e.bound) some refl refl refl refl e.failed refl refl
+    (kept_put now.bytes part now.start now.end _ count l.start fits e.bound) some refl refl refl refl e.failed
