@@ -1,11 +1,11 @@
 -- What a capture does until it knows what the input is.
 use borrow.Rule.Slice.PartMut.{put_mid}
-use Rattle.std.proofs.Common.{◌≡◌, ◌≤◌, ◌<◌, ◌+◌, ◌-◌, ℕ, true, false, cond, List, [], ◌∷◌, ◌++◌, length, take, Option, None, Some, Result, Ok, Err, MatchResult, inl, inr, ◌⊎◌, is_some, refl, sym, ap, subst, ◌∙◌, arith, append_assoc, append-nil, length-append}
+use Rattle.std.proofs.Common.{◌≡◌, ◌≤◌, ◌<◌, ◌+◌, ◌-◌, ℕ, zero, suc, true, false, cond, List, [], ◌∷◌, ◌++◌, length, take, Option, None, Some, Result, Ok, Err, MatchResult, inl, inr, ◌⊎◌, is_some, refl, sym, ap, subst, ◌∙◌, arith, append_assoc, append-nil, length-append}
 use Rattle.std.specs.Io.KnownBytes.{Consumes, Keeps, IsAtEnd, ReadConsumes, prepend_known}
+use Rattle.std.proofs.KnownBytes.{Consumes-nil}
 use Rattle.std.specs.List.{All}
 use Rattle.std.specs.List.{slice_range}
 use Rattle.std.proofs.lemmas.List.{length-take, take-append-le}
-use Rattle.std.proofs.lemmas.Slice.{take-put_mid_below}
 use Rattle.std.proofs.Math.Seq.{take-append-add}
 use Rattle.std.proofs.lemmas.List.Elements.{All-cons, All-nil}
 use Rattle.dbus_device.specs.Device.{ReadCounts}
@@ -23,7 +23,7 @@ use Rattle.dbus_capture.specs.Captures.{source_of, scan_of, chosen_of, kept_of, 
 use Rattle.dbus_capture.specs.Packets.{last_packet}
 use Rattle.dbus_capture.proofs.Choices.{when_true, when_false}
 use Rattle.dbus_capture.proofs.FirstLaws.{first_front}
-use Rattle.dbus_capture.proofs.CaptureSteps.{consumes_by, rest_of, given_stopped, part_gives, part_fails}
+use Rattle.dbus_capture.proofs.CaptureSteps.{consumes_by, keeps_from, rest_of, given_stopped, part_gives, part_fails}
 use Rattle.dbus_capture.proofs.PacketSteps.{packets_rest, part_packets, of_none}
 
 -- ---- what is known of the rest of the file
@@ -81,22 +81,24 @@ module _ {R : Type 0} (left : R → Option (List ℕ)) (calls failures : R → �
 
   -- what is said of the rest, if it is known
   module _ {X : Type 0} (says : Scan → Option (List ℕ) → Option X) (none : (s : Scan) → says s None ≡ None) where
-    pub said_after : (old mid : Input R) (o : Option (List ℕ)) → Begins left calls failures old mid → file_of left old ≡ o
+    -- if the same is left in another state, and that is what the input is in then
+    said_from : (s : Input R) (v : Scan) (f : Option (List ℕ)) → Consumes (file_of left s) f [] → ((bytes : List ℕ) → file_of left s ≡ Some bytes → opened_of left s ≡ v) → (o : Option (List ℕ)) → file_of left s ≡ o
+        → (says (opened_of left s) (file_of left s) ≡ None) ⊎ (says (opened_of left s) (file_of left s) ≡ says v f)
+    said_from s v f same is None e = inl (ap (says (opened_of left s)) e ∙ none (opened_of left s))
+    said_from s v f same is (Some bytes) e =
+        inr (ap (λ (t : Scan). says t (file_of left s)) (is bytes e) ∙ ap (says v) (e ∙ sym (same_known (file_of left s) f bytes same e)))
+
+    pub said_after : (old mid : Input R) → Begins left calls failures old mid
         → (says (opened_of left old) (file_of left old) ≡ None) ⊎ (says (opened_of left old) (file_of left old) ≡ says (scan_of mid) (file_of left mid))
-    said_after old mid None b e = inl (ap (says (opened_of left old)) e ∙ none (opened_of left old))
-    said_after old mid (Some bytes) b e =
-        let same = same_known (file_of left old) (file_of left mid) bytes (fetched_file old mid b.fetches) e in
-        inr (ap (λ (v : Scan). says v (file_of left old)) (opened_known old mid bytes b e) ∙ ap (says (scan_of mid)) (e ∙ sym same))
+    said_after old mid b = said_from old (scan_of mid) (file_of left mid) (fetched_file old mid b.fetches) (λ bytes e. opened_known old mid bytes b e) (file_of left old) refl
 
     pub said_chosen : (s : Input R) → chosen_of s ≡ true → says (opened_of left s) (file_of left s) ≡ says (scan_of s) (file_of left s)
     said_chosen s e = ap (λ (v : Scan). says v (file_of left s)) (opened_chosen s (known (file_of left s)) e)
 
-    pub said_waiting : (old new : Input R) (r : Result ℕ DeviceFault) (room : ℕ) (o : Option (List ℕ)) → Waits left calls failures old new r room → file_of left old ≡ o
+    pub said_waiting : (old new : Input R) (r : Result ℕ DeviceFault) (room : ℕ) → Waits left calls failures old new r room
         → (says (opened_of left old) (file_of left old) ≡ None) ⊎ (says (opened_of left old) (file_of left old) ≡ says (opened_of left new) (file_of left new))
-    said_waiting old new r room None w e = inl (ap (says (opened_of left old)) e ∙ none (opened_of left old))
-    said_waiting old new r room (Some bytes) w e =
-        let same = same_known (file_of left old) (file_of left new) bytes (fetched_file old new w.fetches) e in
-        inr (ap (λ (v : Scan). says v (file_of left old)) (opened_waiting old new r room bytes w e) ∙ ap (says (opened_of left new)) (e ∙ sym same))
+    said_waiting old new r room w =
+        said_from old (opened_of left new) (file_of left new) (fetched_file old new w.fetches) (λ bytes e. opened_waiting old new r room bytes w e) (file_of left old) refl
 
 -- ---- a read
 
@@ -110,32 +112,23 @@ packets_from a b c packet r (inr e) reads = subst (λ (o : Option Packets). Read
 packets_from a b c packet (Ok n) (inl e) reads = subst (λ (o : Option Packets). PacketsAfter n o c × AreOfPacket n o packet) (sym e) (tt, tt)
 packets_from a b c packet (Err f) (inl e) reads = subst (λ (o : Option Packets). PacketsAfter 0 o c) (sym e) tt
 
-keeps_all : (a : Option (List ℕ)) → Keeps a a
-keeps_all None = tt
-keeps_all (Some x) = refl
-
-consumes_none : (a : Option (List ℕ)) (n : ℕ) (buffer : List ℕ) → n ≡ 0 → Consumes a a (take n buffer)
-consumes_none None n buffer e = tt
-consumes_none (Some x) n buffer e = ap (λ (k : ℕ). take k buffer ++ x) (sym e)
-
-after_none : (a : Option Packets) (n : ℕ) → n ≡ 0 → PacketsAfter n a a
-after_none None n e = tt
-after_none (Some packets) n e = λ i. ap packets (omega (arith, e))
-
-of_no_packet : (a : Option Packets) (packet : Option Packet) (n : ℕ) → n ≡ 0 → AreOfPacket n a packet
-of_no_packet a packet n e = subst (λ (k : ℕ). AreOfPacket k a packet) (sym e) (of_none a packet)
+after_same : (a : Option Packets) → PacketsAfter 0 a a
+after_same None = tt
+after_same (Some packets) = λ i. ap packets (let z : i ≡ 0 + i = omega arith in z)
 
 module _ {R : Type 0} (left : R → Option (List ℕ)) (calls failures : R → ℕ) (old new : Input R) (buffer : List ℕ) where
   waiting_reads : (r : Result ℕ DeviceFault) → Waits left calls failures old new r (length buffer) → ReadConsumes (left_of left new) (left_of left new) r buffer
-  waiting_reads (Err e) w = keeps_all (left_of left new)
-  waiting_reads (Ok n) w = (
-    consumes_none (left_of left new) n buffer w.nothing.0,
-    λ zero room. given_stopped (opened_of left new) (file_of left new) (ap is_some (waiting_fault left calls failures old new (Ok n) (length buffer) w) ∙ w.nothing.1 room),
+  waiting_reads (Err e) w = keeps_from (left_of left new) (left_of left new) (Consumes-nil (left_of left new))
+  waiting_reads (Ok (suc n)) w = absurd (omega (arith, w.nothing.0))
+  waiting_reads (Ok zero) w = (
+    Consumes-nil (left_of left new),
+    λ none room. given_stopped (opened_of left new) (file_of left new) (ap is_some (waiting_fault left calls failures old new (Ok 0) (length buffer) w) ∙ w.nothing.1 room),
   )
 
   waiting_packets : (r : Result ℕ DeviceFault) (packet : Option Packet) → Waits left calls failures old new r (length buffer) → ReadsOfPacket (packets_of left new) (packets_of left new) packet r
-  waiting_packets (Err e) packet w = after_none (packets_of left new) 0 refl
-  waiting_packets (Ok n) packet w = (after_none (packets_of left new) n w.nothing.0, of_no_packet (packets_of left new) packet n w.nothing.0)
+  waiting_packets (Err e) packet w = after_same (packets_of left new)
+  waiting_packets (Ok (suc n)) packet w = absurd (omega (arith, w.nothing.0))
+  waiting_packets (Ok zero) packet w = (after_same (packets_of left new), of_none (packets_of left new) packet)
 
   waiting_fails : (r : Result ℕ DeviceFault) → Waits left calls failures old new r (length buffer) → ReadCounts (failures_of failures old) (failures_of failures new) r
   waiting_fails (Ok n) w = let a = w.counted in let b = w.fetches.gave_up in cc
@@ -143,20 +136,20 @@ module _ {R : Type 0} (left : R → Option (List ℕ)) (calls failures : R → �
 
   pub input_gives : (r : Result ℕ DeviceFault) → ReadsInput left calls failures old new r buffer → ReadConsumes (left_of left old) (left_of left new) r buffer
   input_gives r (inl i) =
-      reads_from (left_of left old) (rest_of left i.mid) (left_of left new) r buffer (said_after left calls failures given_of (λ s. refl) old i.mid (file_of left old) i.begins refl)
+      reads_from (left_of left old) (rest_of left i.mid) (left_of left new) r buffer (said_after left calls failures given_of (λ s. refl) old i.mid i.begins)
       (subst (λ (o : Option (List ℕ)). ReadConsumes (rest_of left i.mid) o r buffer) (sym (said_chosen left calls failures given_of (λ s. refl) new i.chosen)) (part_gives left failures i.mid new r buffer i.part))
-  input_gives r (inr w) = reads_from (left_of left old) (left_of left new) (left_of left new) r buffer (said_waiting left calls failures given_of (λ s. refl) old new r (length buffer) (file_of left old) w refl) (waiting_reads r w)
+  input_gives r (inr w) = reads_from (left_of left old) (left_of left new) (left_of left new) r buffer (said_waiting left calls failures given_of (λ s. refl) old new r (length buffer) w) (waiting_reads r w)
 
   pub input_packets : (r : Result ℕ DeviceFault) (before : Option Packet) → MatchResult r (λ n. n ≤ length buffer) (λ e. Unit {0}) → ReadsInput left calls failures old new r buffer
       → ReadsOfPacket (packets_of left old) (packets_of left new) (last_packet r (scan_of new).packet before) r
   input_packets r before b (inl i) =
       packets_from (packets_of left old) (packets_rest left i.mid) (packets_of left new) (last_packet r (scan_of new).packet before) r
-      (said_after left calls failures packets_by (λ s. refl) old i.mid (file_of left old) i.begins refl)
+      (said_after left calls failures packets_by (λ s. refl) old i.mid i.begins)
       (subst (λ (o : Option Packets). ReadsOfPacket (packets_rest left i.mid) o (last_packet r (scan_of new).packet before) r) (sym (said_chosen left calls failures packets_by (λ s. refl) new i.chosen))
       (part_packets left failures i.mid new r buffer before b i.part))
   input_packets r before b (inr w) =
       packets_from (packets_of left old) (packets_of left new) (packets_of left new) (last_packet r (scan_of new).packet before) r
-      (said_waiting left calls failures packets_by (λ s. refl) old new r (length buffer) (file_of left old) w refl) (waiting_packets r (last_packet r (scan_of new).packet before) w)
+      (said_waiting left calls failures packets_by (λ s. refl) old new r (length buffer) w) (waiting_packets r (last_packet r (scan_of new).packet before) w)
 
   pub input_fails : (r : Result ℕ DeviceFault) → ReadsInput left calls failures old new r buffer → ReadCounts (failures_of failures old) (failures_of failures new) r
   input_fails r (inr w) = waiting_fails r w
@@ -183,8 +176,7 @@ kept_put bytes part start end m k first fits within =
 -- and if nothing was
 pub kept_none : (bytes part : List ℕ) (start end m : ℕ) → start ≡ 0 → end ≤ length bytes → slice_range (put_mid end m bytes part) start end ≡ slice_range bytes start end ++ []
 kept_none bytes part start end m first fits =
-    ap (λ (n : ℕ). slice_range (put_mid end m bytes part) n end) first ∙ from_start (put_mid end m bytes part) end ∙ take-put_mid_below end m bytes part end (omega arith) fits
-    ∙ sym (from_start bytes end) ∙ ap (λ (n : ℕ). slice_range bytes n end) (sym first) ∙ sym (append-nil (slice_range bytes start end))
+    ap (slice_range (put_mid end m bytes part) start) (let z : end ≡ end + 0 = omega arith in z) ∙ kept_put bytes part start end m 0 first fits (omega arith)
 
 -- what is kept is there
 pub kept_there : (bytes : List ℕ) (start end : ℕ) → start ≡ 0 → length (slice_range bytes start end) ≡ end - start → end ≤ length bytes

@@ -1,6 +1,6 @@
 -- A block of a pcapng file that has a packet, or that is passed over, is read as it is spelled.
 use Rattle.std.proofs.Common.{◌≡◌, ◌≢◌, inl, inr, ℕ, ◌+◌, ◌-◌, ◌*◌, ◌<◌, ◌≤◌, ◌^◌, ◌%◌, Bool, true, false, List, [], ◌++◌, length, Option, None, Some, refl, sym, ap, subst, ◌∙◌, arith, append_assoc, append-nil, length-append}
-use Rattle.std.specs.Prelude.{nat_lt, slice_get}
+use Rattle.std.specs.Prelude.{◌==◌, nat_lt, slice_get}
 use Rattle.dbus_device.specs.declared.packet.Packet.{Packet}
 use Rattle.dbus_capture.specs.declared.byte_order.ByteOrder.{ByteOrder}
 use Rattle.dbus_capture.specs.declared.byte_order.ByteOrder.TheVariants.{Little, Big}
@@ -19,7 +19,7 @@ use Rattle.dbus_capture.specs.Heads.{give_packet, pass_packet, packet_head}
 use Rattle.dbus_capture.specs.declared.packet.PacketHead.{PacketHead}
 use Rattle.dbus_capture.specs.CutPackets.{Captured}
 use Rattle.dbus_capture.specs.BlockPackets.{packet_by, block_packets}
-use Rattle.dbus_capture.proofs.Choices.{lt_false, le_true, eq_is, eq_not, cases_same, both_true, when_true, when_false}
+use Rattle.dbus_capture.proofs.Choices.{lt_false, le_true, eq_is, eq_not, eq_told, both_true, when, when_true, when_false}
 use Rattle.dbus_capture.proofs.NumberLaws.{u32_size, u32_again, u16_again}
 use Rattle.dbus_capture.proofs.StepLaws.{lead_then, lead_to, lead_of, lead_from}
 use Rattle.dbus_capture.proofs.Leads.{head_leads, bytes_lead, given_whole, packet_cases, Went, went_on, went_whole, went_cut, Begins}
@@ -231,8 +231,8 @@ module _ (o : ByteOrder) (interfaces : List Interface) (s : Scan) (form : Packet
       lead_of (spelled ∙ ap (λ l. ((u32_bytes o kind ++ u32_bytes o total) ++ head) ++ (l ++ u32_bytes o total)) (sym e))
       (lead_then fronts (lead_from (f ∙ is) (ends o (record x { interfaces = interfaces }) given rest' give skip total g k b.size)))
 
-  dbus : i.link_type ≡ 231 → block_packet m i.link_type packet ≡ packet_head t packet
-  dbus same = when_false _ _ _ roomy ∙ when_true _ _ _ (eq_is i.link_type 231 same)
+  dbus : (i.link_type == 231) ≡ true → block_packet m i.link_type packet ≡ packet_head t packet
+  dbus same = when_false _ _ _ roomy ∙ when_true _ _ _ same
 
   packet_read : (passes : Bool) → passes ≡ s.passes_cut → IsCapturedBy passes i original bytes
       → Went (at_blocks o interfaces) (at_blocks o interfaces s) (framed_bytes o kind (head ++ (bytes ++ rest))) (packet_by original bytes (Some i))
@@ -241,28 +241,26 @@ module _ (o : ByteOrder) (interfaces : List Interface) (s : Scan) (form : Packet
       let one : Captured = record { original = original; bytes = bytes } in
       let all_of : room ≡ length (bytes ++ rest) = let k = length-append bytes rest in omega (arith, room_is, k) in
       let ends_at : Scan → Scan = λ (x : Scan). record x { next = place (x.next + 4) } in
-      elim (cases_same i.link_type 231) [
-        | inr other ↦
-            let x = pass_packet t p.size room in
-            subst (Went at (at s) _) (sym (when_false _ _ _ (eq_not i.link_type 231 other)))
-            (went_on at (at s) (ends_at x) _ (closes x [] (bytes ++ rest) refl (when_false _ _ _ roomy ∙ when_false _ _ _ (eq_not i.link_type 231 other)) 0 room refl all_of refl) refl moved refl refl)
-        | inl same ↦ subst (Went at (at s) _) (sym (when_true _ _ _ (eq_is i.link_type 231 same))) (elim (packet_cases t packet passes pass (whole same)) [
-          | inl all ↦
-              let x = give_packet t packet in
-              let l = closes x bytes rest refl (dbus same ∙ all.1) (length bytes) (room - length bytes) refl (omega (arith, room_is)) refl in
-              went_whole at (at s) (ends_at x) _ one all.0 (record { ran = l.ran; gave = l.gave ∙ append-nil bytes }) refl moved refl refl
-          | inr cut ↦
-              let x : Scan = record (pass_packet t p.size room) { cut = place (s.cut + 1) } in
-              went_cut at (at s) (ends_at x) _ one cut.0 (closes x [] (bytes ++ rest) refl (dbus same ∙ cut.1) 0 room refl all_of refl) refl moved refl refl
-        ])
-      ]
+      when (Went at (at s) _) (i.link_type == 231) _ _
+      (λ same. elim (packet_cases t packet passes pass (whole (eq_told _ _ same))) [
+        | inl all ↦
+            let x = give_packet t packet in
+            let l = closes x bytes rest refl (dbus same ∙ all.1) (length bytes) (room - length bytes) refl (omega (arith, room_is)) refl in
+            went_whole at (at s) (ends_at x) _ one all.0 (record { ran = l.ran; gave = l.gave ∙ append-nil bytes }) refl moved refl refl
+        | inr cut ↦
+            let x : Scan = record (pass_packet t p.size room) { cut = place (s.cut + 1) } in
+            went_cut at (at s) (ends_at x) _ one cut.0 (closes x [] (bytes ++ rest) refl (dbus same ∙ cut.1) 0 room refl all_of refl) refl moved refl refl
+      ])
+      (λ other.
+      let x = pass_packet t p.size room in
+      went_on at (at s) (ends_at x) _ (closes x [] (bytes ++ rest) refl (when_false _ _ _ roomy ∙ when_false _ _ _ other) 0 room refl all_of refl) refl moved refl refl)
 
   packet_begins : i.link_type ≡ 231 → original ≡ length bytes → (told : Packet)
       → told ≡ record { number = place (s.packets + 1); at = place (s.next + 8 + 2 ^ 64 - 8); time = p.time; length = length bytes }
       → Begins (at_blocks o interfaces s) ((u32_bytes o kind ++ u32_bytes o total) ++ head) bytes told
   packet_begins same all told is = record {
     state = give_packet t packet;
-    leads = lead_to fronts (dbus same ∙ given_whole t packet all);
+    leads = lead_to fronts (dbus (eq_is i.link_type 231 same) ∙ given_whole t packet all);
     unfaulted = refl;
     filed = refl;
     gives = refl;
@@ -279,10 +277,9 @@ module _ (passes : Bool) (o : ByteOrder) (interfaces : List Interface) (s : Scan
   pub block_read : (head : PacketForm) (original : ℕ) (bytes rest : List ℕ) → let block = PacketBlock head original bytes rest in FitsBlock passes interfaces block → FitsBody (block_body o block) → passes ≡ s.passes_cut
       → Went (at_blocks o interfaces) (at_blocks o interfaces s) (block_bytes o block) (block_packets interfaces block)
   block_read head original bytes rest f b pass =
-      let i = f.2.0 in
-      let p = packet_is o interfaces head i (length bytes) original f.2.1 (low_in (head_bytes o head (length bytes) original) bytes rest b.size) f.0 f.2.2.0 in
+      let p = packet_is o interfaces head f.2.0 (length bytes) original f.2.1 (low_in (head_bytes o head (length bytes) original) bytes rest b.size) f.0 f.2.2.0 in
       subst (λ (v : Option Interface). Went (at_blocks o interfaces) (at_blocks o interfaces s) (block_bytes o (PacketBlock head original bytes rest)) (packet_by original bytes v)) (sym f.2.1)
-      (packet_read o interfaces s head i original bytes rest p b f.1 passes pass f.2.2.1)
+      (packet_read o interfaces s head f.2.0 original bytes rest p b f.1 passes pass f.2.2.1)
 
   -- this is reported of it, if all of it was captured
   pub block_begins : (i : Interface) (form : PacketForm) (bytes rest : List ℕ) (packet : Packet) → let block = PacketBlock form (length bytes) bytes rest in FitsBlock passes interfaces block → FitsBody (block_body o block)

@@ -84,8 +84,16 @@ module _ {R : Type 0} (left : R → Option (List ℕ)) (calls : R → ℕ) where
     unfailed = record { source = refl; gave_up = refl };
   }
 
-  pub reads_nothing : (s : Input R) → Reads left s s []
+  reads_nothing : (s : Input R) → Reads left s s []
   reads_nothing s = record { used = []; consumed = Consumes-nil (file_of left s); leads = lead_nothing (scan_of s) }
+
+  -- nothing is read
+  pub still_part : (failures : R → ℕ) (s : Input R) (buffer : List ℕ) → (0 < length buffer → is_some (scan_of s).fault ≡ true) → ReadsPart left failures s s (Ok 0) buffer
+  still_part failures s buffer stopped =
+      (record { source = refl; gave_up = refl }, inl (record { reads = reads_nothing s; one = λ some. absurd (omega (arith, some)) }, λ zero room. stopped room))
+
+  pub still_asks : (s : Input R) (r : Result ℕ DeviceFault) → Asks left calls s s r
+  still_asks s r = record { pieces = []; called = refl; needed = tt; found = inl (All-nil HasByte) }
 
   module _ {turns : ℕ} {old mid : Input R} (g : Goes left calls turns old mid) where
     -- the source below is called if nothing is kept
@@ -205,7 +213,7 @@ given_end s t (Some x) (Some y) used kept c gave none end =
     let all : x ≡ used = c ∙ ap (λ l. used ++ l) nothing ∙ append-nil used in
     (ap (given s) all ∙ gave ∙ sym (ap (given t) nothing), ap (given t) nothing)
 
-keeps_from : (a b : Option (List ℕ)) → Consumes a b [] → Keeps a b
+pub keeps_from : (a b : Option (List ℕ)) → Consumes a b [] → Keeps a b
 keeps_from None b c = tt
 keeps_from (Some x) None c = absurd c
 keeps_from (Some x) (Some y) c = sym c

@@ -1,5 +1,5 @@
 -- Tests of numbers, and what is chosen by them.
-use Rattle.std.proofs.Common.{◌≡◌, ◌≢◌, ◌⊎◌, inl, inr, ℕ, ◌<◌, ◌≤◌, Bool, true, false, cond, nat_lt, nat_eq, refl, sym, ap, ◌∙◌, arith}
+use Rattle.std.proofs.Common.{◌≡◌, ◌≢◌, inl, inr, ℕ, ◌<◌, ◌≤◌, Bool, true, false, cond, nat_lt, nat_eq, refl, sym, ap, ◌∙◌, arith}
 use Rattle.std.specs.Prelude.{◌&&◌, nat_le}
 use Rattle.std.proofs.lemmas.Bool.{cases_lt}
 use Rattle.std.proofs.lemmas.Bool.Decides.{nat_tests}
@@ -18,13 +18,6 @@ eq_is a b e = grind (arith, e)
 
 pub eq_not : (a b : ℕ) → a ≢ b → nat_eq a b ≡ false
 eq_not a b n = elim (cases_lt a b) [ inl h ↦ grind (arith, h) | inr h ↦ elim (cases_lt b a) [ inl k ↦ grind (arith, k) | inr k ↦ absurd (n (omega (arith, h, k))) ] ]
-
-pub cases_same : (a b : ℕ) → (a ≡ b) ⊎ (a ≢ b)
-cases_same a b =
-    elim (cases_lt a b) [
-      | inl h ↦ inr (λ e. absurd (omega (arith, h, e)))
-      | inr h ↦ elim (cases_lt b a) [ inl k ↦ inr (λ e. absurd (omega (arith, k, e))) | inr k ↦ inl (omega (arith, h, k)) ]
-    ]
 
 pub both_true : (a b : Bool) → a ≡ true → b ≡ true → (a && b) ≡ true
 both_true true true p q = refl
@@ -53,3 +46,8 @@ le_untold a b e = grind (arith, nat_tests)
 pub when : {A : Type 0} (P : A → Type 0) (b : Bool) (x y : A) → (b ≡ true → P x) → (b ≡ false → P y) → P (cond b x y)
 when P true x y f g = f refl
 when P false x y f g = g refl
+
+-- of two choices by one test
+pub when_both : {A B : Type 0} (P : A → B → Type 0) (b : Bool) (x y : A) (v w : B) → (b ≡ true → P x v) → (b ≡ false → P y w) → P (cond b x y) (cond b v w)
+when_both P true x y v w f g = f refl
+when_both P false x y v w f g = g refl

@@ -42,21 +42,14 @@ begins_section o rest = first_by (u32_bytes o 0x0a0d0d0a ++ rest) (long o 0x0a0d
 -- ---- what begins as a message or a handshake
 
 -- the first byte of no file
-record IsOther (b : ℕ) : Type 0 where
-  low : b < 256
-  first : b ≢ 0xd4
-  second : b ≢ 0x4d
-  third : b ≢ 0xa1
-  fourth : b ≢ 0x0a
-
-is_other : (b : ℕ) → IsFirstOfStream b → IsOther b
-is_other b any = record {
-  low = grind (arith, any);
-  first = λ e. absurd (grind (arith, any, e));
-  second = λ e. absurd (grind (arith, any, e));
-  third = λ e. absurd (grind (arith, any, e));
-  fourth = λ e. absurd (grind (arith, any, e));
-}
+is_other : (b : ℕ) → IsFirstOfStream b → (b < 256) × (b ≢ 0xd4) × (b ≢ 0x4d) × (b ≢ 0xa1) × (b ≢ 0x0a)
+is_other b any = (
+  grind (arith, any),
+  λ e. absurd (grind (arith, any, e)),
+  λ e. absurd (grind (arith, any, e)),
+  λ e. absurd (grind (arith, any, e)),
+  λ e. absurd (grind (arith, any, e)),
+)
 
 no_magic : (n : ℕ) → n ≢ 0xa1b2c3d4 → n ≢ 0xa1b23c4d → n ≢ 0xd4c3b2a1 → n ≢ 0x4d3cb2a1 → magic n ≡ None
 no_magic n p q r s = when_false _ _ _ (eq_not n 0xa1b2c3d4 p) ∙ when_false _ _ _ (eq_not n 0xa1b23c4d q) ∙ when_false _ _ _ (eq_not n 0xd4c3b2a1 r) ∙ when_false _ _ _ (eq_not n 0x4d3cb2a1 s)
@@ -72,12 +65,7 @@ stream_first x (a ∷ b ∷ []) any = refl
 stream_first x (a ∷ b ∷ c ∷ rest) any =
     let bytes = x ∷ a ∷ b ∷ c ∷ rest in
     let o = is_other x any in
-    let low = o.low in
-    let p = o.first in
-    let q = o.second in
-    let r = o.third in
-    let s = o.fourth in
     first_by bytes (omega arith)
     ∙ raw_by (u32_at Little 0 bytes)
-    (no_magic (u32_at Little 0 bytes) (λ e. p (omega (arith, low, e))) (λ e. q (omega (arith, low, e))) (λ e. r (omega (arith, low, e))) (λ e. r (omega (arith, low, e))))
-    (λ e. s (omega (arith, low, e)))
+    (no_magic (u32_at Little 0 bytes) (λ e. o.1 (omega (arith, o.0, e))) (λ e. o.2 (omega (arith, o.0, e))) (λ e. o.3 (omega (arith, o.0, e))) (λ e. o.3 (omega (arith, o.0, e))))
+    (λ e. o.4 (omega (arith, o.0, e)))

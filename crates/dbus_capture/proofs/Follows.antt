@@ -208,7 +208,6 @@ module _ (heads : HeadsGo) (p n : ℕ) (s : Scan) (z : Standing p n s) where
   steps_by b low None false zero (suc skip) e r g k = taken b e s.give (s.skip - 1) (omega (arith, g, k))
   steps_by b low None false zero zero e r g k =
       let at = at_none e in
-      let even = at.2 in
       let held = s.head.bytes in
       let h = held ++ b ∷ [] in
       let longer : length h ≡ length held + 1 = length-append held (b ∷ []) in
@@ -220,13 +219,13 @@ module _ (heads : HeadsGo) (p n : ℕ) (s : Scan) (z : Standing p n s) where
       (λ whole.
       let size : length h ≡ want s.head.stage = eq_told _ _ whole in
       let go = heads s.head.stage p at.0 s h z.filed z.sound e g k at.1 are size in
-      let more : at.0 + length h ≡ suc n = omega (arith, even, longer, g, k) in
+      let more : at.0 + length h ≡ suc n = omega (arith, at.2, longer, g, k) in
       record {
         stands = subst (λ m. Standing p m (decoded (record s { head = begun s.head.stage }) h)) more go.stands;
         follows = λ bytes x. head_then bytes (go.follows bytes x);
       })
       (λ less. record {
-        stands = record { filed = z.filed; sound = z.sound; are = are; at = subst (IsAt p (suc n) part) (sym e) (at.0, at.1, omega (arith, even, longer)) };
+        stands = record { filed = z.filed; sound = z.sound; are = are; at = subst (IsAt p (suc n) part) (sym e) (at.0, at.1, omega (arith, at.2, longer)) };
         follows = λ bytes x. head_then bytes (unfilled part bytes g k x);
       })
 
@@ -244,9 +243,7 @@ module _ (p n : ℕ) (s : Scan) (z : Standing p n s) where
   cut_at : s.fault ≡ None → EndsAt p n s cut.fault
   cut_at e =
       let at : IsAt p n s None = subst (IsAt p n s) e z.at in
-      let next = at.1 in
-      let even = at.2 in
-      (n, omega (arith, next, even), omega arith)
+      (n, omega (arith, at.1, at.2), omega arith)
 
   file_ends : (stage : Stage) (held : List ℕ) (t : Scan) → may_end Gathers stage held ≡ true → FollowsFrom stage t (held ++ [])
   file_ends Record [] t e = record { packets = []; fit = tt; joined = refl }

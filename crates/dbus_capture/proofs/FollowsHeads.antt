@@ -25,9 +25,9 @@ use Rattle.dbus_capture.specs.Blocks.{enhanced_by, enhanced_head, obsolete_head,
 use Rattle.dbus_capture.specs.CutPackets.{IsCaptured}
 use Rattle.dbus_capture.specs.Outcomes.{AreBytes, PcapngFile}
 use Rattle.dbus_capture.specs.PcapFiles.{magic_number}
-use Rattle.dbus_capture.specs.BlockFiles.{InterfaceBlock, PacketBlock, OtherBlock, PacketForm, EnhancedHead, ObsoleteHead, SimpleHead, head_kind, head_bytes, head_interface, FitsHead, block_kind}
-use Rattle.dbus_capture.specs.BlockFiles.{block_body, blocks_bytes, InterfaceOption, options_bytes, end_bytes, FitsOption}
-use Rattle.dbus_capture.specs.BlockFiles.{with_option, with_options, FileSection, section_body, sections_bytes}
+use Rattle.dbus_capture.specs.BlockFiles.{InterfaceBlock, PacketBlock, OtherBlock, PacketForm, EnhancedHead, ObsoleteHead, SimpleHead, head_kind, head_bytes, head_interface, FitsHead}
+use Rattle.dbus_capture.specs.BlockFiles.{block_body, InterfaceOption, options_bytes, end_bytes, FitsOption}
+use Rattle.dbus_capture.specs.BlockFiles.{with_option, with_options, FileSection, section_body}
 use Rattle.dbus_capture.proofs.Choices.{eq_told, eq_untold, lt_untold, le_untold, when, when_true, when_false}
 use Rattle.dbus_capture.proofs.NumberLaws.{u32_size, u16_size}
 use Rattle.dbus_capture.proofs.ByteLaws.{u32_low, u16_low, u32_as, u16_as, u32_ends, u16_ends}
@@ -61,33 +61,12 @@ options_after : (c : Context) (rest : ℕ) (i : Interface) (bytes : List ℕ) �
     → Options c rest i bytes
 options_after c rest i bytes = when (λ v. FollowsHead v c rest i bytes → Options c rest i bytes)
     (rest == 0) stages.InterfaceTrailer stages.OptionHead
-    (λ e f. record {
-      options = [];
-      end = None;
-      tail = bytes;
-      fit = tt;
-      ends = tt;
-      size = sym (eq_told rest 0 e);
-      joined = refl;
-      few =
-          f.0;
-      closing = f.1;
-    })
+    (λ e f. record { options = []; end = None; tail = bytes; fit = tt; ends = tt; size = sym (eq_told rest 0 e); joined = refl; few = f.0; closing = f.1 })
     (λ e f. f)
 
 first_is : (h : List ℕ) → 0 < length h → h ≡ slice_index h 0 ∷ drop 1 h
 first_is [] low = absurd (omega (arith, low))
 first_is (x ∷ xs) low = refl
-
-regroup_section : (k t m v n z f b s : List ℕ) → (k ++ (t ++ (m ++ (v ++ (n ++ z))))) ++ (f ++ (t ++ (b ++ s))) ≡
-    (((k ++ t) ++ (((m ++ (v ++ (n ++ z))) ++ f) ++ t)) ++ b) ++ s
-regroup_section k t m v n z f b s = simp append_assoc
-
-regroup_block : (k t body b s : List ℕ) → (k ++ t) ++ (body ++ (t ++ (b ++ s))) ≡ (((k ++ t) ++ (body ++ t)) ++ b) ++ s
-regroup_block k t body b s = simp append_assoc
-
-regroup_option : (c n v f o e t : List ℕ) → (c ++ n) ++ ((v ++ f) ++ ((o ++ e) ++ t)) ≡ ((((c ++ n) ++ (v ++ f)) ++ o) ++ e) ++ t
-regroup_option c n v f o e t = simp append_assoc
 
 module _ (p w : ℕ) (s : Scan) (h : List ℕ) (clean : s.fault ≡ None) (none : s.give ≡ 0) (no_skip : s.skip ≡ 0)
     (next_is : s.next ≡ place (p + w)) (are : AreBytes h) where
@@ -114,13 +93,7 @@ module _ (p w : ℕ) (s : Scan) (h : List ℕ) (clean : s.fault ≡ None) (none 
       → k + length t.head.bytes ≡ length h + (t.give + t.skip) → ((more : List ℕ) → Follows t more → FollowsFrom stage s (h ++ more))
       → G stage t
   go stage t k filed sound held u moved even follows = record {
-    stands = record {
-      filed = filed;
-      sound = sound;
-      are = held;
-      at = subst (IsAt p (w + length h) t) (sym u)
-          (w + k, omega (arith, moved, next_is), omega (arith, even));
-    };
+    stands = record { filed = filed; sound = sound; are = held; at = subst (IsAt p (w + length h) t) (sym u) (w + k, omega (arith, moved, next_is), omega (arith, even)) };
     follows = follows;
   }
 
@@ -213,13 +186,9 @@ module _ (p w : ℕ) (s : Scan) (h : List ℕ) (clean : s.fault ≡ None) (none 
       let q : Closing s.passes_cut o total [] f.more = f.rest in
       let versions = and_parts (u16_at o 12 h == 1) ((minor == 0) || (minor == 2)) both in
       let x : FileSection = record { order = o; minor = minor; size = drop 16 h; options = f.fill; blocks = q.blocks.blocks } in
-      let left = length-drop 16 h in
-      let long = f.size in
-      let filled : length f.fill + 28 ≡ total = omega (arith, long, none, least) in
-      let eight : length (drop 16 h) ≡ 8 = omega (arith, left, size) in
+      let filled : length f.fill + 28 ≡ total = omega (arith, f.size, none, least) in
+      let eight : length (drop 16 h) ≡ 8 = omega (arith, length-drop 16 h, size) in
       let body : 12 + length (section_body x) ≡ total = grind (arith, length-append, u32_size, u16_size, eight, filled) in
-      let bl = blocks_bytes o q.blocks.blocks in
-      let se = sections_bytes q.blocks.sections in
       record {
         first = x;
         sections = q.blocks.sections;
@@ -235,8 +204,7 @@ module _ (p w : ℕ) (s : Scan) (h : List ℕ) (clean : s.fault ≡ None) (none 
             (u16_as o h are 14 refl (omega (arith, size)) refl)))))
             (f.joined ∙ ap (λ l. f.fill ++ l) (q.joined ∙ ap (λ (v : ℕ). u32_bytes o v ++ q.tail) (sym body)
             ∙ ap (λ l. u32_bytes o (12 + length (section_body x)) ++ l) q.blocks.joined))
-            ∙ regroup_section (u32_bytes o 0x0a0d0d0a) (u32_bytes o (12 + length (section_body x))) (u32_bytes o 0x1a2b3c4d)
-            (u16_bytes o 1) (u16_bytes o minor) (drop 16 h) f.fill bl se;
+            ∙ simp append_assoc;
       }))
       (λ other. refuse stages.Section 4 reasons.BlockLength refl tt (omega (arith, size))))
       (λ other. refuse stages.Section 12 reasons.Version refl tt (omega (arith, size)))
@@ -260,26 +228,22 @@ module _ (p w : ℕ) (s : Scan) (h : List ℕ) (clean : s.fault ≡ None) (none 
   block_whole bytes kind size type whole q =
       let o = s.order in
       let n = 12 + length (block_body o q.block) in
-      let low = u32_low o h are 4 in
       let same = q.size in
-      let bl = blocks_bytes o q.closing.blocks.blocks in
-      let se = sections_bytes q.closing.blocks.sections in
       record {
         blocks = q.block ∷ q.closing.blocks.blocks;
         sections = q.closing.blocks.sections;
-        fit = (q.fits, record { size = omega (arith, same, low); whole = ap (λ (v : ℕ). v % 4) same ∙ whole }, q.closing.blocks.fit);
+        fit = (q.fits, record { size = omega (arith, same, u32_low o h are 4); whole = ap (λ (v : ℕ). v % 4) same ∙ whole }, q.closing.blocks.fit);
         fits = q.closing.blocks.fits;
         joined = cat _ _ _ _ (u32_as o h are 0 (ap (u32_bytes o) (type ∙ sym q.kind_is)) (omega (arith, size)) (u32_ends o h are 4 (ap (u32_bytes o) (sym same)) size))
             (q.joined ∙ ap (λ l. block_body o q.block ++ l) (q.closing.joined ∙ ap (λ (v : ℕ). u32_bytes o v ++ q.closing.tail)
             (sym same) ∙ ap (λ l. u32_bytes o n ++ l) q.closing.blocks.joined))
-            ∙ regroup_block (u32_bytes o (block_kind q.block)) (u32_bytes o n) (block_body o q.block) bl se;
+            ∙ simp append_assoc;
       }
 
   block_goes : length h ≡ 8 → G stages.Block (block_head (at stages.Block) h)
   block_goes size =
-      let o = s.order in
-      let kind = u32_at o 0 h in
-      let total = u32_at o 4 h in
+      let kind = u32_at s.order 0 h in
+      let total = u32_at s.order 4 h in
       let P : Option (Stage × ℕ) → Type 0 = λ (v : Option (Stage × ℕ)). G stages.Block (block_by (at stages.Block) total v) in
       when (G stages.Block) (kind == 0x0a0d0d0a) _ _
       (λ e. go stages.Block _ 0 refl tt are clean (omega (arith, next_is)) (omega (arith, none, no_skip)) (λ more f.
@@ -293,13 +257,12 @@ module _ (p w : ℕ) (s : Scan) (h : List ℕ) (clean : s.fault ≡ None) (none 
       (λ d. when (G stages.Block) (is_length 12 total) _ _
       (λ fits. let whole = length_told 12 total fits in let least = whole.1 in
       go stages.Block _ (total - 4) refl tt tt clean refl (omega (arith, size, none, least)) (λ more f.
-      let long = f.size in
       block_whole more kind size refl whole.0 (record {
         block = OtherBlock kind f.fill;
         tail = f.more;
         kind_is = refl;
-        size = omega (arith, long, none, least);
-        fits = (u32_low o h are 0, eq_untold _ _ a, eq_untold _ _ b, eq_untold _ _ c, eq_untold _ _ d, eq_untold _ _ no_section);
+        size = omega (arith, f.size, none, least);
+        fits = (u32_low s.order h are 0, eq_untold _ _ a, eq_untold _ _ b, eq_untold _ _ c, eq_untold _ _ d, eq_untold _ _ no_section);
         joined = f.joined;
         closing = f.rest;
       })))
@@ -342,22 +305,18 @@ module _ (p w : ℕ) (s : Scan) (h : List ℕ) (clean : s.fault ≡ None) (none 
   interface_goes size sound =
       let o = s.order in
       let i : Interface = record { link_type = u16_at o 0 h; snap_length = u32_at o 4 h; resolution = 6; has_offset = false } in
-      let least = sound.0 in
-      let left = sound.1 in
-      go stages.InterfaceHead _ 8 (after_filed s.rest) (after_sound s.total s.rest (omega (arith, sound.2, left, least))) tt clean refl
+      go stages.InterfaceHead _ 8 (after_filed s.rest) (after_sound s.total s.rest (omega (arith, sound.2, sound.1, sound.0))) tt clean refl
       (omega (arith, size, none, no_skip)) (λ more f.
       let q = options_after (context s) s.rest i more (unfilled _ more none no_skip f) in
       let options = options_bytes o q.options ++ end_bytes o q.end in
-      let q_size : length options ≡ s.rest = q.size in
       let front = u16_bytes o (u16_at o 0 h) ++ (u16_bytes o (u16_at o 2 h) ++ u32_bytes o (u32_at o 4 h)) in
       let h_is : h ≡ front = u16_as o h are 0 refl (omega (arith, size)) (u16_as o h are 2 refl (omega (arith, size)) (u32_ends o h are 4 refl size)) in
       let eight : length front ≡ 8 = sym (ap length h_is) ∙ size in
-      let all = length-append front options in
       record {
         block = InterfaceBlock (u16_at o 0 h) (u16_at o 2 h) (u32_at o 4 h) q.options q.end;
         tail = q.tail;
         kind_is = refl;
-        size = omega (arith, all, eight, q_size, left, least);
+        size = omega (arith, length-append front options, eight, q.size, sound.1, sound.0);
         fits = (u16_low o h are 0, u32_low o h are 4, q.fit, q.ends, q.few);
         joined = cat _ _ _ _ h_is q.joined ∙ sym (append_assoc front options q.tail);
         closing = q.closing;
@@ -371,8 +330,6 @@ module _ (p w : ℕ) (s : Scan) (h : List ℕ) (clean : s.fault ≡ None) (none 
       let order = s.order in
       let others = options_bytes order q.options in
       let end = end_bytes order q.end in
-      let q_size = q.size in
-      let filled = fits.filled in
       let front = u16_bytes order o.code ++ u16_bytes order (length o.value) in
       let h_is : h ≡ front = u16_as order h are 0 (ap (u16_bytes order) code) (omega (arith, size)) (u16_ends order h are 2 (ap (u16_bytes order) long) size) in
       let four : length front ≡ 4 = sym (ap length h_is) ∙ size in
@@ -382,9 +339,8 @@ module _ (p w : ℕ) (s : Scan) (h : List ℕ) (clean : s.fault ≡ None) (none 
         tail = q.tail;
         fit = (fits, q.fit);
         ends = q.ends;
-        size = grind (arith, length-append, four, filled, q_size, left);
-        joined = cat _ _ _ _ h_is (b ∙ ap (λ l. (o.value ++ o.filler) ++ l) q.joined) ∙ regroup_option (u16_bytes order o.code)
-            (u16_bytes order (length o.value)) o.value o.filler others end q.tail;
+        size = grind (arith, length-append, four, fits.filled, q.size, left);
+        joined = cat _ _ _ _ h_is (b ∙ ap (λ l. (o.value ++ o.filler) ++ l) q.joined) ∙ simp append_assoc;
         few = q.few;
         closing = subst (λ (v : Interface). Closing s.passes_cut order s.total (s.interfaces ++ with_options v q.options ∷ []) q.tail)
             (sym says) q.closing;
@@ -395,8 +351,7 @@ module _ (p w : ℕ) (s : Scan) (h : List ℕ) (clean : s.fault ≡ None) (none 
       let o = s.order in
       let code = u16_at o 0 h in
       let n = u16_at o 2 h in
-      let some = sound.1 in
-      let four : 4 ≤ s.rest = let whole = sound.0 in omega (arith, whole, some) in
+      let four : 4 ≤ s.rest = omega (arith, sound.0, sound.1) in
       let h_is : h ≡ u16_bytes o code ++ u16_bytes o n = u16_as o h are 0 refl (omega (arith, size)) (u16_ends o h are 2 refl size) in
       when (G stages.OptionHead) (code == 0) _ _
       (λ e. go stages.OptionHead _ s.rest refl tt tt clean refl (omega (arith, size, none, four)) (λ more f.
@@ -409,7 +364,7 @@ module _ (p w : ℕ) (s : Scan) (h : List ℕ) (clean : s.fault ≡ None) (none 
         ends = grind (arith, length-append, u16_size);
         size = grind (arith, length-append, u16_size, f.size, none, four);
         joined = cat _ _ _ _ (h_is ∙ ap (λ (v : ℕ). u16_bytes o v ++ u16_bytes o n) (eq_told code 0 e)) f.joined
-            ∙ regroup_end (u16_bytes o 0) (u16_bytes o n) f.fill f.more;
+            ∙ simp append_assoc;
         few = q.0;
         closing = q.1;
       }))
@@ -420,17 +375,11 @@ module _ (p w : ℕ) (s : Scan) (h : List ℕ) (clean : s.fault ≡ None) (none 
       (λ one. go stages.OptionHead _ 4 refl (let whole = sound.0 in omega (arith, whole)) tt clean refl
       (omega (arith, size, none, no_skip)) (λ more f.
       let q : TimeUnit (context s) (s.rest - 8) s.interface more = unfilled _ more none no_skip f in
-      let three = q.filled in
       let x : InterfaceOption = record { code = 9; value = q.value ∷ []; filler = q.filler } in
       let is_one = eq_told n 1 one in
       option_first more q.more x _ (s.rest - 8) size (eq_told code 9 nine) is_one
-      (record {
-        code = omega arith;
-        no_end = λ z. absurd (omega (arith, z));
-        size = omega arith;
-        filled = omega (arith, three);
-        resolution = λ z. refl;
-      }) refl (omega (arith, room, is_one)) q.joined q.options))
+      (record { code = omega arith; no_end = λ z. absurd (omega (arith, z)); size = omega arith; filled = omega (arith, q.filled); resolution = λ z. refl })
+      refl (omega (arith, room, is_one)) q.joined q.options))
       (λ other. refuse stages.OptionHead 2 reasons.OptionLength refl sound (omega (arith, size))))
       (λ not_nine. when (G stages.OptionHead) (code == 14) _ _
       (λ offset. passed size sound (record s.interface { has_offset = true }) (eq_untold code 0 e) (eq_untold code 9 not_nine) room
@@ -438,9 +387,6 @@ module _ (p w : ℕ) (s : Scan) (h : List ℕ) (clean : s.fault ≡ None) (none 
       (λ no_offset. passed size sound s.interface (eq_untold code 0 e) (eq_untold code 9 not_nine) room
       (λ v. when_false _ _ _ not_nine ∙ when_false _ _ _ no_offset)))))
     where
-      regroup_end : (c n f t : List ℕ) → (c ++ n) ++ (f ++ t) ≡ ([] ++ (c ++ (n ++ f))) ++ t
-      regroup_end c n f t = simp append_assoc
-
       passed : length h ≡ 4 → IsSound stages.OptionHead s.total s.rest → (i : Interface) → let code = u16_at s.order 0 h in
           let n = u16_at s.order 2 h in code ≢ 0 → code ≢ 9 → padded n ≤ s.rest - 4
           → ((v : List ℕ) → cond (code == 9) (record s.interface { resolution = slice_index v 0 })
@@ -449,26 +395,20 @@ module _ (p w : ℕ) (s : Scan) (h : List ℕ) (clean : s.fault ≡ None) (none 
       passed size sound i no_end no_unit room says =
           let code = u16_at s.order 0 h in
           let n = u16_at s.order 2 h in
-          let whole = sound.0 in
           let rest = s.rest - 4 - padded n in
-          go stages.OptionHead _ (4 + padded n) (after_filed rest) (after_sound s.total rest (omega (arith, whole, room))) tt clean refl
+          go stages.OptionHead _ (4 + padded n) (after_filed rest) (after_sound s.total rest (omega (arith, sound.0, room))) tt clean refl
           (omega (arith, size, none)) (λ more f.
-          let long = f.size in
-          let fits : n ≤ length f.fill = omega (arith, long, none) in
+          let fits : n ≤ length f.fill = omega (arith, f.size, none) in
           let value = take n f.fill in
           let filler = drop n f.fill in
           let value_size : length value ≡ n = length-take-le n f.fill fits in
-          let filler_size = length-drop n f.fill in
           let x : InterfaceOption = record { code = code; value = value; filler = filler } in
-          let low_code = u16_low s.order h are 0 in
-          let low_size = u16_low s.order h are 2 in
           option_first more f.more x i rest size refl (sym value_size)
           (record {
-            code = low_code;
+            code = u16_low s.order h are 0;
             no_end = no_end;
-            size = omega (arith, value_size, low_size);
-            filled =
-                omega (arith, value_size, filler_size, long, none);
+            size = omega (arith, value_size, u16_low s.order h are 2);
+            filled = omega (arith, value_size, length-drop n f.fill, f.size, none);
             resolution = λ z. absurd (no_unit z);
           })
           (says value) (omega (arith, value_size, room)) (f.joined ∙ ap (λ l. l ++ f.more) (sym (take-append-drop n f.fill)))
@@ -478,12 +418,11 @@ module _ (p w : ℕ) (s : Scan) (h : List ℕ) (clean : s.fault ≡ None) (none 
   resolution_goes size sound =
       go stages.Resolution _ 4 (after_filed s.rest) (after_sound s.total s.rest sound) tt clean refl (omega (arith, size, none, no_skip))
       (λ more f.
-      let left = length-drop 1 h in
       record {
         value = slice_index h 0;
         filler = drop 1 h;
         more = more;
-        filled = omega (arith, left, size);
+        filled = omega (arith, length-drop 1 h, size);
         joined = ap (λ l. l ++ more) (first_is h (omega (arith, size)));
         options = options_after (context s) s.rest _ more (unfilled _ more none no_skip f);
       })
@@ -508,19 +447,12 @@ module _ (p w : ℕ) (s : Scan) (h : List ℕ) (clean : s.fault ≡ None) (none 
         let told = words (length bytes) (sym bytes_size) in
         let all : h ++ more ≡ (head_bytes s.order form (length bytes) original ++ (bytes ++ rest)) ++ after =
         cat _ _ _ _ told.0 (joined ∙ ap (λ l. l ++ after) (sym (take-append-drop n fill))) ∙ sym (append_assoc (head_bytes s.order form (length bytes) original) (bytes ++ rest) after) in
-        let one = ap length told.0 in
-        let two = length-append (head_bytes s.order form (length bytes) original) (bytes ++ rest) in
-        let three = length-append bytes rest in
         taken (h ++ more) (record {
           block = PacketBlock form original bytes rest;
           tail = after;
           kind_is = refl;
-          size = omega (arith, one, two, three, bytes_size, rest_size, long, least, enough);
-          fits = (
-            low,
-            omega (arith, bytes_size, rest_size, long, enough),
-            (i, found, (told.1, λ z. subst (IsCaptured s.passes_cut original) (sym bytes_size) (whole z))),
-          );
+          size = grind (arith, length-append, ap length told.0, bytes_size, rest_size, long, least, enough);
+          fits = (low, omega (arith, bytes_size, rest_size, long, enough), (i, found, (told.1, λ z. subst (IsCaptured s.passes_cut original) (sym bytes_size) (whole z))));
           joined = all;
           closing = closing;
         })

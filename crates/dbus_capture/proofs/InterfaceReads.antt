@@ -1,5 +1,5 @@
 -- The block of an interface is read as it is spelled, with its options.
-use Rattle.std.proofs.Common.{◌≡◌, ◌≢◌, inl, inr, ℕ, ◌+◌, ◌-◌, ◌<◌, ◌≤◌, ◌^◌, Bool, true, false, cond, List, [], ◌∷◌, ◌++◌, length, take, drop, Option, None, Some, refl, sym, ap, ◌∙◌, arith, append_assoc, length-append, take-append-drop}
+use Rattle.std.proofs.Common.{◌≡◌, ◌≢◌, ℕ, ◌+◌, ◌-◌, ◌<◌, ◌≤◌, ◌^◌, Bool, true, false, cond, List, [], ◌∷◌, ◌++◌, length, take, drop, Option, None, Some, refl, sym, ap, ◌∙◌, arith, append_assoc, length-append, take-append-drop}
 use Rattle.std.specs.Prelude.{◌==◌, nat_le, slice_index}
 use Rattle.std.proofs.lemmas.List.{length-take-le, length-drop}
 use Rattle.dbus_capture.specs.declared.byte_order.ByteOrder.{ByteOrder}
@@ -15,7 +15,7 @@ use Rattle.dbus_capture.specs.declared.fault.CaptureReason.TheVariants as reason
 use Rattle.dbus_capture.specs.Blocks.{padded, after_option, pass_option, option_in}
 use Rattle.dbus_capture.specs.Steps.{run, told, given, Leads}
 use Rattle.dbus_capture.specs.BlockFiles.{FitsBody, InterfaceOption, option_bytes, options_bytes, FitsOption, AllFitOptions, with_option, with_options, end_bytes, FitsEnd, InterfaceBlock, block_bytes, block_body, interfaces_after, FitsBlock}
-use Rattle.dbus_capture.proofs.Choices.{lt_false, eq_is, eq_not, cases_same, when_true, when_false}
+use Rattle.dbus_capture.proofs.Choices.{lt_false, eq_is, eq_not, eq_told, when_true, when_false, when_both}
 use Rattle.dbus_capture.proofs.NumberLaws.{u32_size, u16_size, u32_again, u16_again}
 use Rattle.dbus_capture.proofs.StepLaws.{lead_then, lead_to, lead_of, lead_from}
 use Rattle.dbus_capture.proofs.Leads.{head_leads, bytes_lead, Went, went_on}
@@ -80,26 +80,22 @@ module _ (o : ByteOrder) (interfaces : List Interface) (total : ℕ) (t : Scan) 
   option_taken more i n x f =
       let size = length x.value in
       let body = x.value ++ x.filler in
-      let fill = f.filled in
-      let body_size : length body ≡ padded size = let l = length-append x.value x.filler in omega (arith, l, fill) in
-      let long : length (option_bytes o x) ≡ 4 + padded size = let e = two_told o x.code size f.code f.size in let l = length-append (u16_bytes o x.code ++ u16_bytes o size) body in omega (arith, l, e.0, body_size) in
-      let left = length (option_bytes o x) + more in
-      let head = option_head left i (place n) x.code size (omega (arith, long)) f.code f.size f.no_end (omega (arith, long)) in
-      elim (cases_same x.code 9) [
-        | inl nine ↦
-            let one = f.resolution nine in
-            let four : padded size ≡ 4 = ap padded one in
-            lead_to (lead_then (lead_to head (when_true _ _ _ (eq_is x.code 9 nine) ∙ when_true _ _ _ (eq_is size 1 one))) (resolved left more i (place n) x.value x.filler (omega (arith, long, four)) one (omega (arith, fill, four, one))))
-            (at_same refl (sym (when_true _ _ _ (eq_is x.code 9 nine))) (let z : place (place n + 8) ≡ place (n + length (option_bytes o x)) = omega (arith, long, four) in z))
-        | inr not_nine ↦
-            let later : place (place n + (4 + padded size)) ≡ place (n + length (option_bytes o x)) = omega (arith, long) in
-            elim (cases_same x.code 14) [
-              | inl shift ↦ lead_to (lead_then (lead_to head (when_false _ _ _ (eq_not x.code 9 not_nine) ∙ when_true _ _ _ (eq_is x.code 14 shift))) (passed left more i (record i { has_offset = true }) (place n) (padded size) body (omega (arith, long)) body_size))
-                  (at_same refl (sym (when_false _ _ _ (eq_not x.code 9 not_nine) ∙ when_true _ _ _ (eq_is x.code 14 shift))) later)
-              | inr not_shift ↦ lead_to (lead_then (lead_to head (when_false _ _ _ (eq_not x.code 9 not_nine) ∙ when_false _ _ _ (eq_not x.code 14 not_shift))) (passed left more i i (place n) (padded size) body (omega (arith, long)) body_size))
-                  (at_same refl (sym (when_false _ _ _ (eq_not x.code 9 not_nine) ∙ when_false _ _ _ (eq_not x.code 14 not_shift))) later)
-            ]
-      ]
+      let all = option_bytes o x in
+      let left = length all + more in
+      let body_size : length body ≡ padded size = omega (arith, length-append x.value x.filler, f.filled) in
+      let front = two_told o x.code size f.code f.size in
+      let long : length all ≡ 4 + padded size = omega (arith, length-append (u16_bytes o x.code ++ u16_bytes o size) body, front.0, body_size) in
+      let passes = λ (j : Interface). lead_to (passed left more i j (place n) (padded size) body (omega (arith, long)) body_size)
+      (at_same refl refl (let z : place (place n + (4 + padded size)) ≡ place (n + length all) = omega (arith, long) in z)) in
+      lead_then (option_head left i (place n) x.code size (omega (arith, long)) f.code f.size f.no_end (omega (arith, long)))
+      (when_both (λ (v : Scan) (j : Interface). Leads v body [] (at more j (place (n + length all)))) (x.code == 9) _ _ _ _
+      (λ nine.
+      let one = f.resolution (eq_told _ _ nine) in
+      let four : padded size ≡ 4 = ap padded one in
+      lead_from (when_true _ _ _ (eq_is size 1 one)) (lead_to (resolved left more i (place n) x.value x.filler (omega (arith, long, four)) one (omega (arith, f.filled, four, one)))
+      (at_same refl refl (let z : place (place n + 8) ≡ place (n + length all) = omega (arith, long, four) in z))))
+      (λ other. when_both (λ (v : Scan) (j : Interface). Leads v body [] (at more j (place (n + length all)))) (x.code == 14) _ _ _ _
+      (λ e. passes (record i { has_offset = true })) (λ e. passes i)))
 
   -- the options, and their end
   options_taken : (more : ℕ) (i : Interface) (n : ℕ) (options : List InterfaceOption) → AllFitOptions options → let all = length (options_bytes o options) in

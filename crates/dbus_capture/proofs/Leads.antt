@@ -1,5 +1,5 @@
 -- From a state the bytes of a file lead to another, and some of them are handed on.
-use Rattle.std.proofs.Common.{◌≤◌, ◌≡◌, ◌⊎◌, inl, inr, ℕ, ◌+◌, ◌-◌, ◌<◌, Bool, true, false, cond, List, [], ◌∷◌, ◌++◌, length, Option, None, Some, refl, sym, ap, subst, ◌∙◌, arith, append_assoc, append-nil, length-append}
+use Rattle.std.proofs.Common.{◌≤◌, ◌≡◌, ◌⊎◌, inl, inr, ℕ, ◌+◌, ◌-◌, ◌<◌, Bool, true, false, cond, List, [], ◌∷◌, ◌++◌, length, Option, None, Some, refl, sym, ap, ◌∙◌, arith, append_assoc, append-nil, length-append}
 use Rattle.dbus_device.specs.declared.packet.Packet.{Packet}
 use Rattle.dbus_capture.specs.declared.stage.Stage.{Stage}
 use Rattle.dbus_capture.specs.declared.scan.Scan.{Scan}
@@ -44,9 +44,7 @@ pub bytes_lead : (t : Scan) (bytes rest : List ℕ) (give skip : ℕ) → is_raw
     → Leads (record t { give = give; skip = skip; fault = None }) (bytes ++ rest) bytes (record t { give = 0; skip = 0; fault = None })
 bytes_lead t bytes rest give skip filed g k =
     let both = lead_then (gives_lead (record t { skip = length rest }) bytes filed) (skips_lead t rest filed) in
-    subst (λ (n : ℕ). Leads (record t { give = n; skip = skip; fault = None }) (bytes ++ rest) bytes (record t { give = 0; skip = 0; fault = None })) (sym g)
-    (subst (λ (n : ℕ). Leads (record t { give = length bytes; skip = n; fault = None }) (bytes ++ rest) bytes (record t { give = 0; skip = 0; fault = None })) (sym k)
-    (record { ran = both.ran; gave = both.gave ∙ append-nil bytes }))
+    rw (g, k) (record { ran = both.ran; gave = both.gave ∙ append-nil bytes })
 
 -- ---- packets
 

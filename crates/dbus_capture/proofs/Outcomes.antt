@@ -46,8 +46,7 @@ module _ (passes : Bool) (first : Stage) (filed : is_raw first ≡ false) (sound
       let gives = ap (given s) joined ∙ given-append s front rest ∙ ap (λ l. l ++ given (run s front) rest) w.leads.gave in
       let k = (reaches heads_go (length front) 0 w.final rest w.stands
       (are_rest front rest bytes joined are)).within f (sym (ap (λ (v : Scan). (ended v).fault) runs) ∙ e) in
-      let low = k.2 in
-      record { within = k.0; at = k.1; there = omega (arith, low); more = given (run s front) rest; gives = gives }
+      record { within = k.0; at = k.1; there = omega (arith, k.2); more = given (run s front) rest; gives = gives }
 
   outcome : (FollowsFrom first s bytes → IsFile bytes (given s bytes)) → IsOutcome IsFile bytes (given s bytes) (ended (run s bytes)).fault
   outcome spelled = by (ended (run s bytes)).fault refl

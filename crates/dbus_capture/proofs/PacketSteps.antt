@@ -1,5 +1,5 @@
 -- Of which packets the bytes are that a capture hands on.
-use Rattle.std.proofs.Common.{◌<◌, ◌≡◌, ◌≤◌, ◌+◌, ℕ, zero, suc, Bool, List, [], ◌∷◌, ◌++◌, length, get_or, replicate, Option, None, Some, Result, Ok, Err, MatchResult, inl, inr, refl, sym, ap, ◌∙◌, subst, arith}
+use Rattle.std.proofs.Common.{◌<◌, ◌≡◌, ◌≤◌, ◌+◌, ℕ, zero, suc, Bool, List, [], ◌∷◌, ◌++◌, length, take, get_or, replicate, Option, None, Some, Result, Ok, Err, MatchResult, inl, inr, refl, sym, ap, ◌∙◌, subst, arith}
 use Rattle.std.specs.Io.KnownBytes.{Consumes, IsAtEnd, prepend_known}
 use Rattle.std.proofs.lemmas.List.{length-take-le, get_or_append_left, get_or-append-add, get_or-replicate}
 use Rattle.dbus_device.specs.declared.device_fault.DeviceFault.{DeviceFault}
@@ -10,19 +10,17 @@ use Rattle.dbus_capture.specs.declared.scan.Scan.{Scan}
 use Rattle.dbus_capture.specs.declared.input.Input.{Input}
 use Rattle.dbus_capture.specs.Stages.{is_raw}
 use Rattle.dbus_capture.specs.Beginnings.{first_stage, first_scan}
-use Rattle.dbus_capture.specs.Steps.{Turn, Stays, Passes, Gives, Skips, Gathers, turn_of, stepped, with_byte, step, run, told, given, packets_given, packet_given}
-use Rattle.dbus_capture.specs.Captures.{scan_of, source_of, kept_of, file_of, packets_by, ReadsPart}
+use Rattle.dbus_capture.specs.Steps.{Turn, Passes, Gives, turn_of, stepped, with_byte, step, run, told, given, packets_given, packet_given}
+use Rattle.dbus_capture.specs.Captures.{scan_of, source_of, kept_of, file_of, packets_by, Reads, ReadsPart}
 use Rattle.dbus_capture.specs.Packets.{last_packet}
 use Rattle.dbus_capture.proofs.StepLaws.{run-append, told-append, run_raw}
 
 -- ---- as many packets as bytes
 
 with_byte-size : {A B : Type 0} (t : Turn) (a : A) (b : B) (xs : List A) (ys : List B) → length xs ≡ length ys → length (with_byte t a xs) ≡ length (with_byte t b ys)
-with_byte-size Stays a b xs ys e = e
 with_byte-size Passes a b xs ys e = ap suc e
 with_byte-size Gives a b xs ys e = ap suc e
-with_byte-size Skips a b xs ys e = e
-with_byte-size Gathers a b xs ys e = e
+with_byte-size _ a b xs ys e = e
 
 told-size : {A B : Type 0} (f : Scan → ℕ → A) (g : Scan → ℕ → B) (s : Scan) (xs : List ℕ) → length (told f s xs) ≡ length (told g s xs)
 unfolding told
@@ -47,11 +45,9 @@ no_packet s xs none = nothing_told (packets_given s xs) (packets-size s xs ∙ a
 -- ---- bytes that are all handed on
 
 with_byte-most : {A : Type 0} (t : Turn) (a : A) (xs : List A) → length (with_byte t a xs) ≤ suc (length xs)
-with_byte-most Stays a xs = omega arith
 with_byte-most Passes a xs = omega arith
 with_byte-most Gives a xs = omega arith
-with_byte-most Skips a xs = omega arith
-with_byte-most Gathers a xs = omega arith
+with_byte-most _ a xs = omega arith
 
 told-most : {A : Type 0} (f : Scan → ℕ → A) (s : Scan) (xs : List ℕ) → length (told f s xs) ≤ length xs
 unfolding told
@@ -64,11 +60,9 @@ told-most f s (x ∷ xs) =
 -- a byte is handed on, if as many are as there are
 stepped_packet : (v : Scan) (b : ℕ) (t : Turn) (packet : Option Packet) (rest : List (Option Packet)) (n : ℕ) → length rest ≤ n → length (with_byte t packet rest) ≡ suc n
     → ((stepped v b t).packet ≡ v.packet) × (with_byte t packet rest ≡ packet ∷ rest)
-stepped_packet v b Stays packet rest n few e = absurd (omega (arith, few, e))
 stepped_packet v b Passes packet rest n few e = (refl, refl)
 stepped_packet v b Gives packet rest n few e = (refl, refl)
-stepped_packet v b Skips packet rest n few e = absurd (omega (arith, few, e))
-stepped_packet v b Gathers packet rest n few e = absurd (omega (arith, few, e))
+stepped_packet v b _ packet rest n few e = absurd (omega (arith, few, e))
 
 -- they are all of one packet
 one_packet : (s : Scan) (xs : List ℕ) → length (packets_given s xs) ≡ length xs → ((run s xs).packet ≡ s.packet) × (packets_given s xs ≡ replicate (length xs) s.packet)
@@ -130,24 +124,21 @@ pub of_none : (a : Option Packets) (packet : Option Packet) → AreOfPacket 0 a 
 of_none None packet = tt
 of_none (Some packets) packet = λ i low. absurd (omega (arith, low))
 
+reads_left : {R : Type 0} (left : R → Option (List ℕ)) (old new : Input R) (n : ℕ) (out : List ℕ) → Reads left old new out → length out ≡ n → PacketsAfter n (packets_rest left old) (packets_rest left new)
+reads_left left old new n out r size = packets_left (scan_of old) (scan_of new) (file_of left old) (file_of left new) r.used n r.consumed (ap length r.leads.gave ∙ size) (sym r.leads.ran)
+
 -- what was read is of the packet that began last
 pub part_packets : {R : Type 0} (left : R → Option (List ℕ)) (failures : R → ℕ) (old new : Input R) (r : Result ℕ DeviceFault) (buffer : List ℕ) (before : Option Packet)
     → MatchResult r (λ n. n ≤ length buffer) (λ e. Unit {0}) → ReadsPart left failures old new r buffer
     → ReadsOfPacket (packets_rest left old) (packets_rest left new) (last_packet r (scan_of new).packet before) r
-part_packets left failures old new (Err e) buffer before b (inl f) =
-    let r = f.reads in packets_left (scan_of old) (scan_of new) (file_of left old) (file_of left new) r.used 0 r.consumed (ap length r.leads.gave) (sym r.leads.ran)
-part_packets left failures old new (Err e) buffer before b (inr f) =
-    let r = f.reads in packets_left (scan_of old) (scan_of new) (file_of left old) (file_of left new) r.used 0 r.consumed (ap length r.leads.gave) (sym r.leads.ran)
-part_packets left failures old new (Ok zero) buffer before b (u, inl g) =
-    let r = g.0.reads in (
-      packets_left (scan_of old) (scan_of new) (file_of left old) (file_of left new) r.used 0 r.consumed (ap length r.leads.gave) (sym r.leads.ran),
-      of_none (packets_rest left old) before,
-    )
+part_packets left failures old new (Err e) buffer before b (inl f) = reads_left left old new 0 [] f.reads refl
+part_packets left failures old new (Err e) buffer before b (inr f) = reads_left left old new 0 [] f.reads refl
+part_packets left failures old new (Ok zero) buffer before b (u, inl g) = (reads_left left old new 0 (take 0 buffer) g.0.reads refl, of_none (packets_rest left old) before)
 part_packets left failures old new (Ok (suc n)) buffer before b (u, inl g) =
     let r = g.0.reads in
     let one = g.0.one (omega arith) in
     let size = ap length r.leads.gave ∙ length-take-le (suc n) buffer b in (
-      packets_left (scan_of old) (scan_of new) (file_of left old) (file_of left new) r.used (suc n) r.consumed size (sym r.leads.ran),
+      reads_left left old new (suc n) (take (suc n) buffer) r (length-take-le (suc n) buffer b),
       subst (AreOfPacket (suc n) (packets_rest left old)) (ap (λ (v : Scan). v.packet) r.leads.ran)
           (packets_read (scan_of old) (file_of left old) (file_of left new) one.before one.last r.used (suc n) r.consumed one.joined one.size one.nothing size),
     )

@@ -19,11 +19,9 @@ run-append s [] ys = refl
 run-append s (x ∷ xs) ys = run-append (step s x) xs ys
 
 with_byte-append : {A : Type 0} (t : Turn) (b : A) (xs ys : List A) → with_byte t b (xs ++ ys) ≡ with_byte t b xs ++ ys
-with_byte-append Stays b xs ys = refl
 with_byte-append Passes b xs ys = refl
 with_byte-append Gives b xs ys = refl
-with_byte-append Skips b xs ys = refl
-with_byte-append Gathers b xs ys = refl
+with_byte-append _ b xs ys = refl
 
 pub told-append : {A : Type 0} (tells : Scan → ℕ → A) (s : Scan) (xs ys : List ℕ) → told tells s (xs ++ ys) ≡ told tells s xs ++ told tells (run s xs) ys
 unfolding run told

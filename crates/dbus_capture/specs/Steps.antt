@@ -51,11 +51,9 @@ stepped s b Gathers = gathered s (s.head.bytes ++ b ∷ [])
 
 -- this of a byte, if it is handed on, and then the rest
 abbrev pub with_byte : {A : Type 0} → Turn → A → List A → List A
-with_byte Stays b rest = rest
 with_byte Passes b rest = b ∷ rest
 with_byte Gives b rest = b ∷ rest
-with_byte Skips b rest = rest
-with_byte Gathers b rest = rest
+with_byte _ b rest = rest
 
 unfoldable pub step : Scan → ℕ → Scan
 step s b = stepped s b (turn_of s)
@@ -105,11 +103,9 @@ pub record IsOfOnePacket (old new : Scan) (used : List ℕ) (n : ℕ) : Type 0 w
 abbrev pub may_end : Turn → Stage → List ℕ → Bool
 may_end Stays stage held = true
 may_end Passes stage held = true
-may_end Gives stage held = false
-may_end Skips stage held = false
 may_end Gathers Record [] = true
 may_end Gathers Block [] = true
-may_end Gathers stage held = false
+may_end _ stage held = false
 
 -- the input ends here
 abbrev pub ended : Scan → Scan

@@ -94,26 +94,10 @@ impl Scan {
         if self.fault.is_some() {
             return (piece.len(), 0);
         }
-        match self.head.stage() {
-            Stage::Raw => {
-                let count = copy_front(piece, out);
-                (count, count)
-            }
-            _ => self.take_filed(piece, out),
+        if self.head.stage().is_raw() {
+            let count = copy_front(piece, out);
+            return (count, count);
         }
-    }
-
-    // The same, in a file.
-    fn take_filed(&mut self, piece: &[u8], out: &mut [u8]) -> (usize, usize)
-        requires unfaulted { self.old.fault ≡ None }
-        requires filed { is_raw self.old.head.stage ≡ false }
-        ensures took { result.0 ≤ length piece.now }
-        ensures gave { result.1 ≤ length out.new }
-        ensures leads { Leads self.old (take result.0 piece.now) (take result.1 out.new) self.new }
-        ensures moves { 0 < length piece.now → 0 < length out.old → 0 < result.0 }
-        ensures one { 0 < result.1 → (result.0 ≡ result.1) ×
-            IsPart self.old self.new result.1 }
-    {
         if self.give > 0 {
             let count = self.give_some(piece, out);
             return (count, count);

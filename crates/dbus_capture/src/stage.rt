@@ -45,19 +45,11 @@ impl Stage {
         ensures { result ≡ want self }
     {
         match self {
-            Stage::Raw => 24,
-            Stage::FileHeader => 24,
+            Stage::Raw | Stage::FileHeader | Stage::Section => 24,
             Stage::Record => 16,
-            Stage::Section => 24,
-            Stage::Block => 8,
-            Stage::InterfaceHead => 8,
-            Stage::OptionHead => 4,
-            Stage::Resolution => 4,
-            Stage::InterfaceTrailer => 4,
-            Stage::Enhanced => 20,
-            Stage::ObsoletePacket => 20,
-            Stage::Simple => 4,
-            Stage::Trailer => 4,
+            Stage::Block | Stage::InterfaceHead => 8,
+            Stage::Enhanced | Stage::ObsoletePacket => 20,
+            _ => 4,
         }
     }
 

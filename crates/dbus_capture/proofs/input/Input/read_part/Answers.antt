@@ -3,40 +3,26 @@ use Rattle.std.proofs.lemmas.Result.{err_from_is_err_and}
 use Rattle.dbus_device.specs.Device.{one_more}
 use Rattle.dbus_device.specs.declared.device_fault.DeviceFault.{DeviceFault}
 use Rattle.dbus_capture.specs.Captures.{kept_of, Ends, HasBytes, ReadsPart}
-use Rattle.dbus_capture.proofs.CaptureSteps.{reads_nothing, turns_none, some_there, goes_filled, turns_more, gives_part, goes_reads, goes_ends, gives_up, asks, PassesOn, raw_part, raw_asks}
+use Rattle.dbus_capture.proofs.CaptureSteps.{still_part, still_asks, turns_none, some_there, goes_filled, turns_more, gives_part, goes_reads, goes_ends, gives_up, asks, PassesOn, raw_part, raw_asks}
 use Rattle.dbus_capture.proofs.input.Input.read_part.Goals.{then-count-gt0-via-then-count-gt0, then-count-gt0-via-else-count-gt0+then-is_some-2}
 use Rattle.dbus_capture.proofs.input.Input.read_part.Goals as goal
 
 pub returns-then-is_some-clause-part : goal.returns-then-is_some-clause-part
-returns-then-is_some-clause-part g c = (
-  record { source = refl; gave_up = refl },
-  inl (
-    record { reads = reads_nothing g.R.Source.left g.R.Source.calls c.args.self.now; one = λ some. absurd (omega (arith, some)) },
-    λ zero room. sym c.is_some.ensures ∙ c.if-is_some.true,
-  ),
-)
+returns-then-is_some-clause-part g c =
+    still_part g.R.Source.left g.R.Source.calls g.R.Source.failures c.args.self.now c.args.buffer.now (λ room. sym c.is_some.ensures ∙ c.if-is_some.true)
 
 pub returns-then-is_some-clause-asks : goal.returns-then-is_some-clause-asks
-returns-then-is_some-clause-asks g c =
-    let t = turns_none g.R.Source.left g.R.Source.calls g.R.Source.failures c.args.self.now in
-    asks g.R.Source.left g.R.Source.calls t.goes c.args.self.now refl (Ok 0) (inl t.found)
+returns-then-is_some-clause-asks g c = still_asks g.R.Source.left g.R.Source.calls c.args.self.now (Ok 0)
 
 no_room : (n : ℕ) (b : Bool) → b ≡ nat_eq n 0 → b ≡ true → 0 < n → ⊥
 no_room n b e t room = absurd (grind (arith, e, t, room))
 
 pub returns-then-is_empty-clause-part : goal.returns-then-is_empty-clause-part
-returns-then-is_empty-clause-part g c = (
-  record { source = refl; gave_up = refl },
-  inl (
-    record { reads = reads_nothing g.R.Source.left g.R.Source.calls c.args.self.now; one = λ some. absurd (omega (arith, some)) },
-    λ zero room. absurd (no_room _ _ c.is_empty.ensures c.if-is_empty.true room),
-  ),
-)
+returns-then-is_empty-clause-part g c =
+    still_part g.R.Source.left g.R.Source.calls g.R.Source.failures c.args.self.now c.args.buffer.now (λ room. absurd (no_room _ _ c.is_empty.ensures c.if-is_empty.true room))
 
 pub returns-then-is_empty-clause-asks : goal.returns-then-is_empty-clause-asks
-returns-then-is_empty-clause-asks g c =
-    let t = turns_none g.R.Source.left g.R.Source.calls g.R.Source.failures c.args.self.now in
-    asks g.R.Source.left g.R.Source.calls t.goes c.args.self.now refl (Ok 0) (inl t.found)
+returns-then-is_empty-clause-asks g c = still_asks g.R.Source.left g.R.Source.calls c.args.self.now (Ok 0)
 
 some_room : (n : ℕ) (b : Bool) → b ≡ nat_eq n 0 → b ≡ false → 0 < n
 some_room n b e t = grind (arith, e, t)
@@ -51,12 +37,11 @@ returns-then-passes_on-clause-part g c =
 
 pub returns-then-passes_on-clause-asks : goal.returns-then-passes_on-clause-asks
 returns-then-passes_on-clause-asks g c =
-    let e = c.read.ensures in
     let none = c.passes_on.ensures.kept c.if-passes_on.true in
     let p : PassesOn c.args.self.now _ =
     record { none = none; empty = none; scan = refl; gave_up = refl; unfaulted = sym c.is_some.ensures ∙ c.if-is_some.false; raw = c.passes_on.ensures.raw c.if-passes_on.true } in
     let room = some_room (length c.args.buffer.now) c.is_empty.result c.is_empty.ensures c.if-is_empty.false in
-    raw_asks g.R.Source.left g.R.Source.failures g.R.Source.calls c.args.self.now _ p e.called c.read.result c.read.new.buffer (subst (λ (n : ℕ). 0 < n) (sym c.read.auto.buffer) room) e.bound e.bytes
+    raw_asks g.R.Source.left g.R.Source.failures g.R.Source.calls c.args.self.now _ p c.read.ensures.called c.read.result c.read.new.buffer (subst (λ (n : ℕ). 0 < n) (sym c.read.auto.buffer) room) c.read.ensures.bound c.read.ensures.bytes
 
 pub turns-init : goal.turns-init
 turns-init g c = (turns_none g.R.Source.left g.R.Source.calls g.R.Source.failures c.args.self.now, c.requires)
