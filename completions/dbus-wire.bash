@@ -38,7 +38,7 @@ _dbus_wire() {
     fi
     # bench/options.py writes the rows of both tables. The value of most is free.
     case $option in
-        --resync-window | --skip | --limit | --max-message | --max-array | --max-depth | --width | --owner | --slower | --max-line) values=' ' ;;
+        --owner | --resync-window | --skip | --limit | --max-message | --max-array | --max-depth | --width | --slower | --max-line) values=' ' ;;
         --handshake | --side) values='client server' ;;
         --fds) values='any below-count' ;;
         --to) values='l B' ;;
@@ -49,13 +49,13 @@ _dbus_wire() {
     fi
     local command=${COMP_WORDS[1]}
     case $command in
-        show) options='--time --escape --json --explain --keep-going --resync --resync-window --skip --limit --check-rest --handshake --max-message --max-array --max-depth --fds -h --help' ;;
-        json) options='--no-time --safe-integers --json --explain --keep-going --resync --resync-window --skip --limit --check-rest --handshake --max-message --max-array --max-depth --fds -h --help' ;;
+        show) is_ruled=1 options='--time --escape --invert --may-match --as-bus --owner --learn-owners --json --explain --keep-going --resync --resync-window --skip --limit --check-rest --handshake --max-message --max-array --max-depth --fds -h --help' ;;
+        json) is_ruled=1 options='--no-time --safe-integers --invert --may-match --as-bus --owner --learn-owners --json --explain --keep-going --resync --resync-window --skip --limit --check-rest --handshake --max-message --max-array --max-depth --fds -h --help' ;;
         list) is_ruled=1 options='--width --invert --may-match --as-bus --owner --learn-owners --json --explain --keep-going --resync --resync-window --skip --limit --check-rest --handshake --max-message --max-array --max-depth --fds -h --help' ;;
         check) options='--json --explain --keep-going --resync --resync-window --handshake --max-message --max-array --max-depth --fds -h --help' ;;
         count) options='--json --explain --keep-going --resync --resync-window --handshake --max-message --max-array --max-depth --fds -h --help' ;;
         calls) options='--members --unanswered --errors --slower --json --explain --keep-going --resync --resync-window --handshake --max-message --max-array --max-depth --fds -h --help' ;;
-        swap) options='--to --raw --json --explain --handshake --max-message --max-array --max-depth --fds -h --help' ;;
+        swap) is_ruled=1 options='--to --invert --may-match --as-bus --owner --learn-owners --raw --json --explain --handshake --max-message --max-array --max-depth --fds -h --help' ;;
         filter) is_ruled=1 options='--invert --may-match --as-bus --owner --learn-owners --raw --json --explain --keep-going --resync --resync-window --skip --limit --check-rest --handshake --max-message --max-array --max-depth --fds -h --help' ;;
         encode) options='--to --safe-integers --explain --keep-going --max-line --max-message --max-array --max-depth --fds -h --help' ;;
         handshake) options='--side -h --help' ;;

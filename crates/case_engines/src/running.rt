@@ -5,7 +5,8 @@ use crate::made::text_of;
 use crate::readers::reads_of;
 use case_questions::{Memory, Question, Reply, named};
 use dbus_tool::{
-    Asked, ExitStatus, ReadAhead, command_of, run, run_reads, run_with, run_within, run_words,
+    Asked, Command, ExitStatus, ReadAhead, Task, command_of, run, run_reads, run_with, run_within,
+    run_words,
 };
 use std::alloc::{Allocator, Global};
 use std::cell::Cell;
@@ -53,8 +54,16 @@ fn status_of<A: Allocator + Copy>(
         return Some(run_words(alloc, words, &mut ahead, first, second));
     };
     let call = named(CALLS, name)?;
-    let Ok(Asked::Messages(command, settings)) = command_of(alloc, words) else {
+    let Ok(Asked::Messages(request)) = command_of(alloc, words) else {
         return None;
+    };
+    let Task::Write(output) = request.task else {
+        return None;
+    };
+    let settings = request.settings;
+    let command = Command {
+        output,
+        selection: request.selection,
     };
     let (limits, reads) = (settings.limits, reads_of(question));
     Some(match call {

@@ -19,18 +19,17 @@ use Rattle.dbus_json.proofs.OneLines.{one_line_each}
 use Rattle.dbus_names.specs.NameStates.{NameState}
 use Rattle.dbus_stream.specs.Cut.{BeginWith, CutMessage, CutOutcome, Ended, IsOutcome, Refused, Unfinished}
 use Rattle.dbus_stream.specs.CutEnds.{fault_at_end}
-use Rattle.cli_options.specs.declared.command.Command.TheVariants.{Json}
 use Rattle.cli_report.specs.Devices.{Reading, Writing, taken}
 use Rattle.cli_report.specs.declared.ending.ExitStatus.TheVariants as status
 use Rattle.cli_run.specs.Inputs.{ArePlaced, Placed, wholes}
-use Rattle.cli_run.specs.Output.{IsOutputOf, IsOutputOfAll, header_before, line_place, owners_after, status_of, told_place}
+use Rattle.cli_run.specs.Output.{IsOutputOf, IsOutputOfAll, header_before, line_place, status_of, told_place}
 use Rattle.cli_options.specs.declared.file_form.FileForm.TheVariants.{Raw}
 use Rattle.cli_run.specs.Running.{Answers, Runs, TellsLine}
 use Rattle.cli_encode.specs.Outcomes.{Outcome, EndsAtRefused, all_bytes, all_text, any_refused, is_refused}
 use Rattle.cli_encode.specs.Runs.{status_of as encoded_status}
 use Rattle.cli_encode.specs.declared.encoding.Encoding.{Encoding}
 use Rattle.cli_encode_laws.specs.Inverse.{AreTheirLines, PlacedMessage, all_written, bytes_of}
-use Rattle.cli_encode_laws.specs.InputBack.{IsInputBack}
+use Rattle.cli_encode_laws.specs.InputBack.{IsInputBack, json}
 use Rattle.cli_encode_laws.proofs.Inverse.{are_written, bytes_written, none_refused}
 use Rattle.cli_encode_laws.proofs.OneEncoding.{answered}
 use Rattle.cli_encode_laws.proofs.Outcomes.{left_over, none_told, of_input, or_false, same_bytes, same_outcomes, same_refused}
@@ -58,13 +57,13 @@ record AreLined (encoding : Encoding) (bytes text : List ℕ) : Type 0 where
   are : AllByRecursion (λ line. length line ≤ encoding.most) lines → AreTheirLines encoding messages lines
 
 module _ (encoding : Encoding) (times : Bool) (packets : Option Packets) where
-  one_text : (os : NameState) (m : Placed) (texts : List (List ℕ)) → IsOutputOf (Json times encoding.safe_integers) os m.item.order m.item.message m.place texts
+  one_text : (os : NameState) (m : Placed) (texts : List (List ℕ)) → IsOutputOf (json times encoding.safe_integers) os m.item.order m.item.message m.place texts
       → (text : List ℕ) × IsJsonLine (integers_of encoding.safe_integers) m.item.order m.item.message (line_place (told_place times m.place)) text × (texts ≡ text ∷ [])
   one_text os m texts (inl made) = (made.1, made.2, made.3)
   one_text os m texts (inr none) = absurd (none.0 tt)
 
   lined : (n offset : ℕ) (bytes : List ℕ) (items : List CutMessage) (os : NameState) (placed : List Placed) (texts : List (List ℕ)) → n ≤ offset + 1 → offset + length bytes < 2 ^ 64
-      → BeginWith encoding.limits bytes items [] → ArePlaced packets n offset (wholes items) placed → IsOutputOfAll (Json times encoding.safe_integers) os placed texts → AreLined encoding bytes (concat texts)
+      → BeginWith encoding.limits bytes items [] → ArePlaced packets n offset (wholes items) placed → IsOutputOfAll (json times encoding.safe_integers) os placed texts → AreLined encoding bytes (concat texts)
   lined n offset bytes [] os [] texts counted small begin at made = record { messages = []; lines = []; cut = ap concat made; bytes_are = sym begin; are = λ short. tt }
   lined n offset bytes [] os (m ∷ placed) texts counted small begin at made = absurd cc
   lined n offset bytes (item ∷ items) os [] texts counted small begin at made = absurd at
@@ -77,7 +76,7 @@ module _ (encoding : Encoding) (times : Bool) (packets : Option Packets) where
       let few = inside.1 in
       let size = front.1 in
       let all : length bytes ≡ length (message_bytes item.order item.message) + length (drop item.size bytes) = ap length front.2 ∙ length-append (message_bytes item.order item.message) (drop item.size bytes) in
-      let rest = lined (n + 1) (offset + item.size) (drop item.size bytes) items (owners_after (Json times encoding.safe_integers) os m.item.message) placed made.1 (omega (arith, counted, some)) (omega (arith, small, all, size)) begin.1 at.1 made.4 in
+      let rest = lined (n + 1) (offset + item.size) (drop item.size bytes) items os placed made.1 (omega (arith, counted, some)) (omega (arith, small, all, size)) begin.1 at.1 made.4 in
       let number_is = at.0.number_is in
       let offset_is = at.0.offset_is in
       let message : PlacedMessage = record { order = m.item.order; message = m.item.message; place = line_place (told_place times m.place) } in
@@ -127,7 +126,7 @@ module _ {R W E : Type 0} (r : Reading R) (w : Writing W) (e : Writing E) (times
   refused_none line fault (inl told) = no_fault fault told.1
   refused_none line fault (inr stopped) = absurd (let bad : status.Done ≡ status.Failed = stopped.2 in cc)
 
-  by_answer : Answers r w e encoding.limits most (Json times encoding.safe_integers) status.Done → AreLined encoding input text
+  by_answer : Answers r w e encoding.limits most (json times encoding.safe_integers) status.Done → AreLined encoding input text
   by_answer a =
       let end = ended a.rest a.outcome (refused_none _ _ a.second) in
       let last : a.rest ≡ [] = subst (λ (o : CutOutcome). IsOutcome encoding.limits a.rest o) end a.cut.outcome_is in
@@ -140,7 +139,7 @@ module _ {R W E : Type 0} (r : Reading R) (w : Writing W) (e : Writing E) (times
       let written = got (w.held w.new) text a.out held (subst (λ (o : Option (List ℕ)). Appends o (w.held w.new) a.out) empty a.first.appended) in
       subst (λ (t : List ℕ). AreLined encoding input t) (sym out ∙ written) (lined encoding times (r.packets r.old) 1 0 input a.items _ a.output.messages a.output.texts (omega arith) (omega (arith, small)) begin a.output.placed a.output.each)
 
-  by_run : Runs r w e encoding.limits most (Json times encoding.safe_integers) status.Done → AreLined encoding input text
+  by_run : Runs r w e encoding.limits most (json times encoding.safe_integers) status.Done → AreLined encoding input text
   by_run (inl answers) = by_answer answers
   by_run (inr gave_up) = absurd (let bad : status.Done ≡ status.Failed = gave_up.failed in cc)
 

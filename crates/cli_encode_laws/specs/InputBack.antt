@@ -4,13 +4,18 @@ use Rattle.std.specs.Prelude.{◌≡◌, ◌≢◌, ◌<◌, ◌≤◌, ◌^◌,
 use Rattle.std.specs.List.{AllByRecursion}
 use Rattle.dbus_device.specs.Device.{Wrote}
 use Rattle.dbus_lines.specs.Lines.{AreLines}
-use Rattle.cli_options.specs.declared.command.Command.TheVariants.{Json}
+use Rattle.cli_options.specs.declared.command.Command.{Command}
+use Rattle.cli_options.specs.declared.command.Output.TheVariants.{JsonLine}
 use Rattle.cli_report.specs.Devices.{Reading, Writing}
 use Rattle.cli_report.specs.declared.ending.ExitStatus.{ExitStatus}
 use Rattle.cli_report.specs.declared.ending.ExitStatus.TheVariants as status
 use Rattle.cli_run.specs.Running.{Runs}
 use Rattle.cli_encode.specs.Runs.{EncodesLines}
 use Rattle.cli_encode.specs.declared.encoding.Encoding.{Encoding}
+
+-- `json` of all messages
+abbrev pub json : (times safe : Bool) → Command
+json times safe = record { output = JsonLine times safe; selection = None }
 
 -- no line of the text is longer than a line may be
 abbrev pub AreShort : (most : ℕ) → (text : List ℕ) → Type 0
@@ -27,6 +32,6 @@ pub record IsDoneWith {W E : Type 0} (w : Writing W) (e : Writing E) (end : Exit
 -- the lines name, and did not fail: then it wrote that input
 abbrev pub IsInputBack : (R S W V E F : Type 0) → Type 0
 IsInputBack R S W V E F = (r : Reading R) (s : Reading S) (w : Writing W) (v : Writing V) (e : Writing E) (f : Writing F) (times : Bool) (encoding : Encoding) (most more : ℕ) (input text : List ℕ) (end : ExitStatus)
-    → r.left r.old ≡ Some input → length input < 2 ^ 64 → Runs r w e encoding.limits most (Json times encoding.safe_integers) status.Done
+    → r.left r.old ≡ Some input → length input < 2 ^ 64 → Runs r w e encoding.limits most (json times encoding.safe_integers) status.Done
     → w.held w.old ≡ Some [] → w.held w.new ≡ Some text → s.left s.old ≡ Some text
     → encoding.order ≡ None → AreShort encoding.most text → end ≢ status.Failed → EncodesLines s v f encoding more end → IsDoneWith v f end input

@@ -1,6 +1,7 @@
 -- Selections: of each message it is decided whether it is selected, and they are equal exactly if
 -- they say the same.
-use Rattle.std.proofs.Common.{◌≡◌, ◌∙◌, Bool, true, false, List, [], ◌∷◌, map, cond, inl, inr, refl, sym, ap, arith}
+use Rattle.std.proofs.Common.{◌≡◌, ◌∙◌, Bool, true, false, List, [], ◌∷◌, map, cond, inl, inr, refl, sym, ap, arith, Option, None, Some}
+use Rattle.std.specs.Option.{option_eq}
 use Rattle.std.specs.Bool.{Decides}
 use Rattle.std.specs.List.{AllZip, filter}
 use Rattle.std.specs.declared.alloc.Global.{Global}
@@ -19,7 +20,7 @@ use Rattle.dbus_match.proofs.Decided.{decided}
 use Rattle.dbus_rule.proofs.PairChoices.{Either, one_of}
 use Rattle.dbus_match.proofs.Noted.{owners_equal}
 use Rattle.dbus_rule.proofs.SortedConditions.{rules_equal}
-use Rattle.cli_options.specs.Selections.{AreSameSelection, Holds, OrInverted, SelectsBy, SomeHolds, AreSameCommand, asked_rules, bus_rules, eavesdrops}
+use Rattle.cli_options.specs.Selections.{AreSameSelection, Holds, OrInverted, SelectsBy, SomeHolds, AreSameCommand, AreSameSelected, asked_rules, bus_rules, eavesdrops}
 use Rattle.cli_options.specs.contracts.selection.QuestionPartialEq.TheImpl as question_eq
 use Rattle.cli_options.specs.declared.selection.Question.{Question}
 use Rattle.cli_options.specs.declared.selection.Question.TheVariants as questions
@@ -27,10 +28,9 @@ use Rattle.cli_options.proofs.MayDecided.{may_decided}
 use Rattle.cli_options.specs.contracts.selection.SelectionPartialEq.TheImpl as selection_eq
 use Rattle.cli_options.specs.declared.selection.Selection.{Selection}
 use Rattle.cli_options.specs.declared.command.Command.{Command}
-use Rattle.cli_options.specs.declared.command.Command.TheVariants.{Show, Json, Check, Swap, Filter}
+use Rattle.cli_options.specs.declared.command.Output.{Output}
 use Rattle.cli_options.specs.contracts.command.CommandPartialEq.TheImpl as command_eq
-use Rattle.cli_options.specs.contracts.file_form.FileFormPartialEq.TheImpl as form_eq
-use Rattle.cli_options.specs.declared.file_form.FileForm.{FileForm}
+use Rattle.cli_options.specs.contracts.command.OutputPartialEq.TheImpl as output_eq
 
 -- ---- which messages are selected
 
@@ -107,16 +107,14 @@ selections_equal a b =
 
 -- Commands are equal exactly where they are the same.
 
-forms_equal : (a b : FileForm) → Decides (form_eq.ghosts.eq a b) (a ≡ b)
-forms_equal a b = grind (arith, common_steps)
+selected_equal : (a b : Option Selection) → Decides (option_eq selection_eq.ghosts.eq a b) (AreSameSelected a b)
+selected_equal None None = (λ t. tt, λ h. refl)
+selected_equal None (Some b) = (λ t. absurd (false≢true t), λ h. absurd h)
+selected_equal (Some a) None = (λ t. absurd (false≢true t), λ h. absurd h)
+selected_equal (Some a) (Some b) = selections_equal a b
+
+outputs_equal : (a b : Output) → Decides (output_eq.ghosts.eq a b) (a ≡ b)
+outputs_equal a b = grind (arith, common_steps)
 
 pub commands_equal : (a b : Command) → Decides (command_eq.ghosts.eq a b) (AreSameCommand a b)
-commands_equal (Show a x) b = grind (arith, common_steps)
-commands_equal (Json a x) b = grind (arith, common_steps)
-commands_equal Check b = grind (arith, common_steps)
-commands_equal (Swap a f) b = grind (arith, common_steps)
-commands_equal (Filter r f) (Show b y) = grind (arith, common_steps)
-commands_equal (Filter r f) (Json b y) = grind (arith, common_steps)
-commands_equal (Filter r f) Check = grind (arith, common_steps)
-commands_equal (Filter r f) (Swap b g) = grind (arith, common_steps)
-commands_equal (Filter r f) (Filter s g) = Decides-and _ _ (selections_equal r s) (forms_equal f g)
+commands_equal a b = Decides-and _ _ (outputs_equal a.output b.output) (selected_equal a.selection b.selection)

@@ -11,15 +11,16 @@ use Rattle.clap.specs.declared.error.kind.ErrorKind.TheVariants.{DisplayHelp, Di
 use Rattle.clap.proofs.OnLiterals.{clap_on_literals}
 use Rattle.cli_options.specs.CommandLine.{wire_app}
 use Rattle.dbus_match.specs.Matching.{Ownership}
-use Rattle.cli_options.specs.Limiting.{HasWidth, IsGiven}
+use Rattle.cli_options.specs.Limiting.{IsGiven}
 use Rattle.cli_options.specs.Telling.{TellsNamed, ToldOr}
 use Rattle.cli_options.specs.declared.usage_fault.RefusedRule.{RefusedRule}
-use Rattle.cli_options.specs.Told.{TellsFault, TellsKind, Tells, TellsCommand, TellsOwner, TellsOwners, TellsRules, TellsSelection, IsUsageOrMemory, IsNoCommand, NamesNothing}
-use Rattle.cli_options.specs.Named.{GiveOwners, HasEncoding, HasOrder, HasRuleFault, HasSettings, IsNamedBy, Names, rules_given, words_of}
+use Rattle.cli_options.specs.Told.{TellsFault, TellsKind, Tells, TellsOwner, TellsOwners, TellsRules, TellsSelection, IsUsageOrMemory, NamesNothing}
+use Rattle.cli_options.specs.Named.{GiveOwners, HasEncoding, HasOrder, HasRuleFault, HasSettings, IsNamedBy, Names, NamesTask, rules_given, words_of}
 use Rattle.cli_options.specs.Owners.{IsOwnerWord}
 use Rattle.cli_options.specs.Worded.{HasWord, side_word}
-use Rattle.cli_options.proofs.Nothing.{no_command_names_nothing, unencoded_names_nothing, unordered_is_no_command, unset_names_nothing, unsided_names_nothing, unowned_is_no_command, unowned_names_nothing}
+use Rattle.cli_options.proofs.Nothing.{undone_names_nothing, unencoded_names_nothing, unordered, unowned_names_nothing, unset_names_nothing, unsided_names_nothing}
 use Rattle.cli_options.specs.declared.asked.Asked.{Asked}
+use Rattle.cli_options.specs.declared.command.Task.{Task}
 use Rattle.cli_options.specs.declared.settings.Settings.{Settings}
 use Rattle.cli_options.specs.declared.usage_fault.UsageFault.{UsageFault}
 use Rattle.cli_options.specs.declared.usage_fault.UsageFault.TheVariants.{Memory, Help, Version, Usage, Rule}
@@ -53,9 +54,6 @@ told_of_none None Ruled told is none = retold _ _ _ _ told (λ u. none) (λ refu
 pub nothing_told : (sub : Option (Text × List Row)) (told : UsageFault) → IsUsageOrMemory told → NamesNothing sub → Tells sub (Err told)
 nothing_told sub told is none = told_of_none _ _ told is none
 
-pub no_command_told : (name : Text) (rows : List Row) (told : UsageFault) → IsUsageOrMemory told → IsNoCommand name rows → TellsCommand name rows (Err told)
-no_command_told name rows told is none = told_of_none _ _ told is none
-
 pub no_owner_told : (word : Text) (told : UsageFault) → IsUsageOrMemory told → ((o : Ownership) → IsOwnerWord word o → ⊥) → TellsOwner word (Err told)
 no_owner_told word told is none = told_of_none _ _ told is none
 
@@ -73,24 +71,14 @@ pub no_owners_told : (words : List Text) (word : Text) (told : UsageFault) → T
 no_owners_told words word told h at = retold _ _ _ _ told (λ none all. let one = at all in none one.0 one.1) (λ refused bad. bad) h
 
 -- of a selection that has them
-pub unowned_told : (rows : List Row) (told : UsageFault) → TellsOwners (words_of (codes "owner") rows) (Err told) → TellsSelection rows (Err told)
-unowned_told rows told h = retold _ _ _ _ told (λ none. none) (λ refused bad. absurd bad) h
+pub unowned_told : (name : Text) (rows : List Row) (told : UsageFault) → TellsOwners (words_of (codes "owner") rows) (Err told) → TellsSelection name rows (Err told)
+unowned_told name rows told h = retold _ _ _ _ told (λ none. none) (λ refused bad. absurd bad) h
 
 -- of one of whose texts one spells no rule
-pub unruled_told : (rows : List Row) (explains : Bool) (told : UsageFault) → GiveOwners rows → ((explains ≡ true) ↔ IsGiven (codes "explain") rows)
-    → TellsRules (rules_given rows) explains (Err told) → TellsSelection rows (Err told)
-unruled_told rows explains told owners asked h = retold _ _ _ _ told (λ bad. absurd bad)
+pub unruled_told : (name : Text) (rows : List Row) (explains : Bool) (told : UsageFault) → GiveOwners rows → ((explains ≡ true) ↔ IsGiven (codes "explain") rows)
+    → TellsRules (rules_given rows) explains (Err told) → TellsSelection name rows (Err told)
+unruled_told name rows explains told owners asked h = retold _ _ _ _ told (λ bad. absurd bad)
     (λ refused has. record { first = has.0; explains = subst (λ e. (e ≡ true) ↔ IsGiven (codes "explain") rows) (sym has.1) asked; owners = owners }) h
-
--- of `filter`
-pub unselected_told : (rows : List Row) (told : UsageFault) → TellsSelection rows (Err told) → TellsCommand (codes "filter") rows (Err told)
-unselected_told rows told h = retold _ _ _ _ told (unowned_is_no_command rows) (λ refused has. record { named = inl refl; refuses = has }) h
-
--- of `list`, with this width
-pub unlined_told : (rows : List Row) (settings : Settings) (width : ℕ) (told : UsageFault) → HasSettings rows settings → HasWidth rows width
-    → TellsSelection rows (Err told) → Tells (Some (codes "list", rows)) (Err told)
-unlined_told rows settings width told given wide h = retold _ _ _ _ told (unowned_names_nothing rows)
-    (λ refused has. (record { named = inr (refl, width, wide); refuses = has }, (settings, given))) h
 
 -- of `encode`
 pub told_without_encoding : (rows : List Row) (told : UsageFault) → TellsNamed (HasEncoding rows) (Err told) → Tells (Some (codes "encode", rows)) (Err told)
@@ -102,20 +90,23 @@ pub told_without_side : (rows : List Row) (told : UsageFault) → TellsNamed (Ha
 told_without_side rows told h = retold _ _ _ _ told (λ none. unsided_names_nothing rows (λ side named. none (Some side) named)) (λ refused bad. absurd bad) h
 
 -- of `swap`
-pub told_without_order : (rows : List Row) (told : UsageFault) → TellsNamed (HasOrder rows) (Err told) → TellsCommand (codes "swap") rows (Err told)
-told_without_order rows told h = retold _ _ _ _ told (λ none. unordered_is_no_command rows (λ order named. none (Some order) named)) (λ refused bad. absurd bad) h
+pub told_without_order : (rows : List Row) (told : UsageFault) → TellsNamed (HasOrder rows) (Err told) → TellsNamed (NamesTask (codes "swap") rows) (Err told)
+told_without_order rows told h = retold _ _ _ _ told (λ none. unordered rows (λ order named. none (Some order) named)) (λ refused bad. absurd bad) h
 
--- of a command after options that name no settings
-pub told_without_settings : (sub : Text × List Row) (told : UsageFault) → (sub.0 ≡ codes "handshake" → ⊥) → (sub.0 ≡ codes "encode" → ⊥)
-    → TellsNamed (HasSettings sub.1) (Err told) → Tells (Some sub) (Err told)
-told_without_settings sub told other unencoded h = retold _ _ _ _ told (unset_names_nothing sub other unencoded) (λ refused bad. absurd bad) h
+-- of what is to be done with messages
+module _ (sub : Text × List Row) where
+  -- after options that name no settings
+  pub told_without_settings : (told : UsageFault) → (sub.0 ≡ codes "handshake" → ⊥) → (sub.0 ≡ codes "encode" → ⊥) → TellsNamed (HasSettings sub.1) (Err told) → Tells (Some sub) (Err told)
+  told_without_settings told other unencoded h = retold _ _ _ _ told (unset_names_nothing sub other unencoded) (λ refused bad. absurd bad) h
 
--- of the words after a name that name settings
-pub told_under_settings : (sub : Text × List Row) (settings : Settings) (told : UsageFault) → (sub.0 ≡ codes "handshake" → ⊥) → (sub.0 ≡ codes "encode" → ⊥)
-    → (sub.0 ≡ codes "count" → ⊥) → (sub.0 ≡ codes "calls" → ⊥) → (sub.0 ≡ codes "list" → ⊥) → HasSettings sub.1 settings → TellsCommand sub.0 sub.1 (Err told)
-    → Tells (Some sub) (Err told)
-told_under_settings sub settings told other unencoded uncounted unlisted unlined given h = retold _ _ _ _ told
-    (no_command_names_nothing sub other unencoded uncounted unlisted unlined) (λ refused has. (has, (settings, given))) h
+  -- that is nothing
+  pub told_without_task : (told : UsageFault) → (sub.0 ≡ codes "handshake" → ⊥) → (sub.0 ≡ codes "encode" → ⊥) → TellsNamed (NamesTask sub.0 sub.1) (Err told) → Tells (Some sub) (Err told)
+  told_without_task told other unencoded h = retold _ _ _ _ told (undone_names_nothing sub other unencoded) (λ refused bad. absurd bad) h
+
+  -- of none that are selected
+  pub told_without_selection : (task : Task) (settings : Settings) (told : UsageFault) → (sub.0 ≡ codes "handshake" → ⊥) → (sub.0 ≡ codes "encode" → ⊥) → NamesTask sub.0 sub.1 task → HasSettings sub.1 settings
+      → TellsSelection sub.0 sub.1 (Err told) → Tells (Some sub) (Err told)
+  told_without_selection task settings told other unencoded named given h = retold _ _ _ _ told (unowned_names_nothing sub other unencoded) (λ refused has. (has, (task, named), (settings, given))) h
 
 pub named_of_matches : (words : List Text) (sub : Option (Text × List Row)) (answer : Result Asked UsageFault) → subcommand_of wire_app words ≡ sub
     → Tells sub answer → IfOk answer (IsNamedBy words)

@@ -93,6 +93,10 @@ options json = json ∷ Explain ∷ MaxMessage ∷ MaxArray ∷ MaxDepth ∷ Fds
 abbrev pub going : (json : Flag) → List Flag
 going json = KeepGoing ∷ Resync ∷ ResyncWindow ∷ options json
 
+-- those by which messages are selected, and then others. Some rule may have to be there
+abbrev pub selecting : (rules : Flag) → List Flag → List Flag
+selecting rules rest = rules ∷ Invert ∷ MayMatch ∷ AsBus ∷ Owner ∷ LearnOwners ∷ rest
+
 -- and those of the window, which `show`, `json`, `list` and `filter` have
 abbrev pub window : List Flag
 window = Skip ∷ Limit ∷ CheckRest ∷ going Json
@@ -103,14 +107,14 @@ bare_app = on_top (λ s. record s { subcommand_required = true; has_version = tr
 
 -- each command with its flags, in the order of its help
 abbrev pub commands : List (Text × List Flag)
-commands = (codes "show", Time ∷ Escape ∷ window)
-    ∷ (codes "json", NoTime ∷ SafeIntegers ∷ window)
-    ∷ (codes "list", Width ∷ Rules ∷ Invert ∷ MayMatch ∷ AsBus ∷ Owner ∷ LearnOwners ∷ window)
+commands = (codes "show", Time ∷ Escape ∷ selecting Rules window)
+    ∷ (codes "json", NoTime ∷ SafeIntegers ∷ selecting Rules window)
+    ∷ (codes "list", Width ∷ selecting Rules window)
     ∷ (codes "check", going LinesJson)
     ∷ (codes "count", going LinesJson)
     ∷ (codes "calls", Members ∷ Unanswered ∷ Errors ∷ Slower ∷ going LinesJson)
-    ∷ (codes "swap", Order ∷ Raw ∷ options Json)
-    ∷ (codes "filter", NeededRules ∷ Invert ∷ MayMatch ∷ AsBus ∷ Owner ∷ LearnOwners ∷ Raw ∷ window)
+    ∷ (codes "swap", Order ∷ Raw ∷ selecting Rules (options Json))
+    ∷ (codes "filter", selecting NeededRules (Raw ∷ window))
     ∷ (codes "encode", OrderOfLines ∷ SafeLines ∷ Explain ∷ LinesKeepGoing ∷ MaxLine ∷ limits)
     ∷ (codes "handshake", Side ∷ [])
     ∷ []

@@ -18,9 +18,11 @@ use Rattle.cli_options.specs.Limiting.{HasLimits, HasLineLimit, HasResync, HasWi
 use Rattle.cli_options.specs.Owners.{AreOwnersOf, IsOwnerWord}
 use Rattle.cli_options.specs.Worded.{HasWord, order_word, side_word}
 use Rattle.cli_options.specs.declared.asked.Asked.{Asked}
-use Rattle.cli_options.specs.declared.asked.Asked.TheVariants.{Messages, Count, List as Listing, Calls, Encode, Handshake}
-use Rattle.cli_options.specs.declared.command.Command.{Command}
-use Rattle.cli_options.specs.declared.command.Command.TheVariants.{Show, Json, Check, Swap, Filter}
+use Rattle.cli_options.specs.declared.asked.Asked.TheVariants.{Messages, Encode, Handshake}
+use Rattle.cli_options.specs.declared.command.Output.TheVariants as output
+use Rattle.cli_options.specs.declared.command.Request.{Request}
+use Rattle.cli_options.specs.declared.command.Task.{Task}
+use Rattle.cli_options.specs.declared.command.Task.TheVariants.{Write, Count, Lines, Calls}
 use Rattle.cli_options.specs.declared.selection.Question.{Question}
 use Rattle.cli_options.specs.declared.selection.Question.TheVariants as questions
 use Rattle.cli_options.specs.declared.selection.Selection.{Selection}
@@ -28,7 +30,6 @@ use Rattle.cli_options.specs.declared.settings.Settings.{Settings}
 use Rattle.cli_options.specs.declared.usage_fault.RefusedRule.{RefusedRule}
 use Rattle.cli_options.specs.declared.wanted_calls.WantedCalls.{WantedCalls}
 use Rattle.cli_options.specs.declared.wanted_encoding.WantedEncoding.{WantedEncoding}
-use Rattle.cli_options.specs.declared.wanted_lines.WantedLines.{WantedLines}
 
 -- the side whose handshake comes first is the one that its option is given; without that option
 -- there is none
@@ -56,26 +57,32 @@ abbrev pub HasQuestion : List Row → Question → Type 0
 HasQuestion rows questions.Matches = IsGiven (codes "may-match") rows → ⊥
 HasQuestion rows questions.MayMatch = IsGiven (codes "may-match") rows
 
--- the words after `list` or `filter` are texts that spell the rules, in their order; and so are the
--- owners given, and it learns others if it is to; and what is asked of each rule is what they name,
--- as at a bus if it is to be
-pub record IsSelectionGiven (rows : List Row) (selection : Selection) : Type 0 where
+-- owners are learned, of `filter` only if it is to
+abbrev pub LearnsOwners : Text → List Row → Type 0
+LearnsOwners name rows = (name ≡ codes "filter" → ⊥) ⊎ IsGiven (codes "learn-owners") rows
+
+-- the words after the name of a subcommand are texts that spell the rules, in their order; and so
+-- are the owners given, and it learns others if it is to; and what is asked of each rule is what
+-- they name, as at a bus if it is to be
+pub record IsSelectionGiven (name : Text) (rows : List Row) (selection : Selection) : Type 0 where
   pub rules : AreRulesOf (rules_given rows) selection.rules.items
   pub inverted : (selection.is_inverted ≡ true) ↔ IsGiven (codes "invert") rows
   pub question : HasQuestion rows selection.question
   pub owners : AreOwnersOf (words_of (codes "owner") rows) selection.owners.items
-  pub learns : (selection.learns ≡ true) ↔ IsGiven (codes "learn-owners") rows
+  pub learns : (selection.learns ≡ true) ↔ LearnsOwners name rows
   pub as_bus : (selection.as_bus ≡ true) ↔ IsGiven (codes "as-bus") rows
 
--- the name of a subcommand and the words after it name the command; `show` writes times, and
--- escapes hidden characters, if its flags are given, and `json` writes times if that flag is not,
--- and safe integers if that one is
-abbrev pub NamesCommand : Text → List Row → Command → Type 0
-NamesCommand name rows (Show times escapes) = (name ≡ codes "show") × ((times ≡ true) ↔ IsGiven (codes "time") rows) × ((escapes ≡ true) ↔ IsGiven (codes "escape") rows)
-NamesCommand name rows (Json times safe) = (name ≡ codes "json") × ((times ≡ false) ↔ IsGiven (codes "no-time") rows) × ((safe ≡ true) ↔ IsGiven (codes "safe-integers") rows)
-NamesCommand name rows Check = name ≡ codes "check"
-NamesCommand name rows (Swap order form) = (name ≡ codes "swap") × (first_of (codes "to") rows ≡ Some (order_word order)) × HasFileForm rows form
-NamesCommand name rows (Filter selection form) = (name ≡ codes "filter") × IsSelectionGiven rows selection × HasFileForm rows form
+-- all messages are selected: no rule is given, and it is neither inverted nor as at a bus
+abbrev pub TakesAll : List Row → Type 0
+TakesAll rows = (all_of (codes "rule") rows ≡ None) × (IsGiven (codes "invert") rows → ⊥) × (IsGiven (codes "as-bus") rows → ⊥)
+
+-- then no selection is made
+abbrev pub IsMade : List Row → Selection → Option Selection → Type 0
+IsMade rows selection None = TakesAll rows
+IsMade rows selection (Some made) = (TakesAll rows → ⊥) × (made ≡ selection)
+
+abbrev pub HasSelection : Text → List Row → Option Selection → Type 0
+HasSelection name rows made = (selection : Selection) × IsSelectionGiven name rows selection × IsMade rows selection made
 
 -- the words after a subcommand name the limits, the side and the windows, and have each flag that is
 -- set and no other; but the run goes on too if messages are looked for again
@@ -99,10 +106,24 @@ abbrev pub GivesWanted : List Row → Option WantedCalls → Type 0
 GivesWanted rows (Some wanted) = HasWanted rows wanted
 GivesWanted rows None = (wanted : WantedCalls) → HasWanted rows wanted → ⊥
 
--- what `list` writes is what the words after it select, in lines of the width that they name
-pub record HasLines (rows : List Row) (wanted : WantedLines) : Type 0 where
-  pub selection : IsSelectionGiven rows wanted.selection
-  pub width : HasWidth rows wanted.width
+-- the name of a subcommand and the words after it name what is done with messages; `show` writes
+-- times, and escapes hidden characters, if its flags are given, and `json` writes times if that
+-- flag is not, and safe integers if that one is
+abbrev pub NamesTask : Text → List Row → Task → Type 0
+NamesTask name rows (Write (output.Text times escapes)) = (name ≡ codes "show") × ((times ≡ true) ↔ IsGiven (codes "time") rows) × ((escapes ≡ true) ↔ IsGiven (codes "escape") rows)
+NamesTask name rows (Write (output.JsonLine times safe)) = (name ≡ codes "json") × ((times ≡ false) ↔ IsGiven (codes "no-time") rows) × ((safe ≡ true) ↔ IsGiven (codes "safe-integers") rows)
+NamesTask name rows (Write output.Nothing) = name ≡ codes "check"
+NamesTask name rows (Write (output.InOrder order form)) = (name ≡ codes "swap") × (first_of (codes "to") rows ≡ Some (order_word order)) × HasFileForm rows form
+NamesTask name rows (Write (output.AsIs form)) = (name ≡ codes "filter") × HasFileForm rows form
+NamesTask name rows Count = name ≡ codes "count"
+NamesTask name rows (Lines width) = (name ≡ codes "list") × HasWidth rows width
+NamesTask name rows (Calls wanted) = (name ≡ codes "calls") × HasWanted rows wanted
+
+-- they name what is done with messages, which of them, and by which settings
+pub record HasRequest (name : Text) (rows : List Row) (request : Request) : Type 0 where
+  pub task : NamesTask name rows request.task
+  pub selection : HasSelection name rows request.selection
+  pub settings : HasSettings rows request.settings
 
 -- the order of all messages is the one that `--to` is given; without it there is none
 abbrev pub HasOrder : List Row → Option Order → Type 0
@@ -118,15 +139,11 @@ pub record HasEncoding (rows : List Row) (wanted : WantedEncoding) : Type 0 wher
   pub keeps_going : (wanted.keeps_going ≡ true) ↔ IsGiven (codes "keep-going") rows
   pub max_line : HasLineLimit rows wanted.max_line
 
--- the subcommand and the words after it name a command and its settings, those of `count`, those of
--- `list` and of `calls` and what they list, what `encode` is to write, or the side whose handshake
--- is listed
+-- the subcommand and the words after it name what is done with messages, what `encode` is to write,
+-- or the side whose handshake is listed
 abbrev pub Names : Option (Text × List Row) → Asked → Type 0
 Names None asked = ⊥
-Names (Some sub) (Messages command settings) = NamesCommand sub.0 sub.1 command × HasSettings sub.1 settings
-Names (Some sub) (Count settings) = (sub.0 ≡ codes "count") × HasSettings sub.1 settings
-Names (Some sub) (Listing settings wanted) = (sub.0 ≡ codes "list") × HasSettings sub.1 settings × HasLines sub.1 wanted
-Names (Some sub) (Calls settings wanted) = (sub.0 ≡ codes "calls") × HasSettings sub.1 settings × HasWanted sub.1 wanted
+Names (Some sub) (Messages request) = HasRequest sub.0 sub.1 request
 Names (Some sub) (Encode wanted) = (sub.0 ≡ codes "encode") × HasEncoding sub.1 wanted
 Names (Some sub) (Handshake side) = (sub.0 ≡ codes "handshake") × (first_of (codes "side") sub.1 ≡ Some (side_word side))
 
@@ -153,16 +170,7 @@ pub record HasRefused (rows : List Row) (refused : RefusedRule) : Type 0 where
   pub explains : (refused.explains ≡ true) ↔ IsGiven (codes "explain") rows
   pub owners : GiveOwners rows
 
--- the command takes rules: it is `filter`, or `list` with a width
-abbrev pub TakesRules : Text → List Row → Type 0
-TakesRules name rows = (name ≡ codes "filter") ⊎ ((name ≡ codes "list") × (width : ℕ) × HasWidth rows width)
-
--- the words after it have such a text
-pub record HasFault (name : Text) (rows : List Row) (refused : RefusedRule) : Type 0 where
-  pub named : TakesRules name rows
-  pub refuses : HasRefused rows refused
-
--- the same, among options that name settings
+-- such words are of a subcommand with which they name what is done with messages, and settings
 abbrev pub HasRuleFault : Option (Text × List Row) → RefusedRule → Type 0
 HasRuleFault None refused = ⊥
-HasRuleFault (Some sub) refused = HasFault sub.0 sub.1 refused × ((settings : Settings) × HasSettings sub.1 settings)
+HasRuleFault (Some sub) refused = HasRefused sub.1 refused × ((task : Task) × NamesTask sub.0 sub.1 task) × ((settings : Settings) × HasSettings sub.1 settings)

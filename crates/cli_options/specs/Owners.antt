@@ -15,8 +15,6 @@ use Rattle.dbus_rule.specs.declared.rule.Rule.{Rule}
 use Rattle.dbus_rule.specs.Rules.{sender_of}
 use Rattle.dbus_rule.specs.RuleViews.{rule_pairs}
 use Rattle.cli_options.specs.declared.selection.Selection.{Selection}
-use Rattle.cli_options.specs.declared.command.Command.{Command}
-use Rattle.cli_options.specs.declared.command.Command.TheVariants.{Show, Json, Check, Swap, Filter}
 
 abbrev equals_sign : ℕ
 equals_sign = 61
@@ -63,9 +61,6 @@ some_needs_owner owners rules = list_any (λ rule. needs_owner owners (sender_of
 abbrev pub selection_lacks_owner : Selection → Bool
 selection_lacks_owner selection = not selection.learns && some_needs_owner selection.owners.items selection.rules.items
 
-abbrev pub lacks_owner : Command → Bool
-lacks_owner (Show times escapes) = false
-lacks_owner (Json times safe) = false
-lacks_owner Check = false
-lacks_owner (Swap order form) = false
-lacks_owner (Filter selection form) = selection_lacks_owner selection
+abbrev pub lacks_owner : Option Selection → Bool
+lacks_owner None = false
+lacks_owner (Some selection) = selection_lacks_owner selection

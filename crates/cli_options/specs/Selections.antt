@@ -1,6 +1,6 @@
 -- Which messages a selection selects.
 -- D-Bus Specification, "Match Rules" and "Eavesdropping".
-use Rattle.std.specs.Prelude.{◌≡◌, ℕ, ◌⊎◌, ◌&&◌, Bool, true, false, List, [], ◌∷◌, map, codes, is_some, if◌then◌else◌}
+use Rattle.std.specs.Prelude.{◌≡◌, ℕ, ◌⊎◌, ◌&&◌, Bool, true, false, List, [], ◌∷◌, map, codes, is_some, if◌then◌else◌, Option, None, Some}
 use Rattle.std.specs.List.{filter, list_any}
 use Rattle.std.specs.Str.{bytes_eq}
 use Rattle.std.specs.declared.alloc.Global.{Global}
@@ -17,7 +17,6 @@ use Rattle.cli_options.specs.declared.selection.Question.{Question}
 use Rattle.cli_options.specs.declared.selection.Question.TheVariants as questions
 use Rattle.cli_options.specs.declared.selection.Selection.{Selection}
 use Rattle.cli_options.specs.declared.command.Command.{Command}
-use Rattle.cli_options.specs.declared.command.Command.TheVariants.{Show, Json, Check, Swap, Filter}
 
 -- what is asked of a rule and a message with these owners holds: the rule matches it, or may match
 -- it, whose SENDER the bus wrote, if it has one
@@ -76,15 +75,12 @@ pub record AreSameSelection (a b : Selection) : Type 0 where
   pub learns : a.learns ≡ b.learns
   pub as_bus : a.as_bus ≡ b.as_bus
 
--- When two commands are the same: their names are, and so is what belongs to them.
+-- both select all messages, or the same ones
+abbrev pub AreSameSelected : Option Selection → Option Selection → Type 0
+AreSameSelected None None = Unit {0}
+AreSameSelected (Some a) (Some b) = AreSameSelection a b
+AreSameSelected a b = ⊥
 
--- both are `Show`, with times or without, and with escapes or without; or both `Json`, with times
--- or without, and with safe integers or without; or both are `Check`; or `Swap` to one order, or
--- `Filter` by the same selection, in the same form
+-- both commands write the same of messages, and select the same ones
 abbrev pub AreSameCommand : Command → Command → Type 0
-AreSameCommand (Show a x) (Show b y) = (a ≡ b) × (x ≡ y)
-AreSameCommand (Json a x) (Json b y) = (a ≡ b) × (x ≡ y)
-AreSameCommand Check Check = Unit {0}
-AreSameCommand (Swap a form) (Swap b other) = (a ≡ b) × (form ≡ other)
-AreSameCommand (Filter r form) (Filter s other) = AreSameSelection r s × (form ≡ other)
-AreSameCommand a b = ⊥
+AreSameCommand a b = (a.output ≡ b.output) × AreSameSelected a.selection b.selection

@@ -12,10 +12,9 @@ use Rattle.dbus_rule.specs.declared.rule.Rule.{Rule as MatchRule}
 use Rattle.dbus_match.specs.Matching.{Ownership, ownership}
 use Rattle.cli_options.specs.CommandLine.{wire_app}
 use Rattle.cli_options.specs.Owners.{AreOwnersOf, IsOwnerWord}
-use Rattle.cli_options.specs.Named.{AreRulesOf, GiveOwners, HasFirstFault, Names, NamesCommand, HasFault, HasRefused, HasRuleFault, IsSelectionGiven}
+use Rattle.cli_options.specs.Named.{AreRulesOf, GiveOwners, HasFirstFault, HasRefused, HasRuleFault, HasSelection, Names}
 use Rattle.cli_options.specs.Telling.{TellsOr, ToldOr}
 use Rattle.cli_options.specs.declared.asked.Asked.{Asked}
-use Rattle.cli_options.specs.declared.command.Command.{Command}
 use Rattle.cli_options.specs.declared.selection.Selection.{Selection}
 use Rattle.cli_options.specs.declared.usage_fault.RefusedRule.{RefusedRule}
 use Rattle.cli_options.specs.declared.usage_fault.UsageFault.{UsageFault}
@@ -49,17 +48,8 @@ TellsRules texts explains answer = TellsOr (λ rules. AreRulesOf texts rules.ite
     (λ refused. HasFirstFault texts refused × (refused.explains ≡ explains)) answer
 
 -- the selection that words give; else the rule that is refused; else a word gives no owner
-abbrev pub TellsSelection : List Row → Result Selection UsageFault → Type 0
-TellsSelection rows answer = TellsOr (IsSelectionGiven rows) (GiveOwners rows → ⊥) (HasRefused rows) answer
-
--- the name of a subcommand and the words after it name no command, and no rule that is refused
-pub record IsNoCommand (name : Text) (rows : List Row) : Type 0 where
-  pub no_command : (command : Command) → NamesCommand name rows command → ⊥
-  pub no_fault : (refused : RefusedRule) → HasFault name rows refused → ⊥
-
--- the command that they name; else the rule that is refused; else a fault of usage
-abbrev pub TellsCommand : Text → List Row → Result Command UsageFault → Type 0
-TellsCommand name rows answer = TellsOr (NamesCommand name rows) (IsNoCommand name rows) (HasFault name rows) answer
+abbrev pub TellsSelection : Text → List Row → Result (Option Selection) UsageFault → Type 0
+TellsSelection name rows answer = TellsOr (HasSelection name rows) (GiveOwners rows → ⊥) (HasRefused rows) answer
 
 -- the subcommand and the words after it name nothing that is asked for, and no rule that is refused
 pub record NamesNothing (sub : Option (Text × List Row)) : Type 0 where

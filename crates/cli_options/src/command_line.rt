@@ -1,13 +1,13 @@
 //! The command that the words of a command line name.
-ghost use Rattle.std.specs.Prelude.{◌≡◌, ◌↔◌, true, List, Some, IfOk, MatchOption, map, string_bytes, codes};
+ghost use Rattle.std.specs.Prelude.{◌≡◌, ◌↔◌, true, List, Some, IfOk, IsTrue, MatchOption, map, string_bytes, codes};
 ghost use Rattle.clap.specs.Words.{found_of, kind_of, rows_of, subcommand_rows_of};
-ghost use Rattle.cli_options.specs.Named.{GivesWanted, HasEncoding, HasFileForm, HasOrder, HasQuestion, HasSettings, IsNamedBy, rules_given, words_of};
+ghost use Rattle.cli_options.specs.Named.{GivesWanted, HasEncoding, HasFileForm, HasOrder, HasQuestion, HasSettings, IsNamedBy, LearnsOwners, NamesTask, TakesAll, rules_given, words_of};
 ghost use Rattle.cli_options.specs.Limiting.{IsGiven};
 ghost use Rattle.cli_options.specs.Telling.{TellsNamed};
-ghost use Rattle.cli_options.specs.Told.{TellsKind, Tells, TellsCommand, TellsFault, TellsOwners, TellsRules, TellsSelection};
+ghost use Rattle.cli_options.specs.Told.{TellsKind, Tells, TellsFault, TellsOwners, TellsRules, TellsSelection};
 
 use crate::asked::Asked;
-use crate::command::Command;
+use crate::command::{Output, Request, Task};
 use crate::file_form::FileForm;
 use crate::limits_named::{
     given_named, limits_named, line_limit_named, resync_named, width_named, window_named,
@@ -20,7 +20,6 @@ use crate::settings::Settings;
 use crate::usage_fault::{UsageFault, usage};
 use crate::wanted_calls::WantedCalls;
 use crate::wanted_encoding::WantedEncoding;
-use crate::wanted_lines::WantedLines;
 use crate::wire::wire;
 use crate::worded::word_named;
 use clap::ArgMatches;
@@ -42,17 +41,18 @@ use std::alloc::Global;
 /// set. `--handshake` names the side whose handshake comes before the messages. `--skip` and `--limit`, of `show`, `json`, `list` and `filter`, are the numbers of the
 /// window; without them it leaves no message out. `--check-rest` of these is set if it is among the
 /// words. `--width` of `list` is the number of cells of its lines; without it they have 80. The
-/// words that stand alone after `list` and `filter` are rules, and `--invert`, `--may-match`,
-/// `--as-bus`, `--owner` and `--learn-owners` say more of what they select; `list` without rules has the
-/// one that matches all messages.
+/// words that stand alone after `show`, `json`, `list`, `swap` and `filter` are rules, and
+/// `--invert`, `--may-match`, `--as-bus` and `--owner` say more of what they select. Without rules
+/// there is the one that matches all messages. Each of them learns owners, but `filter` only if
+/// `--learn-owners` is among the words.
 /// `encode` takes the options of the limits, `--to` for the order of all messages, `--explain`,
 /// `--keep-going` and `--max-line`, in bytes; without it a line may have 1 GiB. `--safe-integers` of `json` and of
 /// `encode` is set if it is among the words.
 ///
 /// `Usage`: the words name no command of the program, or have what it does not take, a limit over
 /// that of the specification, a number of messages or milliseconds over 4294967295, a width over
-/// 65535 and an owner that is no NAME=UNIQUE of two bus names among it. `Rule`: they name `list` or
-/// `filter`, with a text that spells no rule; it is the first such text. `Help`, `Version`: they
+/// 65535 and an owner that is no NAME=UNIQUE of two bus names among it. `Rule`: they have a text that
+/// spells no rule, and name a command that takes rules; it is the first such text. `Help`, `Version`: they
 /// ask for help, or for the version. `Memory`: an allocation failed.
 pub fn command_of(alloc: Global, words: &[String]) -> Result<Asked, UsageFault>
     // What is returned is what the words name: a command and its settings, or a side.
@@ -84,17 +84,13 @@ fn command_named(alloc: Global, matches: &ArgMatches) -> Result<Asked, UsageFaul
         return encode_named(alloc, inner);
     }
     let settings = settings_named(alloc, inner)?;
-    if name == "count" {
-        return Ok(Asked::Count(settings));
-    }
-    if name == "calls" {
-        return calls_named(alloc, settings, inner);
-    }
-    if name == "list" {
-        return list_named(alloc, settings, inner);
-    }
-    let command = command_with(alloc, name, inner)?;
-    Ok(Asked::Messages(command, settings))
+    let task = task_named(alloc, name, inner)?;
+    let selection = selection_named(alloc, name, inner)?;
+    Ok(Asked::Messages(Request {
+        task,
+        selection,
+        settings,
+    }))
 }
 
 // What `encode` is given.
@@ -147,13 +143,12 @@ fn handshake_named(alloc: Global, inner: &ArgMatches) -> Result<Asked, UsageFaul
     }
 }
 
-// What `calls` is given, with these settings.
-fn calls_named(alloc: Global, settings: Settings, inner: &ArgMatches) -> Result<Asked, UsageFault>
-    requires { HasSettings (rows_of (found_of inner.now)) settings }
-    ensures { Tells (Some (codes "calls", rows_of (found_of inner.now))) result }
+// What `calls` is given.
+fn calls_named(alloc: Global, inner: &ArgMatches) -> Result<Task, UsageFault>
+    ensures { TellsNamed (NamesTask (codes "calls") (rows_of (found_of inner.now))) result }
 {
     match wanted_named(inner) {
-        Some(wanted) => Ok(Asked::Calls(settings, wanted)),
+        Some(wanted) => Ok(Task::Calls(wanted)),
         None => Err(usage(alloc, "error: no number of milliseconds\n")),
     }
 }
@@ -198,53 +193,57 @@ fn settings_named(alloc: Global, inner: &ArgMatches) -> Result<Settings, UsageFa
     })
 }
 
-// The command of this name, which is not `list`, with what comes after it.
-fn command_with(alloc: Global, name: &str, inner: &ArgMatches) -> Result<Command, UsageFault>
-    requires { name.now ≡ codes "list" → ⊥ }
-    ensures { TellsCommand name.now (rows_of (found_of inner.now)) result }
+// What the command of this name is to do, with what comes after it.
+fn task_named(alloc: Global, name: &str, inner: &ArgMatches) -> Result<Task, UsageFault>
+    ensures { TellsNamed (NamesTask name.now (rows_of (found_of inner.now))) result }
 {
     if name == "show" {
         let times = is_given(inner, "time");
         let escapes = is_given(inner, "escape");
-        return Ok(Command::Show { times, escapes });
+        return Ok(Task::Write(Output::Text { times, escapes }));
     }
     if name == "json" {
         let times = !is_given(inner, "no-time");
         let safe = is_given(inner, "safe-integers");
-        return Ok(Command::Json { times, safe });
+        return Ok(Task::Write(Output::JsonLine { times, safe }));
     }
     if name == "check" {
-        return Ok(Command::Check);
+        return Ok(Task::Write(Output::Nothing));
     }
     if name == "swap" {
         return order_named(alloc, inner);
     }
     if name == "filter" {
-        return filter_named(alloc, inner);
+        return Ok(Task::Write(Output::AsIs(file_form_named(inner))));
+    }
+    if name == "count" {
+        return Ok(Task::Count);
+    }
+    if name == "list" {
+        return lines_named(alloc, inner);
+    }
+    if name == "calls" {
+        return calls_named(alloc, inner);
     }
     Err(usage(alloc, "error: no such command\n"))
 }
 
-// What `list` is given, with these settings.
-fn list_named(alloc: Global, settings: Settings, inner: &ArgMatches) -> Result<Asked, UsageFault>
-    requires { HasSettings (rows_of (found_of inner.now)) settings }
-    ensures { Tells (Some (codes "list", rows_of (found_of inner.now))) result }
+// What `list` is given.
+fn lines_named(alloc: Global, inner: &ArgMatches) -> Result<Task, UsageFault>
+    ensures { TellsNamed (NamesTask (codes "list") (rows_of (found_of inner.now))) result }
 {
     match width_named(inner) {
-        Some(width) => {
-            let selection = selection_named(alloc, inner)?;
-            Ok(Asked::List(settings, WantedLines { selection, width }))
-        }
+        Some(width) => Ok(Task::Lines(width)),
         None => Err(usage(alloc, "error: no width\n")),
     }
 }
 
 // The order that `swap` is given.
-fn order_named(alloc: Global, inner: &ArgMatches) -> Result<Command, UsageFault>
-    ensures { TellsCommand (codes "swap") (rows_of (found_of inner.now)) result }
+fn order_named(alloc: Global, inner: &ArgMatches) -> Result<Task, UsageFault>
+    ensures { TellsNamed (NamesTask (codes "swap") (rows_of (found_of inner.now))) result }
 {
     match order_given(alloc, inner) {
-        Ok(Some(order)) => Ok(Command::Swap(order, file_form_named(inner))),
+        Ok(Some(order)) => Ok(Task::Write(Output::InOrder(order, file_form_named(inner)))),
         Ok(None) => Err(usage(alloc, "error: no order\n")),
         Err(fault) => Err(fault),
     }
@@ -261,28 +260,46 @@ fn file_form_named(inner: &ArgMatches) -> FileForm
     }
 }
 
-// `filter`, with the selection and the form that it is given.
-fn filter_named(alloc: Global, inner: &ArgMatches) -> Result<Command, UsageFault>
-    ensures { TellsCommand (codes "filter") (rows_of (found_of inner.now)) result }
-{
-    let selection = selection_named(alloc, inner)?;
-    Ok(Command::Filter(selection, file_form_named(inner)))
-}
-
-// The messages that a command is to select.
-fn selection_named(alloc: Global, inner: &ArgMatches) -> Result<Selection, UsageFault>
-    ensures { TellsSelection (rows_of (found_of inner.now)) result }
+// The messages that the command of this name is to select, if not all.
+fn selection_named(
+    alloc: Global,
+    name: &str,
+    inner: &ArgMatches,
+) -> Result<Option<Selection>, UsageFault>
+    ensures { TellsSelection name.now (rows_of (found_of inner.now)) result }
 {
     let owners = owners_named(alloc, inner)?;
     let rules = rules_named(alloc, inner, is_given(inner, "explain"))?;
-    Ok(Selection {
+    let selection = Selection {
         rules,
         is_inverted: is_given(inner, "invert"),
         question: question_named(inner),
         owners,
-        learns: is_given(inner, "learn-owners"),
+        learns: learns_owners(name, inner),
         as_bus: is_given(inner, "as-bus"),
-    })
+    };
+    if takes_all(inner) {
+        Ok(None)
+    } else {
+        Ok(Some(selection))
+    }
+}
+
+// Whether it selects all messages.
+fn takes_all(inner: &ArgMatches) -> bool
+    ensures { IsTrue result ↔ TakesAll (rows_of (found_of inner.now)) }
+{
+    match inner.get_strs("rule") {
+        Some(_) => false,
+        None => !(is_given(inner, "invert") | is_given(inner, "as-bus")),
+    }
+}
+
+// Whether the command of this name learns owners.
+fn learns_owners(name: &str, inner: &ArgMatches) -> bool
+    ensures { (result ≡ true) ↔ LearnsOwners name.now (rows_of (found_of inner.now)) }
+{
+    name != "filter" || is_given(inner, "learn-owners")
 }
 
 // What is asked of each rule.

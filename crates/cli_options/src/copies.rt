@@ -10,23 +10,18 @@ use std::alloc::AllocError;
 impl Clone for Command {
     ghost is_clone = { λ command copy. AreSameCommand copy command };
 
-    /// The same command; the selection of `Filter` in memory of its own.
+    /// The same command; its selection in memory of its own.
     ///
     /// Returns `AllocError` if an allocation failed, and nothing of the copy is left then.
     fn clone(&self) -> Result<Command, AllocError> {
-        match self {
-            Command::Show { times, escapes } => Ok(Command::Show {
-                times: *times,
-                escapes: *escapes,
-            }),
-            Command::Json { times, safe } => Ok(Command::Json {
-                times: *times,
-                safe: *safe,
-            }),
-            Command::Check => Ok(Command::Check),
-            Command::Swap(order, form) => Ok(Command::Swap(*order, *form)),
-            Command::Filter(selection, form) => Ok(Command::Filter(selection.clone()?, *form)),
-        }
+        let selection = match &self.selection {
+            Some(selection) => Some(selection.clone()?),
+            None => None,
+        };
+        Ok(Command {
+            output: self.output,
+            selection,
+        })
     }
 }
 

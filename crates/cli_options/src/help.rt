@@ -91,15 +91,16 @@ pub(crate) const PROGRAM_MORE: &str = more!(
 /// The help of `show`.
 pub(crate) const SHOW: Texts = Texts {
     about: "Writes each message as text",
-    usage: "dbus-wire show [OPTIONS] < FILE",
+    usage: "dbus-wire show [OPTIONS] [RULE]... < FILE",
     more: more!(
     going "
   For each message a line on standard output with its number from 1, byte order,
   type, serial, flags and header fields, and below it a line for each value of
   its body. With --time the first line begins with the time of the message, in
   seconds since 1970, and a space, if the file has it. With --escape characters
-  that a terminal obeys or does not draw are written as \\u{202e}. If the input
-  is refused, `refused at P: NAME` on standard error.",
+  that a terminal obeys or does not draw are written as \\u{202e}. With rules only
+  the messages that list would list are written. If the input is refused,
+  `refused at P: NAME` on standard error.",
     "
   dbus-monitor --session --binary | dbus-wire show"
 ),
@@ -108,15 +109,15 @@ pub(crate) const SHOW: Texts = Texts {
 /// The help of `json`.
 pub(crate) const JSON: Texts = Texts {
     about: "Writes each message as a line of JSON",
-    usage: "dbus-wire json [OPTIONS] < FILE",
+    usage: "dbus-wire json [OPTIONS] [RULE]... < FILE",
     more: more!(
     going "
   For each message one line on standard output, an object: its number from 1,
   its offset in bytes, its time in seconds since 1970 if the file has it and
   without --no-time, its length, order, type, flags and serial, each header
   field by its name, fields of other codes in `fields`, and the values of its
-  body in `body`. If the input is refused, `refused at P: NAME` on standard
-  error.
+  body in `body`. With rules only the messages that list would list are written.
+  If the input is refused, `refused at P: NAME` on standard error.
 
   JSON nests as deep as the message does, which can be over 128 levels: some
   parsers refuse that. Integers of 64 bits are written exactly; JavaScript
@@ -146,8 +147,8 @@ pub(crate) const LIST: Texts = Texts {
   input is refused, `refused at P: NAME` on standard error.
 
   With rules only the messages that match one of them are listed, or with
-  --invert none of them; numbers count all. Rules, --may-match and owners of
-  names are those of filter: see `dbus-wire filter --help`.",
+  --invert none of them; numbers count all. Rules and --may-match are those of
+  filter, and owners are learned as there: see `dbus-wire filter --help`.",
     "
   dbus-wire list --width $COLUMNS < capture"
 ),
@@ -223,12 +224,13 @@ pub(crate) const CALLS: Texts = Texts {
 /// The help of `swap`.
 pub(crate) const SWAP: Texts = Texts {
     about: "Writes each message in one byte order",
-    usage: "dbus-wire swap [OPTIONS] --to <ORDER> < FILE",
+    usage: "dbus-wire swap [OPTIONS] --to <ORDER> [RULE]... < FILE",
     more: more!(
         "
   The messages on standard output, each in the byte order that is named: raw, or
-  of a pcap or pcapng file as a pcap file with their times. If the input is
-  refused, `refused at P: NAME` on standard error.",
+  of a pcap or pcapng file as a pcap file with their times. With rules only the
+  messages that list would list are written. If the input is refused,
+  `refused at P: NAME` on standard error.",
         "",
         "
   dbus-wire swap --to B < capture > big-endian"

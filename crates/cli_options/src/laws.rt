@@ -6,8 +6,8 @@ ghost use Rattle.cli_options.specs.Selections.{AreSameCommand};
 
 use crate::command::Command;
 
-/// `==` of two commands: they are equal exactly if they are the same command, `Swap` to the same
-/// order and `Filter` by the same selection, both in the same form.
+/// `==` of two commands: they are equal exactly if both write the same, of all messages or by the
+/// same selection.
 pub fn equal_commands(a: &Command, b: &Command) -> bool
     ensures { IsTrue result ↔ AreSameCommand a.now b.now }
 {

@@ -1,6 +1,6 @@
 //! The command line of the program `dbus-wire`: which command its words name, with which settings.
 //!
-//! [`command_of`] returns what some words ask for, a [`Command`] as a rule, or their
+//! [`command_of`] returns what some words ask for, a [`Request`] as a rule, or their
 //! [`UsageFault`]. The texts of help are here too. `dbus_tool` runs the command. `man/dbus-wire.1`
 //! describes the words.
 #![tactic(auto)]
@@ -29,7 +29,7 @@ mod wire;
 mod worded;
 
 pub use asked::Asked;
-pub use command::Command;
+pub use command::{Command, Output, Request, Task};
 pub use command_line::command_of;
 pub use dbus_handshake_input::Side;
 pub use file_form::FileForm;

@@ -1,4 +1,4 @@
-//! The rules that `list` and `filter` are given.
+//! The rules that a command is given.
 ghost use Rattle.std.specs.Prelude.{map};
 ghost use Rattle.cli_options.specs.Told.{TellsRules};
 

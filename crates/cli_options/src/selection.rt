@@ -1,4 +1,4 @@
-//! Which messages `list` and `filter` write.
+//! Which messages are selected.
 ghost use Rattle.std.specs.Prelude.{IfOk};
 ghost use Rattle.cli_options.specs.Selections.{IsByRule};
 

@@ -4,19 +4,19 @@
 ghost use Rattle.std.specs.Prelude.{◌≡◌, option_map};
 ghost use Rattle.cli_options.specs.Owners.{is_unowned, lacks_owner, needs_owner, selection_lacks_owner, some_needs_owner, some_owns};
 
-use crate::command::Command;
+use crate::command::Request;
 use crate::selection::Selection;
 use dbus_calls::is_ownable;
 use dbus_match::{Owner, Rule};
 
-impl Command {
-    /// Whether it is `Filter` by a selection that [lacks an owner](Selection::lacks_owner).
+impl Request {
+    /// Whether it has a selection that [lacks an owner](Selection::lacks_owner).
     pub fn lacks_owner(&self) -> bool
-        ensures { result ≡ lacks_owner self.now }
+        ensures { result ≡ lacks_owner self.now.selection }
     {
-        match self {
-            Command::Filter(selection, _) => selection.lacks_owner(),
-            _ => false,
+        match &self.selection {
+            Some(selection) => selection.lacks_owner(),
+            None => false,
         }
     }
 }

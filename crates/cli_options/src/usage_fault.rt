@@ -15,7 +15,7 @@ pub enum UsageFault {
     Version(String),
     /// The words are wrong: the text that says how, which ends in LF.
     Usage(String),
-    /// The words name `filter` with a text that spells no rule: the first of these.
+    /// The words have a text that spells no rule: the first of these.
     Rule(RefusedRule),
 }
 

@@ -1,7 +1,7 @@
 //! The command line, as `clap` is told it.
-ghost use Rattle.std.specs.Prelude.{◌≡◌, IfOk};
+ghost use Rattle.std.specs.Prelude.{◌≡◌, [], IfOk};
 ghost use Rattle.clap.specs.Words.{App, app_of, new_app, with_rule, with_subcommand};
-ghost use Rattle.cli_options.specs.CommandLine.{IsLocal, bare_app, going, limits, options, rule, window, wire_app, with_flags};
+ghost use Rattle.cli_options.specs.CommandLine.{IsLocal, bare_app, going, limits, options, rule, selecting, window, wire_app, with_flags};
 
 use crate::flag::Flag::*;
 use crate::flag::{Flag, argument};
@@ -91,6 +91,22 @@ fn with_going<'a>(
     with_options(alloc, going, json)
 }
 
+// With those by which messages are selected, one of the two of rules among them.
+fn with_selection<'a>(
+    alloc: Global,
+    command: Result<Command<'a>, AllocError>,
+    rules: Flag,
+) -> Result<Command<'a>, AllocError>
+    ensures { (app : App) → IfOk command.entry (IsLocal app) →
+        IfOk result (IsLocal (with_flags (selecting rules []) app)) }
+{
+    with_flags(
+        alloc,
+        command,
+        &[rules, Invert, MayMatch, AsBus, Owner, LearnOwners],
+    )
+}
+
 // And with those of the window.
 fn with_window<'a>(
     alloc: Global,
@@ -131,37 +147,28 @@ fn with_command<'a>(
 pub(crate) fn wire<'a>(alloc: Global) -> Result<Command<'a>, AllocError>
     ensures { IfOk result (λ c. app_of c ≡ wire_app) }
 {
-    let list = [Width, Rules, Invert, MayMatch, AsBus, Owner, LearnOwners];
-    let calls = [Members, Unanswered, Errors, Slower];
-    let filter = [
-        NeededRules,
-        Invert,
-        MayMatch,
-        AsBus,
-        Owner,
-        LearnOwners,
-        Raw,
-    ];
     let encode = [OrderOfLines, SafeLines, Explain, LinesKeepGoing, MaxLine];
-    let show = with_window(alloc, command(alloc, "show", help::SHOW, &[Time, Escape]));
-    let json = with_window(
+    let show = command(alloc, "show", help::SHOW, &[Time, Escape]);
+    let show = with_window(alloc, with_selection(alloc, show, Rules));
+    let json = command(alloc, "json", help::JSON, &[NoTime, SafeIntegers]);
+    let json = with_window(alloc, with_selection(alloc, json, Rules));
+    let list = command(alloc, "list", help::LIST, &[Width]);
+    let list = with_window(alloc, with_selection(alloc, list, Rules));
+    let check = command(alloc, "check", help::CHECK, &[]);
+    let check = with_going(alloc, check, LinesJson);
+    let count = command(alloc, "count", help::COUNT, &[]);
+    let count = with_going(alloc, count, LinesJson);
+    let calls = [Members, Unanswered, Errors, Slower];
+    let calls = command(alloc, "calls", help::CALLS, &calls);
+    let calls = with_going(alloc, calls, LinesJson);
+    let swap = command(alloc, "swap", help::SWAP, &[Order, Raw]);
+    let swap = with_options(alloc, with_selection(alloc, swap, Rules), Json);
+    let filter = with_selection(
         alloc,
-        command(alloc, "json", help::JSON, &[NoTime, SafeIntegers]),
+        command(alloc, "filter", help::FILTER, &[]),
+        NeededRules,
     );
-    let list = with_window(alloc, command(alloc, "list", help::LIST, &list));
-    let check = with_going(alloc, command(alloc, "check", help::CHECK, &[]), LinesJson);
-    let count = with_going(alloc, command(alloc, "count", help::COUNT, &[]), LinesJson);
-    let calls = with_going(
-        alloc,
-        command(alloc, "calls", help::CALLS, &calls),
-        LinesJson,
-    );
-    let swap = with_options(
-        alloc,
-        command(alloc, "swap", help::SWAP, &[Order, Raw]),
-        Json,
-    );
-    let filter = with_window(alloc, command(alloc, "filter", help::FILTER, &filter));
+    let filter = with_window(alloc, with_flags(alloc, filter, &[Raw]));
     let encode = with_limits(alloc, command(alloc, "encode", help::ENCODE, &encode));
     let handshake = command(alloc, "handshake", help::HANDSHAKES, &[Side]);
     let showing = with_command(bare_command(alloc), show);

@@ -4,7 +4,6 @@ use Rattle.std.specs.FinSet.{empty}
 use Rattle.dbus_names.specs.NameStates.{known_first}
 use Rattle.dbus_value_model.specs.declared.fault.Fault.{Fault}
 use Rattle.dbus_device.specs.Device.{Wrote, Stopped}
-use Rattle.cli_options.specs.declared.command.Command.TheVariants.{Check}
 use Rattle.cli_options.specs.declared.settings.Settings.{Settings}
 use Rattle.cli_options.specs.declared.window.Window.{Window}
 use Rattle.cli_run.specs.ByName.{Tallies}
@@ -12,7 +11,7 @@ use Rattle.cli_run.specs.Told.{GotFirst, GotSecond, IsUnwritten, TellsStop, Writ
 use Rattle.cli_run.specs.Going.{IsMore, IsStopOf, IsThrough, StopsWithin, closing_line}
 use Rattle.cli_run.specs.Inputs.{ArePlaced, Placed}
 use Rattle.cli_run.specs.Output.{IsOutputOfAll, after, check_line, fault_line, is_spent, status_of}
-use Rattle.cli_run.specs.Running.{RunsWith, Writes, WritesSome}
+use Rattle.cli_run.specs.Running.{RunsWith, Writes, WritesSome, check}
 use Rattle.cli_run.specs.Making.{FillsFrom}
 use Rattle.cli_run.specs.Rendering.{Makes, OutputState, first_state, is_full, state_after}
 use Rattle.cli_run.specs.RenderingLaws.{and_false, no_header}
@@ -33,13 +32,13 @@ use Rattle.cli_run.proofs.PartLaws.{line_is, some_placed}
 use Rattle.cli_run.proofs.Wanted.{wanted_all}
 
 -- `check` writes nothing of a message
-no_output : (items : List Placed) → IsOutputOfAll Check (known_first empty) items []
+no_output : (items : List Placed) → IsOutputOfAll check (known_first empty) items []
 no_output [] = refl
 no_output (m ∷ items) = ([], [], refl, inr (λ never. never, refl), no_output items)
 
 module _ (window : Window) where
   abbrev start : OutputState
-  start = first_state Check window
+  start = first_state check window
 
   makes_none : (items : List Placed) → Makes start items [] (state_after start items 0)
   makes_none items = record { texts = []; made = no_output items; text_is = sym (λ i. no_header false items i ++ written_none window i); then = refl }
@@ -61,11 +60,11 @@ tally_of counted = record { count = counted.count; size = counted.size; passed =
 
 module _ {R W E : Type 0} (r : Reading R) (w : Writing W) (e : Writing E) (settings : Settings) (most : ℕ) where
   abbrev Ends : ExitStatus → Type 0
-  Ends end = RunsWith r w e settings most Check end
+  Ends end = RunsWith r w e settings most check end
 
   -- the second writer was told nothing before
   abbrev Within : RunStop → Type 0
-  Within stop = StopsWithin (taken r) settings most true (Filled settings.window) (WritesSome w (writing e.held e.failures e.old e.old) settings Check) stop
+  Within stop = StopsWithin (taken r) settings most true (Filled settings.window) (WritesSome w (writing e.held e.failures e.old e.old) settings check) stop
 
   stops : (stop : RunStop) (end : ExitStatus) → end ≡ status.Failed → TellsStop e.held e.failures true stop e.old e.new → Within stop → Ends end
   stops stop end failed tells within = inr (record { failed = failed; stop = stop; before = e.old; within = within; tells = tells })
@@ -76,7 +75,7 @@ module _ {R W E : Type 0} (r : Reading R) (w : Writing W) (e : Writing E) (setti
   got_none cause never same = told_nothing w.held w.failures true w.old w.new same
 
   wrote_none : (cause : Cause) → w.new ≡ w.old → (items : List Placed) (told : List ℕ) → IsUnwritten (ByCause cause) × (told ≡ [])
-      → WritesSome w (writing e.held e.failures e.old e.old) settings Check items told (ByCause cause)
+      → WritesSome w (writing e.held e.failures e.old e.old) settings check items told (ByCause cause)
   wrote_none cause same items told none = record {
     then = state_after (start settings.window) items 0;
     text = [];
@@ -122,7 +121,7 @@ module _ {R W E : Type 0} (r : Reading R) (w : Writing W) (e : Writing E) (setti
     pub line_written : (end : ExitStatus) → Wrote w.held w.failures w.old line w.new → e.new ≡ e.old → end ≡ status_of counted.fault → Ends end
     line_written end wrote same end_is =
         let first = subst (λ (l : List ℕ). Wrote w.held w.failures w.old l w.new) (sym all_is) wrote in
-        let came : Writes w e settings Check some.0 all = record { then = state_after (start settings.window) some.0 0; text = []; made = makes_none settings.window some.0; first = first; still = λ none. absurd (is_some none); second = told_nothing e.held e.failures true e.old e.new same } in
+        let came : Writes w e settings check some.0 all = record { then = state_after (start settings.window) some.0 0; text = []; made = makes_none settings.window some.0; first = first; still = λ none. absurd (is_some none); second = told_nothing e.held e.failures true e.old e.new same } in
         inl (inl (
           record {
             tally = tally_of counted;

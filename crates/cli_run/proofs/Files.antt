@@ -12,13 +12,16 @@ use Rattle.dbus_pcap.specs.Written.{AllFit, CapturedMessage, file_of, messages_b
 use Rattle.dbus_pcap.proofs.WrittenLaws.{written_read}
 use Rattle.dbus_names.specs.NameStates.{NameState}
 use Rattle.cli_options.specs.declared.command.Command.{Command}
-use Rattle.cli_options.specs.declared.command.Command.TheVariants.{Show, Json, Check, Swap, Filter}
+use Rattle.cli_options.specs.declared.command.Output.{Output}
+use Rattle.cli_options.specs.declared.command.Output.TheVariants.{AsIs, InOrder}
 use Rattle.cli_options.specs.declared.file_form.FileForm.{FileForm}
 use Rattle.cli_options.specs.declared.file_form.FileForm.TheVariants.{AsRead, Raw}
+use Rattle.cli_options.specs.declared.selection.Selection.{Selection}
 use Rattle.cli_options.specs.declared.window.Window.{Window}
 use Rattle.cli_run.specs.Inputs.{Placed}
-use Rattle.cli_run.specs.Laws.{AreCaptured, WritesFile, raw_of}
-use Rattle.cli_run.specs.Output.{IsOutputOf, IsOutputOfAll, at_most, form_of, framed, header_if, output_of, owners_after, written}
+use Rattle.cli_run.specs.Learning.{known_after}
+use Rattle.cli_run.specs.Laws.{AreCaptured, WritesFile, in_raw}
+use Rattle.cli_run.specs.Output.{IsOutputOf, IsOutputOfAll, at_most, form_of, framed, header_if, output_of, written}
 use Rattle.cli_run.specs.declared.place.MessagePlace.{MessagePlace}
 
 -- ---- the messages that are written
@@ -34,7 +37,7 @@ record Made (command : Command) (os : NameState) (items : List Placed) (texts : 
   messages : List CapturedMessage
   fit : AllFit messages
   texts_are : texts ≡ map frame messages
-  raw : IsOutputOfAll (raw_of command) os items (map bytes_of messages)
+  raw : IsOutputOfAll (in_raw command) os items (map bytes_of messages)
 
 module _ (limits : Limits) where
   short : (m : MessageTree) (order : Order) → IsValidMessage limits m → length (message_bytes order m) < 2 ^ 32
@@ -42,11 +45,11 @@ module _ (limits : Limits) where
 
   abbrev MadeOne : Command → NameState → Order → MessageTree → MessagePlace → List (List ℕ) → Type 0
   MadeOne command os order m place texts =
-      (messages : List CapturedMessage) × AllFit messages × (texts ≡ map frame messages) × IsOutputOf (raw_of command) os order m place (map bytes_of messages)
+      (messages : List CapturedMessage) × AllFit messages × (texts ≡ map frame messages) × IsOutputOf (in_raw command) os order m place (map bytes_of messages)
 
-  one_made : (command : Command) (os : NameState) (order : Order) (m : MessageTree) (place : MessagePlace) (texts : List (List ℕ)) → form_of command ≡ AsRead → IsValidMessage limits m → place.in_packet ≡ true
-      → IsOutputOf command os order m place texts → MadeOne command os order m place texts
-  one_made (Swap wanted AsRead) os order m place texts form valid packet p = elim p [
+  one_made : (output : Output) (selection : Option Selection) (os : NameState) (order : Order) (m : MessageTree) (place : MessagePlace) (texts : List (List ℕ)) → form_of output ≡ AsRead → IsValidMessage limits m → place.in_packet ≡ true
+      → IsOutputOf (record { output = output; selection = selection }) os order m place texts → MadeOne (record { output = output; selection = selection }) os order m place texts
+  one_made (InOrder wanted AsRead) selection os order m place texts form valid packet p = elim p [
     | inl met ↦ (
         let bytes = message_bytes wanted m in
         let text : met.1 ≡ framed true place.time bytes = met.2 ∙ ap (λ b. framed b place.time bytes) packet in
@@ -54,7 +57,7 @@ module _ (limits : Limits) where
         )
     | inr unmet ↦ ([], tt, unmet.1, inr (unmet.0, refl))
   ]
-  one_made (Filter selection AsRead) os order m place texts form valid packet p = elim p [
+  one_made (AsIs AsRead) selection os order m place texts form valid packet p = elim p [
     | inl met ↦ (
         let bytes = message_bytes order m in
         let text : met.1 ≡ framed true place.time bytes = met.2 ∙ ap (λ b. framed b place.time bytes) packet in
@@ -62,29 +65,18 @@ module _ (limits : Limits) where
         )
     | inr unmet ↦ ([], tt, unmet.1, inr (unmet.0, refl))
   ]
-  one_made (Swap wanted Raw) os order m place texts form valid packet p = absurd (let e : ◌≡◌ {A = FileForm} Raw AsRead = form in cc)
-  one_made (Filter selection Raw) os order m place texts form valid packet p = absurd (let e : ◌≡◌ {A = FileForm} Raw AsRead = form in cc)
-  one_made (Show times escapes) os order m place texts form valid packet p = absurd (let e : ◌≡◌ {A = FileForm} Raw AsRead = form in cc)
-  one_made (Json times safe) os order m place texts form valid packet p = absurd (let e : ◌≡◌ {A = FileForm} Raw AsRead = form in cc)
-  one_made Check os order m place texts form valid packet p = absurd (let e : ◌≡◌ {A = FileForm} Raw AsRead = form in cc)
-
-  same_owners : (command : Command) (os : NameState) (m : MessageTree) → owners_after command os m ≡ owners_after (raw_of command) os m
-  same_owners (Swap wanted form) os m = refl
-  same_owners (Filter selection form) os m = refl
-  same_owners (Show times escapes) os m = refl
-  same_owners (Json times safe) os m = refl
-  same_owners Check os m = refl
+  one_made output selection os order m place texts form valid packet p = absurd (let e : ◌≡◌ {A = FileForm} Raw AsRead = form in cc)
 
   fit_both : (a b : List CapturedMessage) → AllFit a → AllFit b → AllFit (a ++ b)
   fit_both [] b f g = g
   fit_both (m ∷ a) b f g = (f.0, fit_both a b f.1 g)
 
-  all_made : (command : Command) (os : NameState) (items : List Placed) (texts : List (List ℕ)) → form_of command ≡ AsRead → AreCaptured limits items → IsOutputOfAll command os items texts → Made command os items texts
+  all_made : (command : Command) (os : NameState) (items : List Placed) (texts : List (List ℕ)) → form_of command.output ≡ AsRead → AreCaptured limits items → IsOutputOfAll command os items texts → Made command os items texts
   all_made command os [] texts form captured p = record { messages = []; fit = tt; texts_are = p; raw = refl }
   all_made command os (m ∷ items) texts form captured p =
-      let one = one_made command os m.item.order m.item.message m.place p.0 form captured.0 captured.1 p.3 in
-      let more = all_made command (owners_after command os m.item.message) items p.1 form captured.2 p.4 in
-      let rest = subst (λ (o : NameState). IsOutputOfAll (raw_of command) o items (map bytes_of more.messages)) (same_owners command os m.item.message) more.raw in
+      let one = one_made command.output command.selection os m.item.order m.item.message m.place p.0 form captured.0 captured.1 p.3 in
+      let more = all_made command (known_after command.selection os m.item.message) items p.1 form captured.2 p.4 in
+      let rest = more.raw in
       record {
         messages = one.0 ++ more.messages;
         fit = fit_both one.0 more.messages one.1 more.fit;

@@ -6,15 +6,15 @@ use Rattle.dbus_call_lines.specs.Listing.{Numbered, nth}
 use Rattle.dbus_list.proofs.Paired.{some_told}
 use Rattle.dbus_list.proofs.SomeLines.{some_line_each}
 use Rattle.dbus_names.specs.NameStates.{KnownNames, NameState}
-use Rattle.cli_options.proofs.Selections.{selected}
 use Rattle.cli_options.specs.declared.wanted_lines.WantedLines.{WantedLines}
 use Rattle.cli_run.specs.CallListing.{number_and_time}
 use Rattle.cli_run.specs.Inputs.{Placed}
 use Rattle.cli_run.specs.Laws.{SomeLines}
 use Rattle.cli_run.specs.LineListing.{AreLinesOf, AreLinesOfOne, IsLineAfter}
-use Rattle.cli_run.specs.LineNames.{first_names, names_after, owners_for, told_beside}
+use Rattle.cli_run.specs.LineNames.{first_names, names_after, told_beside}
 use Rattle.cli_run.specs.Output.{line_place}
 use Rattle.cli_run.specs.declared.place.MessagePlace.{MessagePlace}
+use Rattle.cli_run.proofs.Outputs.{selects_or}
 
 -- ---- each message has a line
 
@@ -27,7 +27,7 @@ some_line wanted names before order m place =
 pub some_lines_of_one : (wanted : WantedLines) (os : NameState) (before : List Numbered) (order : Order) (m : MessageTree) (place : MessagePlace) → (lines : List (List ℕ)) × AreLinesOfOne wanted os before order m place lines
 some_lines_of_one wanted os before order m place =
     let some = some_line wanted (names_after os m).names before order m place in
-    elim (selected wanted.selection (owners_for wanted.selection os) m) [
+    elim (selects_or wanted.selection os m) [
       | inl h ↦ (some.0 ∷ [], inl (h, some.0, some.1, refl))
       | inr n ↦ ([], inr (n, refl))
     ]

@@ -1,8 +1,6 @@
 -- How a run ends that neither explains refused messages nor passes over them. What it promises by
 -- parts is said of messages here.
 use Rattle.std.proofs.Common.{◌≡◌, ◌≢◌, ℕ, zero, ◌+◌, List, [], ◌∷◌, ◌++◌, Bool, false, true, None, Some, Option, length, drop, refl, sym, ap, ◌∙◌, subst, append-nil, append_assoc, inl, inr}
-use Rattle.std.specs.FinSet.{empty}
-use Rattle.dbus_names.specs.NameStates.{known_first}
 use Rattle.std.proofs.Math.Path.{transport}
 use Rattle.std.proofs.lemmas.Bool.{false≢true}
 use Rattle.std.proofs.lemmas.List.{length-map}
@@ -19,7 +17,8 @@ use Rattle.dbus_stream.proofs.CutLaws.{BeginWith-first, IsCut-one}
 use Rattle.cli_options.specs.Limiting.{ask_more}
 use Rattle.cli_options.specs.declared.command.Command.{Command}
 use Rattle.cli_options.specs.declared.file_form.FileForm.TheVariants.{Raw}
-use Rattle.cli_options.specs.declared.command.Command.TheVariants.{Check}
+use Rattle.cli_options.specs.declared.command.Output.{Output}
+use Rattle.cli_options.specs.declared.command.Output.TheVariants.{Nothing}
 use Rattle.cli_options.specs.declared.settings.Settings.{Settings}
 use Rattle.cli_options.specs.declared.window.Window.{Window}
 use Rattle.cli_run.specs.Running.{Answers, CountsWrite, Fails, TellsLine, WritesBefore, WritesMessages, Runs, RunsWith, Writes, WritesSome}
@@ -28,7 +27,8 @@ use Rattle.cli_run.specs.Going.{AreDue, GoesThrough, IsAllOf, IsThrough, StopsWi
 use Rattle.cli_report.specs.Gathering.{Breaks, IsPrefixTo}
 use Rattle.cli_report.specs.Telling.{cause_line, Told}
 use Rattle.cli_run.specs.Inputs.{ArePlaced, BeginWithParts, IsLast, IsTellable, Part, PassedOver, Placed, Whole, looked_in, sizes_of, wholes}
-use Rattle.cli_run.specs.Output.{IsFirstOutput, IsFront, IsOutputOfAll, check_line, fault_line, form_of, header_before, is_check, last_line, output_of, owners_known, second_output, whole_output}
+use Rattle.cli_run.specs.Output.{IsFirstOutput, IsFront, IsOutputOfAll, check_line, fault_line, form_of, header_before, is_check, last_line, output_of, second_output, whole_output}
+use Rattle.cli_run.specs.Learning.{known}
 use Rattle.cli_run.specs.Refusals.{IsFaultIn}
 use Rattle.cli_run.specs.Told.{GotFirst, GotSecond, TellsStop, first_of, second_of}
 use Rattle.cli_run.specs.Making.{FillsFrom}
@@ -65,12 +65,15 @@ never_filled asked command items filled = false≢true (ap is_full (sym filled.2
 
 -- `check` makes no texts, and its line goes to the first writer. Of another command the line goes
 -- to the second
-first_due : (checks_rest : Bool) (command : Command) (items : List Placed) (texts : List (List ℕ)) (line : List ℕ) → IsOutputOfAll command (owners_known command None) items texts
-    → first_of (is_check command) (output_of (form_of command) false (all_of_them checks_rest) items texts) line ≡ whole_output (form_of command) items texts ++ first_of (is_check command) [] line
-first_due checks_rest Check items texts line made =
-    let none : whole_output Raw items texts ≡ [] = λ i. no_header false items i ++ concat (no_texts (known_first empty) items texts made i) in
-    ap (λ (l : List ℕ). l ++ line) (sym none)
-first_due checks_rest command items texts line made = ap (λ l. header_before (form_of command) false items ++ l) (written_all checks_rest texts) ∙ sym (append-nil (whole_output (form_of command) items texts))
+first_due : (checks_rest : Bool) (command : Command) (items : List Placed) (texts : List (List ℕ)) (line : List ℕ) → IsOutputOfAll command (known command.selection None) items texts
+    → first_of (is_check command.output) (output_of (form_of command.output) false (all_of_them checks_rest) items texts) line ≡ whole_output (form_of command.output) items texts ++ first_of (is_check command.output) [] line
+first_due checks_rest command items texts line made = by_output command.output refl
+  where
+    by_output : (output : Output) → command.output ≡ output → first_of (is_check output) (output_of (form_of output) false (all_of_them checks_rest) items texts) line ≡ whole_output (form_of output) items texts ++ first_of (is_check output) [] line
+    by_output Nothing is =
+        let none : whole_output Raw items texts ≡ [] = λ i. no_header false items i ++ concat (no_texts command is (known command.selection None) items texts made i) in
+        ap (λ (l : List ℕ). l ++ line) (sym none)
+    by_output output is = ap (λ l. header_before (form_of output) false items ++ l) (written_all checks_rest texts) ∙ sym (append-nil (whole_output (form_of output) items texts))
 
 -- of what is told at the end: of `check` one line, and of another command no last line
 module _ (packet : Option ℕ) where
@@ -140,20 +143,20 @@ module _ {R W E : Type 0} (r : Reading R) (w : Writing W) (e : Writing E) (asked
   packets = r.packets r.old
 
   abbrev AreOutput : List Placed → List (List ℕ) → Type 0
-  AreOutput handed texts = IsOutputOfAll command (owners_known command None) handed texts
+  AreOutput handed texts = IsOutputOfAll command (known command.selection None) handed texts
 
   -- what the first writer gets of the texts, and of what is told
   abbrev first_part : List Placed → List (List ℕ) → List ℕ → List ℕ
-  first_part handed texts told = first_of (is_check command) (output_of (form_of command) false (plain asked).window handed texts) told
+  first_part handed texts told = first_of (is_check command.output) (output_of (form_of command.output) false (plain asked).window handed texts) told
 
   -- what is made of messages by these texts
   abbrev all_of : List Placed → List (List ℕ) → List ℕ
-  all_of handed texts = whole_output (form_of command) handed texts
+  all_of handed texts = whole_output (form_of command.output) handed texts
 
   -- all messages were handed on
-  module _ {tally : Tally} {fault : Option Fault} {told text : List ℕ} (h : IsThrough (taken r) (plain asked) most (is_check command) tally fault told text) where
+  module _ {tally : Tally} {fault : Option Fault} {told text : List ℕ} (h : IsThrough (taken r) (plain asked) most (is_check command.output) tally fault told text) where
     abbrev closing : List ℕ
-    closing = closing_line false (is_check command) false tally tally.passed fault
+    closing = closing_line false (is_check command.output) false tally tally.passed fault
 
     messages : AreMessages limits h.covers.bytes h.parts h.rest told
     messages = are_messages packets asked 1 0 0 h.covers.bytes h.parts h.rest told h.covers.begin h.covers.tells
@@ -198,13 +201,13 @@ module _ {R W E : Type 0} (r : Reading R) (w : Writing W) (e : Writing E) (asked
         let place : sizes_of h.parts ≡ sizes messages.items = ap (λ (t : Tally). t.size) (sym tally_is) ∙ size_is in
         transport (λ i. IsFaultIn packets limits (place i) h.rest (fault_is i) last_packet) fault_told.1
 
-    all_due : (told ++ text) ++ closing ≡ fault_line tally.size fault last_packet ++ closing_line false (is_check command) false tally 0 fault
+    all_due : (told ++ text) ++ closing ≡ fault_line tally.size fault last_packet ++ closing_line false (is_check command.output) false tally 0 fault
     all_due =
         let line = fault_told.2 ∙ ap (λ (t : Tally). fault_line t.size fault last_packet) (sym tally_is) in
-        λ i. (messages.none_told i ++ line i) ++ closing_line false (is_check command) false tally (passed_is i) fault
+        λ i. (messages.none_told i ++ line i) ++ closing_line false (is_check command.output) false tally (passed_is i) fault
 
-    second_is : second_of (is_check command) ((told ++ text) ++ closing) ≡ line_of
-    second_is = ap (second_of (is_check command)) all_due ∙ (second_line last_packet (is_check command) tally fault ∙ (λ i. second_of (is_check command) (fault_line (size_is i) (fault_is i) last_packet)))
+    second_is : second_of (is_check command.output) ((told ++ text) ++ closing) ≡ line_of
+    second_is = ap (second_of (is_check command.output)) all_due ∙ (second_line last_packet (is_check command.output) tally fault ∙ (λ i. second_of (is_check command.output) (fault_line (size_is i) (fault_is i) last_packet)))
 
     cut : IsCut limits h.covers.bytes messages.items h.rest h.tells.outcome
     cut = record { messages = messages.messages; outcome_is = h.tells.outcome_is }
@@ -214,8 +217,8 @@ module _ {R W E : Type 0} (r : Reading R) (w : Writing W) (e : Writing E) (asked
       first_is : first_part handed texts ((told ++ text) ++ closing) ≡ all_of handed texts ++ last_of
       first_is =
           first_due asked.window.checks_rest command handed texts ((told ++ text) ++ closing) made
-          ∙ ap (λ l. all_of handed texts ++ l) (ap (first_of (is_check command) []) all_due ∙ (first_line last_packet (is_check command) tally fault
-          ∙ (λ i. first_of (is_check command) [] (check_line (count_is i) (size_is i) (fault_is i) last_packet))))
+          ∙ ap (λ l. all_of handed texts ++ l) (ap (first_of (is_check command.output) []) all_due ∙ (first_line last_packet (is_check command.output) tally fault
+          ∙ (λ i. first_of (is_check command.output) [] (check_line (count_is i) (size_is i) (fault_is i) last_packet))))
 
       output : IsFirstOutput packets command messages.items last_fault last_packet (all_of handed texts ++ last_of)
       output = record { messages = handed; placed = subst (λ (l : List Part). ArePlaced packets 1 0 l handed) messages.parts_are placed; texts = texts; each = made; joined = refl }
@@ -259,11 +262,11 @@ module _ {R W E : Type 0} (r : Reading R) (w : Writing W) (e : Writing E) (asked
         write_caused = b.failed;
       }
 
-  ran : (end : ExitStatus) (g : GoesThrough (taken r) (plain asked) most (is_check command) (Filled asked command) (Writes w e (plain asked) command) end) → ReadsToSee (plain asked) g.fault g.through.parts g.through.rest (IsReadFor r) → Runs r w e limits most command end
+  ran : (end : ExitStatus) (g : GoesThrough (taken r) (plain asked) most (is_check command.output) (Filled asked command) (Writes w e (plain asked) command) end) → ReadsToSee (plain asked) g.fault g.through.parts g.through.rest (IsReadFor r) → Runs r w e limits most command end
   ran end g reads =
       let h = g.through in
       let second = subst (λ (l : List ℕ). Wrote e.held e.failures e.old l e.new) (second_is h) g.came.second in
-      let first = ap (λ (l : List ℕ). first_of (is_check command) l ((g.told ++ g.text) ++ closing h)) g.came.made.text_is ∙ first_is h g.messages g.placed g.came.made.texts g.came.made.made in
+      let first = ap (λ (l : List ℕ). first_of (is_check command.output) l ((g.told ++ g.text) ++ closing h)) g.came.made.text_is ∙ first_is h g.messages g.placed g.came.made.texts g.came.made.made in
       inl (answers h g.messages g.placed g.came.made.texts g.came.made.made end (λ _. reads (λ goes. absurd (false≢true goes))) (subst (λ (l : List ℕ). Wrote w.held w.failures w.old l w.new) first g.came.first)
       (inl (second, g.end_is ∙ (λ i. status_at (passed_is h i) (fault_is h i)))))
 
@@ -271,7 +274,7 @@ module _ {R W E : Type 0} (r : Reading R) (w : Writing W) (e : Writing E) (asked
 
   module _ (before : E) where
     abbrev Within : RunStop → Type 0
-    Within stop = StopsWithin (taken r) (plain asked) most (is_check command) (Filled asked command) (WritesSome w (writing e.held e.failures e.old before) (plain asked) command) stop
+    Within stop = StopsWithin (taken r) (plain asked) most (is_check command.output) (Filled asked command) (WritesSome w (writing e.held e.failures e.old before) (plain asked) command) stop
 
     abbrev messages_of : (stop : RunStop) (s : Within stop) → AreMessages limits s.covers.bytes s.parts s.rest s.told
     messages_of stop s = are_messages packets asked 1 0 0 s.covers.bytes s.parts s.rest s.told s.covers.begin s.covers.tells
@@ -299,11 +302,11 @@ module _ {R W E : Type 0} (r : Reading R) (w : Writing W) (e : Writing E) (asked
     texts_alone : (cause : Cause) (s : Within (ByCause cause)) → first_part s.messages s.came.made.texts (s.told ++ s.more) ≡ all_of s.messages s.came.made.texts
     texts_alone cause s =
         ap (λ l. first_part s.messages s.came.made.texts l) (none_told cause s) ∙ (first_due asked.window.checks_rest command s.messages s.came.made.texts [] s.came.made.made
-        ∙ (ap (λ l. all_of s.messages s.came.made.texts ++ l) (first_nothing (is_check command)) ∙ append-nil (all_of s.messages s.came.made.texts)))
+        ∙ (ap (λ l. all_of s.messages s.came.made.texts ++ l) (first_nothing (is_check command.output)) ∙ append-nil (all_of s.messages s.came.made.texts)))
 
     -- what the first writer got, of these texts
-    got : (stop : RunStop) (s : Within stop) → GotFirst w.held w.failures (is_check command) stop (first_part s.messages s.came.made.texts (s.told ++ s.more)) w.old w.new
-    got stop s = subst (λ (l : List ℕ). GotFirst w.held w.failures (is_check command) stop (first_of (is_check command) l (s.told ++ s.more)) w.old w.new) s.came.made.text_is s.came.first
+    got : (stop : RunStop) (s : Within stop) → GotFirst w.held w.failures (is_check command.output) stop (first_part s.messages s.came.made.texts (s.told ++ s.more)) w.old w.new
+    got stop s = subst (λ (l : List ℕ). GotFirst w.held w.failures (is_check command.output) stop (first_of (is_check command.output) l (s.told ++ s.more)) w.old w.new) s.came.made.text_is s.came.first
 
     -- the first writer got a prefix of what is made of the messages
     some_fail : (cause : Cause) (s : Within (ByCause cause)) (front : List ℕ) → Appends (w.held w.old) (w.held w.new) front → IsPrefixTo front (all_of s.messages s.came.made.texts)
@@ -330,7 +333,7 @@ module _ {R W E : Type 0} (r : Reading R) (w : Writing W) (e : Writing E) (asked
     all_fail cause s wrote before counted =
         some_fail cause s (all_of s.messages s.came.made.texts) (subst (λ l. Wrote w.held w.failures w.old l w.new) (texts_alone cause s) wrote).appended ([], sym (append-nil (all_of s.messages s.came.made.texts))) before counted
 
-    all_messages : (cause : Cause) (s : Within (ByCause cause)) → IsAllOf (taken r) (plain asked) most (is_check command) s.parts s.rest s.more → WritesMessages packets limits command s.covers.bytes (all_of s.messages s.came.made.texts)
+    all_messages : (cause : Cause) (s : Within (ByCause cause)) → IsAllOf (taken r) (plain asked) most (is_check command.output) s.parts s.rest s.more → WritesMessages packets limits command s.covers.bytes (all_of s.messages s.came.made.texts)
     all_messages cause s all =
         let m = messages_of (ByCause cause) s in
         let partial : IsPartial limits s.rest = elim all [ inl none ↦ none.0 | inr more ↦ elim more [ inl cut ↦ absurd (false≢true cut.4) | inr seeks ↦ absurd (false≢true seeks.2) ] ] in
@@ -361,11 +364,11 @@ module _ {R W E : Type 0} (r : Reading R) (w : Writing W) (e : Writing E) (asked
     ]
 
     -- what was due when a write of it failed
-    due_of : (s : Within Untold) → AreDue (taken r) (plain asked) most (is_check command) s.parts s.rest s.more
+    due_of : (s : Within Untold) → AreDue (taken r) (plain asked) most (is_check command.output) s.parts s.rest s.more
     due_of s = elim s.all [ inl due ↦ due | inr enough ↦ absurd (never_filled asked command s.messages enough.1) ]
 
     -- all was handed on, and a write of the line failed: of `check` that was to the first writer
-    through : (s : Within Untold) → IsThrough (taken r) (plain asked) most (is_check command) (tally_of s.parts) (due_of s).0 s.told (due_of s).1
+    through : (s : Within Untold) → IsThrough (taken r) (plain asked) most (is_check command.output) (tally_of s.parts) (due_of s).0 s.told (due_of s).1
     through s = record {
       parts = s.parts;
       rest = s.rest;
@@ -382,18 +385,18 @@ module _ {R W E : Type 0} (r : Reading R) (w : Writing W) (e : Writing E) (asked
 
     -- and the last line after it, if it was reached
     last_due : (s : Within Untold) (cut : Option (Option ℕ)) → IsLast packets cut (plain asked) limits (sizes_of s.parts) (looked_in s.parts) s.rest (due_of s).2.outcome (IsAtEnd (r.left r.new))
-        → s.more ≡ (due_of s).1 ++ closing_line false (is_check command) false (tally_with cut s.parts s.rest) (tally_with cut s.parts s.rest).passed (due_of s).0
-        → s.more ≡ (due_of s).1 ++ closing_line false (is_check command) false (tally_of s.parts) (passed_count s.parts) (due_of s).0
+        → s.more ≡ (due_of s).1 ++ closing_line false (is_check command.output) false (tally_with cut s.parts s.rest) (tally_with cut s.parts s.rest).passed (due_of s).0
+        → s.more ≡ (due_of s).1 ++ closing_line false (is_check command.output) false (tally_of s.parts) (passed_count s.parts) (due_of s).0
     last_due s cut last more =
-        more ∙ ap (λ (b : Option (Option ℕ)). (due_of s).1 ++ closing_line false (is_check command) false (tally_with b s.parts s.rest) (tally_with b s.parts s.rest).passed (due_of s).0) (last_plain packets cut asked limits (sizes_of s.parts) (looked_in s.parts) s.rest (due_of s).2.outcome _ last).1
+        more ∙ ap (λ (b : Option (Option ℕ)). (due_of s).1 ++ closing_line false (is_check command.output) false (tally_with b s.parts s.rest) (tally_with b s.parts s.rest).passed (due_of s).0) (last_plain packets cut asked limits (sizes_of s.parts) (looked_in s.parts) s.rest (due_of s).2.outcome _ last).1
 
-    untold : (b : Bool) → is_check command ≡ b → (end : ExitStatus) → (s : Within Untold) → end ≡ status.Failed → GotFirst w.held w.failures b Untold (first_of b (output_of (form_of command) false (plain asked).window s.messages s.came.made.texts) (s.told ++ s.more)) w.old w.new
+    untold : (b : Bool) → is_check command.output ≡ b → (end : ExitStatus) → (s : Within Untold) → end ≡ status.Failed → GotFirst w.held w.failures b Untold (first_of b (output_of (form_of command.output) false (plain asked).window s.messages s.came.made.texts) (s.told ++ s.more)) w.old w.new
         → GotSecond e.held e.failures b Untold (second_of b (s.told ++ s.more)) e.old before → TellsStop e.held e.failures b Untold before e.new → Runs r w e limits most command end
     unfolding through
     untold true is end s failed first second tells =
         let h = through s in
         let last = closing h in
-        let out = sym (ap (λ b. first_of b (output_of (form_of command) false (plain asked).window s.messages s.came.made.texts) ((s.told ++ (due_of s).1) ++ last)) is) ∙ first_is h s.messages s.placed s.came.made.texts s.came.made.made in
+        let out = sym (ap (λ b. first_of b (output_of (form_of command.output) false (plain asked).window s.messages s.came.made.texts) ((s.told ++ (due_of s).1) ++ last)) is) ∙ first_is h s.messages s.placed s.came.made.texts s.came.made.made in
         let prefix : IsPrefixTo (s.told ++ s.more) (all_of s.messages s.came.made.texts ++ last_of h) = elim (due_of s).3 [
           | inl shown ↦ (last, sym out ∙ ap (λ l. (s.told ++ l) ++ last) (sym shown.1))
           | inr all ↦ ([], sym out ∙ (append_assoc s.told (due_of s).1 last ∙ (ap (λ l. s.told ++ l) (sym (last_due s all.0 all.1 all.2)) ∙ sym (append-nil (s.told ++ s.more)))))
@@ -402,20 +405,20 @@ module _ {R W E : Type 0} (r : Reading R) (w : Writing W) (e : Writing E) (asked
     untold false is end s failed first second tells =
         let h = through s in
         let last = closing h in
-        let none : last ≡ [] = no_closing (is_check command) (tally_of s.parts) (due_of s).0 is (passed_is h) in
+        let none : last ≡ [] = no_closing (is_check command.output) (tally_of s.parts) (due_of s).0 is (passed_is h) in
         let more : s.more ≡ (due_of s).1 ++ last = elim (due_of s).3 [ inl shown ↦ shown.1 ∙ sym (ap (λ l. (due_of s).1 ++ l) none ∙ append-nil (due_of s).1) | inr all ↦ last_due s all.0 all.1 all.2 ] in
         let line : s.told ++ s.more ≡ line_of h
         = ap (λ l. s.told ++ l) more ∙ (sym (append_assoc s.told (due_of s).1 last) ∙ (sym (ap (λ b. second_of b ((s.told ++ (due_of s).1) ++ last)) is) ∙ second_is h)) in
-        let out = sym (ap (λ b. first_of b (output_of (form_of command) false (plain asked).window s.messages s.came.made.texts) ((s.told ++ (due_of s).1) ++ last)) is) ∙ first_is h s.messages s.placed s.came.made.texts s.came.made.made in
+        let out = sym (ap (λ b. first_of b (output_of (form_of command.output) false (plain asked).window s.messages s.came.made.texts) ((s.told ++ (due_of s).1) ++ last)) is) ∙ first_is h s.messages s.placed s.came.made.texts s.came.made.made in
         let half = subst (λ (l : List ℕ). Stopped e.held e.failures e.old l second.0 before) line second.1 in
         inl (answers h s.messages s.placed s.came.made.texts s.came.made.made end (λ done. absurd (done failed)) (subst (λ (l : List ℕ). Wrote w.held w.failures w.old l w.new) out first)
         (inr (second.0, subst (λ (x : E). Stopped e.held e.failures e.old (line_of h) second.0 x) (sym tells) half, failed)))
 
-    stopped : (stop : RunStop) (end : ExitStatus) → Within stop → end ≡ status.Failed → TellsStop e.held e.failures (is_check command) stop before e.new → Runs r w e limits most command end
+    stopped : (stop : RunStop) (end : ExitStatus) → Within stop → end ≡ status.Failed → TellsStop e.held e.failures (is_check command.output) stop before e.new → Runs r w e limits most command end
     stopped (ByCause cause) end s failed tells =
-        let nothing = ap (λ l. second_of (is_check command) l) (none_told cause s) ∙ second_nothing (is_check command) in
+        let nothing = ap (λ l. second_of (is_check command.output) l) (none_told cause s) ∙ second_nothing (is_check command.output) in
         inr (record { failed = failed; cause = cause; fails = fails cause s; told = told_after cause (subst (λ l. Wrote e.held e.failures e.old l before) nothing s.came.second) tells })
-    stopped Untold end s failed tells = untold (is_check command) refl end s failed (got Untold s) s.came.second tells
+    stopped Untold end s failed tells = untold (is_check command.output) refl end s failed (got Untold s) s.came.second tells
 
 -- settings that ask for no more are these
 plain_is : (asked : Settings) (as_json explains goes_on : Bool) (skip : ℕ) (limit : Option ℕ)

@@ -11,15 +11,15 @@ use Rattle.dbus_stream.specs.Cut.{CutMessage, CutOutcome, Ended}
 use Rattle.cli_options.specs.declared.command.Command.{Command}
 use Rattle.cli_options.specs.declared.settings.Settings.{Settings}
 use Rattle.cli_options.specs.declared.window.Window.{Window}
-use Rattle.cli_options.specs.Selections.{SelectsBy}
 use Rattle.cli_options.specs.declared.wanted_lines.WantedLines.{WantedLines}
 use Rattle.dbus_call_lines.specs.Listing.{Numbered, nth}
 use Rattle.cli_run.specs.Going.{EndsWhole, passed_count}
 use Rattle.cli_run.specs.CallListing.{number_and_time}
 use Rattle.cli_run.specs.LineListing.{AreLinesFilled, AreLinesOf}
-use Rattle.cli_run.specs.LineNames.{first_names, names_after, owners_for}
+use Rattle.cli_run.specs.LineNames.{first_names, names_after}
+use Rattle.cli_run.specs.Learning.{Selects, known, known_after}
 use Rattle.cli_run.specs.Inputs.{ArePlaced, BeginWithParts, Part, PassedOver, Placed, Whole, looked_behind, sizes_of}
-use Rattle.cli_run.specs.Output.{IsFilledBy, IsOutputOfAll, Picks, after, is_spent, owners_after, owners_known}
+use Rattle.cli_run.specs.Output.{IsFilledBy, IsOutputOfAll, Picks, after, is_spent}
 use Rattle.cli_run.specs.Visiting.{AreWanted}
 use Rattle.cli_run.proofs.SameOutputs.{ActsAs}
 use Rattle.cli_run.proofs.SameParts.{ArePassed, AreSamePackets, EndsHere, along, none_after}
@@ -48,15 +48,15 @@ module _ (a b : Command) (h : ActsAs a b) where
       let one : m.item ≡ l.item = cc in
       let more : items_of s ≡ items_of t = cc in
       let message : m.item.message ≡ l.item.message = ap (λ (i : CutMessage). i.message) one in
-      let learned : owners_after b os l.item.message ≡ owners_after a os m.item.message = ap (λ k. owners_after b os k) (sym message) ∙ sym (h.learned os m.item.message) in
+      let learned : known_after b.selection os l.item.message ≡ known_after a.selection os m.item.message = ap (λ k. known_after b.selection os k) (sym message) ∙ sym (h.learned os m.item.message) in
       let picks = h.picks os m.item.message in
       let first = same_one (λ is. subst (λ k. Picks b os k) message (picks.0 is)) (λ is. picks.1 (subst (λ k. Picks b os k) (sym message) is)) p.0 q.0 p.3 q.3 in
-      let rest = same_many (owners_after a os m.item.message) s t p.1 q.1 more p.4 (subst (λ (o : NameState). IsOutputOfAll b o t q.1) learned q.4) in
+      let rest = same_many (known_after a.selection os m.item.message) s t p.1 q.1 more p.4 (subst (λ (o : NameState). IsOutputOfAll b o t q.1) learned q.4) in
       omega (arith, first, rest, ap length p.2, ap length q.2, length-append p.0 p.1, length-append q.0 q.1)
 
   pub filled_alike : (window : Window) (s t : List Placed) (x y : Bool) → items_of s ≡ items_of t → IsFilledBy a window s x → IsFilledBy b window t y → x ≡ y
   filled_alike window s t x y e p q =
-      let n = same_many (owners_known a None) s t p.0 q.0 e p.1 (subst (λ (o : NameState). IsOutputOfAll b o t q.0) (sym h.known) q.1) in
+      let n = same_many (known a.selection None) s t p.0 q.0 e p.1 (subst (λ (o : NameState). IsOutputOfAll b o t q.0) (sym h.known) q.1) in
       sym p.2 ∙ ((λ i. is_spent (after window (n i)) && not (h.checks i)) ∙ q.2)
 
 -- and as many lines
@@ -68,7 +68,7 @@ same_lines wanted os before also (m ∷ s) (l ∷ t) x y e p q =
     let one : m.item ≡ l.item = cc in
     let more : items_of s ≡ items_of t = cc in
     let message : m.item.message ≡ l.item.message = ap (λ (i : CutMessage). i.message) one in
-    let first = same_one (subst (SelectsBy wanted.selection (owners_for wanted.selection os)) message) (subst (SelectsBy wanted.selection (owners_for wanted.selection os)) (sym message)) p.0 q.0 p.2 q.2 in
+    let first = same_one (subst (Selects wanted.selection os) message) (subst (Selects wanted.selection os) (sym message)) p.0 q.0 p.2 q.2 in
     let there = subst (λ (k : MessageTree). AreLinesOf wanted (names_after os k) (also ++ nth (number_and_time l.place) l.item.message ∷ []) t q.1) (sym message) q.3 in
     let rest = same_lines wanted (names_after os m.item.message) _ _ s t p.1 q.1 more p.3 there in
     omega (arith, first, rest, ap length p.4, ap length q.4, length-append p.0 p.1, length-append q.0 q.1)

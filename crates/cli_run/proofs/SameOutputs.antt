@@ -25,11 +25,12 @@ use Rattle.dbus_names.specs.NameStates.{NameState, known_after as names_after, k
 use Rattle.dbus_rule_set.specs.Owners.{owners_in}
 use Rattle.dbus_calls.specs.Answering.{is_ownable}
 use Rattle.dbus_calls.specs.OwnerChanges.{is_text}
-use Rattle.cli_options.specs.Selections.{AreSameCommand, AreSameSelection, OrInverted, SelectsBy, SomeHolds, asked_rules, bus_rules}
+use Rattle.cli_options.specs.Selections.{AreSameCommand, AreSameSelected, AreSameSelection, OrInverted, SelectsBy, SomeHolds, asked_rules, bus_rules}
 use Rattle.cli_options.specs.declared.selection.Question.{Question}
 use Rattle.cli_options.specs.declared.selection.Question.TheVariants as questions
 use Rattle.cli_options.specs.declared.command.Command.{Command}
-use Rattle.cli_options.specs.declared.command.Command.TheVariants.{Show, Json, Check, Swap, Filter}
+use Rattle.cli_options.specs.declared.command.Output.{Output}
+use Rattle.cli_options.specs.declared.command.Output.TheVariants.{Nothing}
 use Rattle.cli_options.specs.declared.file_form.FileForm.{FileForm}
 use Rattle.cli_options.specs.declared.selection.Selection.{Selection}
 use Rattle.cli_options.specs.declared.settings.Settings.{Settings}
@@ -45,11 +46,11 @@ use Rattle.dbus_value_model.specs.declared.limits.Limits.{Limits}
 use Rattle.cli_report.specs.declared.telling.RefusedMessage.{RefusedMessage}
 use Rattle.cli_report.proofs.FaultFronts.{one_front, own_front}
 use Rattle.cli_report.specs.declared.ending.ExitStatus.TheVariants as status
-use Rattle.cli_run.specs.Learning.{known_after, matters, name_sender}
+use Rattle.cli_run.specs.Learning.{Selects, known as known_by, known_after, matters, name_sender}
 use Rattle.cli_run.specs.ByName.{after_messages}
 use Rattle.cli_run.specs.Inputs.{ArePlaced, BeginWithParts, By, IsFaultOf, IsPart, Part, PassedOver, Placed, Whole, looked_after, looked_for, size_of}
 use Rattle.cli_run.specs.Laws.{HaveNoDouble}
-use Rattle.cli_run.specs.Output.{AreAlike, IsExact, form_of, framed, is_framed, IsOutputOf, IsOutputOfAll, IsTextOf, Picks, is_check, owners_after, owners_known}
+use Rattle.cli_run.specs.Output.{AreAlike, IsExact, form_of, IsOutputOf, IsOutputOfAll, IsTextOf, Picks, PicksBy, is_check}
 use Rattle.cli_run.specs.Going.{AreTold, IsTold, IsToldIn, IsToldLast, IsToldOf, IsToldRefused, passed_count, status_at}
 use Rattle.cli_run.specs.declared.place.MessagePlace.{MessagePlace}
 use Rattle.cli_options.proofs.Selections.{same_bus_rules}
@@ -204,10 +205,17 @@ same_selects a b os m h s =
     subst (λ c. OrInverted c (SomeHolds b.question (asked_rules b m) m os)) h.inverted
     (inverted_both a.is_inverted _ _ there back (subst (λ (q : Question). OrInverted a.is_inverted (SomeHolds q (asked_rules a m) m os)) h.question s))
 
-same_picks : (a b : Selection) → AreSameSelection a b → (os : NameState) (m : MessageTree) → SelectsBy a (owners_in os.owners) m ↔ SelectsBy b (owners_in os.owners) m
-same_picks a b s os m =
+same_picks : (a b : Option Selection) → AreSameSelected a b → (os : NameState) (m : MessageTree) → Selects a os m ↔ Selects b os m
+same_picks None None s os m = (λ p. p, λ p. p)
+same_picks None (Some b) s os m = absurd s
+same_picks (Some a) None s os m = absurd s
+same_picks (Some a) (Some b) s os m =
     let back : AreSameSelection b a = record { rules = sym s.rules; inverted = sym s.inverted; question = sym s.question; owners = sym s.owners; learns = sym s.learns; as_bus = sym s.as_bus } in
     (same_selects a b (owners_in os.owners) m s, same_selects b a (owners_in os.owners) m back)
+
+picks_too : (output : Output) (a b : Option Selection) → AreSameSelected a b → (os : NameState) (m : MessageTree) → PicksBy output a os m ↔ PicksBy output b os m
+picks_too Nothing a b s os m = (λ p. p, λ p. p)
+picks_too output a b s os m = same_picks a b s os m
 
 same_senders : (rules others : List (Rule Global)) (name : List ℕ) → map rule_pairs rules ≡ map rule_pairs others → name_sender rules name ≡ name_sender others name
 same_senders [] [] name e = refl
@@ -223,43 +231,42 @@ same_matters : (q : Question) (rules others : List (Rule Global)) (name : List �
 same_matters questions.Matches rules others name e = same_senders rules others name e
 same_matters questions.MayMatch rules others name e = refl
 
-same_after : (a b : Selection) (state : NameState) (m : MessageTree) → AreSameSelection a b → known_after a state m ≡ known_after b state m
-same_after a b state m h =
+pub same_after : (a b : Option Selection) (state : NameState) (m : MessageTree) → AreSameSelected a b → known_after a state m ≡ known_after b state m
+same_after None None state m h = refl
+same_after None (Some b) state m h = absurd h
+same_after (Some a) None state m h = absurd h
+same_after (Some a) (Some b) state m h =
     let same : (name : List ℕ) → matters a.question a.rules.items name ≡ matters b.question b.rules.items name
     = λ name. same_matters a.question a.rules.items b.rules.items name h.rules ∙ ap (λ (q : Question). matters q b.rules.items name) h.question in
     λ i. if h.learns i then names_after (λ name. is_ownable name && same name i) state m else state
 
+pub same_first : (a b : Option Selection) → AreSameSelected a b → known_by a None ≡ known_by b None
+same_first None None h = refl
+same_first None (Some b) h = absurd h
+same_first (Some a) None h = absurd h
+same_first (Some a) (Some b) h = ap (λ (owners : List Ownership). known_first (from_list owners)) h.owners
+
 -- ---- a command that is the same acts the same
 
 pub record ActsAs (a b : Command) : Type 0 where
-  pub checks : is_check a ≡ is_check b
-  pub form : form_of a ≡ form_of b
-  pub exact : IsExact a → IsExact b
+  pub checks : is_check a.output ≡ is_check b.output
+  pub form : form_of a.output ≡ form_of b.output
+  pub exact : IsExact a.output → IsExact b.output
   pub picks : (os : NameState) (m : MessageTree) → Picks a os m ↔ Picks b os m
-  pub texts : (order : Order) (m : MessageTree) (place : MessagePlace) (text : List ℕ) → IsTextOf a order m place text → IsTextOf b order m place text
-  pub known : owners_known a None ≡ owners_known b None
-  pub learned : (os : NameState) (m : MessageTree) → owners_after a os m ≡ owners_after b os m
-
-itself : (a : Command) → ActsAs a a
-itself a = record { checks = refl; form = refl; exact = λ e. e; picks = λ os m. (λ p. p, λ p. p); texts = λ order m place text t. t; known = refl; learned = λ os m. refl }
+  pub texts : (order : Order) (m : MessageTree) (place : MessagePlace) (text : List ℕ) → IsTextOf a.output order m place text → IsTextOf b.output order m place text
+  pub known : known_by a.selection None ≡ known_by b.selection None
+  pub learned : (os : NameState) (m : MessageTree) → known_after a.selection os m ≡ known_after b.selection os m
 
 pub acts_as : (a b : Command) → AreSameCommand a b → ActsAs a b
-acts_as (Show a x) (Show b y) h = transport (λ i. ActsAs (Show a x) (Show (h.0 i) (h.1 i))) (itself (Show a x))
-acts_as (Json a x) (Json b y) h = transport (λ i. ActsAs (Json a x) (Json (h.0 i) (h.1 i))) (itself (Json a x))
-acts_as Check Check h = itself Check
-acts_as (Swap x f) (Swap y g) h = transport (λ i. ActsAs (Swap x f) (Swap (h.0 i) (h.1 i))) (itself (Swap x f))
-acts_as (Filter x f) (Filter y g) h =
-    let s = h.0 in
-    record {
-      checks = refl;
-      form = h.1;
-      exact = λ e. e;
-      picks = same_picks x y s;
-      texts = λ order m place text t. subst (λ (o : FileForm). text ≡ framed (is_framed o place) place.time (message_bytes order m)) h.1 t;
-      known = ap (λ (owners : List Ownership). known_first (from_list owners)) s.owners;
-      learned = λ os m. same_after x y os m s;
-    }
-acts_as a b h = absurd h
+acts_as a b h = record {
+  checks = ap is_check h.0;
+  form = ap form_of h.0;
+  exact = subst IsExact h.0;
+  picks = λ os m. subst (λ (o : Output). Picks a os m ↔ PicksBy o b.selection os m) h.0 (picks_too a.output a.selection b.selection h.1 os m);
+  texts = λ order m place text. subst (λ (o : Output). IsTextOf o order m place text) h.0;
+  known = same_first a.selection b.selection h.1;
+  learned = λ os m. same_after a.selection b.selection os m h.1;
+}
 
 module _ (a b : Command) (h : ActsAs a b) where
   made_too : (os : NameState) (items : List Placed) (texts : List (List ℕ)) → IsOutputOfAll a os items texts → IsOutputOfAll b os items texts
@@ -269,10 +276,10 @@ module _ (a b : Command) (h : ActsAs a b) where
         | inl met ↦ inl ((h.picks os m.item.message).0 met.0, met.1, h.texts m.item.order m.item.message m.place met.1 met.2, met.3)
         | inr unmet ↦ inr (λ k. unmet.0 ((h.picks os m.item.message).1 k), unmet.1)
       ] in
-      (p.0, p.1, p.2, one, subst (λ (l : NameState). IsOutputOfAll b l items p.1) (h.learned os m.item.message) (made_too (owners_after a os m.item.message) items p.1 p.4))
+      (p.0, p.1, p.2, one, subst (λ (l : NameState). IsOutputOfAll b l items p.1) (h.learned os m.item.message) (made_too (known_after a.selection os m.item.message) items p.1 p.4))
 
-  pub same_outputs : IsExact a → (packets others : Option Packets) → AreAlike (form_of a) packets others → (parts : List Part) (items also : List Placed) (x y : List (List ℕ)) → ArePlaced packets 1 0 parts items → ArePlaced others 1 0 parts also
-      → IsOutputOfAll a (owners_known a None) items x → IsOutputOfAll b (owners_known b None) also y → x ≡ y
+  pub same_outputs : IsExact a.output → (packets others : Option Packets) → AreAlike (form_of a.output) packets others → (parts : List Part) (items also : List Placed) (x y : List (List ℕ)) → ArePlaced packets 1 0 parts items → ArePlaced others 1 0 parts also
+      → IsOutputOfAll a (known_by a.selection None) items x → IsOutputOfAll b (known_by b.selection None) also y → x ≡ y
   same_outputs exact packets others alike parts items also x y here there p q =
-      output_all_one packets others b (owners_known b None) 1 0 parts items also x y (h.exact exact) (subst (λ (f : FileForm). AreAlike f packets others) h.form alike) here there
-      (subst (λ (l : NameState). IsOutputOfAll b l items x) h.known (made_too (owners_known a None) items x p)) q
+      output_all_one packets others b (known_by b.selection None) 1 0 parts items also x y (h.exact exact) (subst (λ (f : FileForm). AreAlike f packets others) h.form alike) here there
+      (subst (λ (l : NameState). IsOutputOfAll b l items x) h.known (made_too (known_by a.selection None) items x p)) q

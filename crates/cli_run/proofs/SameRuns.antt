@@ -327,18 +327,18 @@ one_run R S W V E F r s w v e f settings most more command copy end other same (
     let checks = acts.checks in
     let input = is.input in
     let k = subst (λ c. Goes (taken s) settings more c (FillsFrom Makes (first_state copy settings.window) is_full) (IsReadFor s) (Writes v f settings copy) other) (sym checks) h in
-    let all = ends_alike settings (is_check command) input.0 input.1 (run_filled command copy same settings.window) input.2 input.3 (taken_alike r s end end refl is.told) g k is.one in
+    let all = ends_alike settings (is_check command.output) input.0 input.1 (run_filled command copy same settings.window) input.2 input.3 (taken_alike r s end end refl is.told) g k is.one in
     let one = all.0 in
     let other = all.1 in
     let told = all.2 in (
       made_alike r s all,
       λ exact alike.
           let texts = same_outputs command copy acts exact (r.packets r.old) (s.packets s.old) alike all.6 one other all.3.made.texts all.4.made.texts all.7 all.8 all.3.made.made all.4.made.made in
-          let header : header_before (form_of command) false one ≡ header_before (form_of copy) false other
-          = header_one (form_of command) (r.packets r.old) (s.packets s.old) false 1 0 all.6 one other alike all.7 all.8 ∙ ap (λ (f : FileForm). header_before f false other) acts.form in
+          let header : header_before (form_of command.output) false one ≡ header_before (form_of copy.output) false other
+          = header_one (form_of command.output) (r.packets r.old) (s.packets s.old) false 1 0 all.6 one other alike all.7 all.8 ∙ ap (λ (f : FileForm). header_before f false other) acts.form in
           let text : all.3.text ≡ all.4.text = all.3.made.text_is ∙ ((λ i. header i ++ written settings.window (texts i)) ∙ sym all.4.made.text_is) in
-          let first : first_of (is_check command) all.3.text told ≡ first_of (is_check copy) all.4.text told = λ i. first_of (checks i) (text i) told in
-          let second : second_of (is_check command) told ≡ second_of (is_check copy) told = λ i. second_of (checks i) told in
+          let first : first_of (is_check command.output) all.3.text told ≡ first_of (is_check copy.output) all.4.text told = λ i. first_of (checks i) (text i) told in
+          let second : second_of (is_check command.output) told ≡ second_of (is_check copy.output) told = λ i. second_of (checks i) told in
           got_alike w v e f all.5 first second all.3.first all.4.first all.3.second all.4.second,
     )
 one_run R S W V E F r s w v e f settings most more command copy end other same (inl g) (inr gave_up) is = absurd (is.other_done gave_up.failed)
@@ -528,12 +528,12 @@ one_within R S W V E F r s w v e f limits most more command copy end other same 
         ] in
         let lines = lines_alike (length a.items) (sizes a.items) (fault_at_end a.rest a.outcome) a.packet b.packet packet in
         let last : last_line command (length a.items) (sizes a.items) (fault_at_end a.rest a.outcome) a.packet ≡ last_line copy (length b.items) (sizes b.items) (fault_at_end b.rest b.outcome) b.packet
-        = ap (first_of (is_check command) []) lines.0 ∙ (λ i. first_of (acts.checks i) [] (check_line (length (cut.0 i)) (sizes (cut.0 i)) (fault i) b.packet)) in
-        let header : header_before (form_of command) false a.output.messages ≡ header_before (form_of copy) false b.output.messages
-        = header_one (form_of command) (r.packets r.old) (s.packets s.old) false 1 0 (wholes a.items) a.output.messages b.output.messages placed_alike a.output.placed there ∙ ap (λ (f : FileForm). header_before f false b.output.messages) acts.form in
+        = ap (first_of (is_check command.output) []) lines.0 ∙ (λ i. first_of (acts.checks i) [] (check_line (length (cut.0 i)) (sizes (cut.0 i)) (fault i) b.packet)) in
+        let header : header_before (form_of command.output) false a.output.messages ≡ header_before (form_of copy.output) false b.output.messages
+        = header_one (form_of command.output) (r.packets r.old) (s.packets s.old) false 1 0 (wholes a.items) a.output.messages b.output.messages placed_alike a.output.placed there ∙ ap (λ (f : FileForm). header_before f false b.output.messages) acts.form in
         let out : a.out ≡ b.out = a.output.joined ∙ ((λ i. (header i ++ concat (texts i)) ++ last i) ∙ sym b.output.joined) in
         let line : second_output command (sizes a.items) (fault_at_end a.rest a.outcome) a.packet ≡ second_output copy (sizes b.items) (fault_at_end b.rest b.outcome) b.packet
-        = ap (second_of (is_check command)) lines.1 ∙ (λ i. second_of (acts.checks i) (fault_line (sizes (cut.0 i)) (fault i) b.packet)) in
+        = ap (second_of (is_check command.output)) lines.1 ∙ (λ i. second_of (acts.checks i) (fault_line (sizes (cut.0 i)) (fault i) b.packet)) in
         got_alike w v e f (told_too.1 ∙ (ap status_of (sym fault) ∙ sym told.1)) out line a.first b.first told.0 told_too.0
         )
     | inr gave_up ↦ absurd (other_done gave_up.failed)

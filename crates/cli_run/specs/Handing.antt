@@ -1,13 +1,10 @@
 -- What is written of one message, and what is read of the next one.
-use Rattle.std.specs.Prelude.{◌≡◌, ◌↔◌, ℕ, Bool, true, false, IsTrue, List, [], ◌++◌, Option, None, Result, Ok, Err}
-use Rattle.dbus_message_model.specs.Messages.{MessageTree}
+use Rattle.std.specs.Prelude.{◌≡◌, ℕ, Bool, true, false, List, [], ◌++◌, Option, None, Result, Ok, Err}
 use Rattle.dbus_validate.specs.declared.validating.Validated.{Validated}
 use Rattle.dbus_stream.specs.Next.{DeviceCounts}
 use Rattle.dbus_stream.specs.RawReading.{Reads, Advances, ReadsNothing, done_of, kept, source_of, stopped_of}
 use Rattle.dbus_stream.specs.declared.raw_reader.RawReader.{RawReader}
-use Rattle.dbus_names.specs.declared.names.Names.{Names}
-use Rattle.cli_options.specs.declared.command.Command.{Command}
-use Rattle.cli_run.specs.Output.{begins_file, framed, header_if, is_framed, Picks, owners_after, owners_known}
+use Rattle.cli_run.specs.Output.{begins_file, framed, header_if, is_framed}
 use Rattle.cli_report.specs.declared.ending.Cause.TheVariants.{WriteFailed}
 use Rattle.cli_run.specs.Inputs.{Placed}
 use Rattle.cli_options.specs.declared.file_form.FileForm.{FileForm}
@@ -25,12 +22,6 @@ front_of form place begun = record { begins_file = begins_file form place begun;
 -- a message after it
 abbrev pub after_front : Front → List ℕ → List ℕ
 after_front front bytes = header_if front.begins_file ++ framed front.is_framed front.time bytes
-
--- whether the command makes a text of a message, and what it has learned of the owners of names
--- before and after it
-pub record IsPicked (command : Command) (message : MessageTree) (old new : Option Names) (picked : Bool) : Type 0 where
-  pub picks : IsTrue picked ↔ Picks command (owners_known command old) message
-  pub owners : owners_known command new ≡ owners_after command (owners_known command old) message
 
 -- a reader stands where it stood, and may have looked at what it keeps
 pub record Stays {R A : Type 0} (old now : RawReader R A) : Type 0 where

@@ -1,13 +1,14 @@
 -- The laws over what a command writes: of all messages and the fault after them there is an output,
 -- and of each command but `json` exactly one. And what a command does by its settings is what it
 -- does under limits alone, if they ask for no more.
-use Rattle.std.specs.Prelude.{◌≡◌, ◌+◌, ◌*◌, ◌≤◌, ℕ, Bool, true, false, List, [], ◌∷◌, ◌++◌, Option, ◌≢◌, ◌⊎◌, Some}
+use Rattle.std.specs.Prelude.{◌≡◌, ◌+◌, ◌*◌, ◌≤◌, ℕ, Bool, true, false, List, [], ◌∷◌, ◌++◌, Option, ◌≢◌, ◌⊎◌, Some, None}
 use Rattle.std.specs.List.{AllByRecursion}
 use Rattle.dbus_value_model.specs.declared.fault.Fault.{Fault}
 use Rattle.dbus_stream.specs.Cut.{CutMessage}
 use Rattle.cli_options.specs.Limiting.{ask_more}
 use Rattle.cli_options.specs.declared.command.Command.{Command}
-use Rattle.cli_options.specs.declared.command.Command.TheVariants.{Filter, Swap}
+use Rattle.cli_options.specs.declared.command.Output.{Output}
+use Rattle.cli_options.specs.declared.command.Output.TheVariants.{AsIs, InOrder}
 use Rattle.cli_options.specs.declared.file_form.FileForm.TheVariants.{AsRead, Raw}
 use Rattle.cli_options.specs.declared.window.Window.{Window}
 use Rattle.dbus_capture.specs.Reading.{IsRead}
@@ -52,12 +53,12 @@ SomeOutput = (packets : Option Packets) (command : Command) (items : List CutMes
 -- they are read
 abbrev pub OneOutput : Type 0
 OneOutput = (packets others : Option Packets) (command : Command) (items : List CutMessage) (fault : Option Fault) (packet : Option ℕ) (x y : List ℕ)
-    → IsExact command → AreAlike (form_of command) packets others → IsFirstOutput packets command items fault packet x → IsFirstOutput others command items fault packet y → x ≡ y
+    → IsExact command.output → AreAlike (form_of command.output) packets others → IsFirstOutput packets command items fault packet x → IsFirstOutput others command items fault packet y → x ≡ y
 
 -- so what is a prefix of an output then is one of each
 abbrev pub OneFront : Type 0
 OneFront = (packets others : Option Packets) (limits : Limits) (command : Command) (items : List CutMessage) (rest : List ℕ) (fault : Option Fault) (front out : List ℕ)
-    → IsExact command → AreAlike (form_of command) packets others → (is : IsFront packets limits command items rest fault front) → IsFirstOutput others command items fault is.packet out → IsPrefixTo front out
+    → IsExact command.output → AreAlike (form_of command.output) packets others → (is : IsFront packets limits command items rest fault front) → IsFirstOutput others command items fault is.packet out → IsPrefixTo front out
 
 -- by settings that ask for no more, a command does what it does under their limits alone
 abbrev pub PlainRuns : {R W E : Type 0} → (left : R → Option (List ℕ)) → (calls failures : R → ℕ) → (packets : R → Option Packets) → (held : W → Option (List ℕ)) → (write_failures : W → ℕ) → (second_held : E → Option (List ℕ))
@@ -69,11 +70,15 @@ PlainRuns {R} {W} {E} left calls failures packets held write_failures second_hel
 
 -- What is written of captured messages is a file again.
 
--- the command that writes the same messages raw
-abbrev pub raw_of : Command → Command
-raw_of (Swap wanted form) = Swap wanted Raw
-raw_of (Filter selection form) = Filter selection Raw
-raw_of command = command
+-- what writes the same messages raw
+abbrev pub raw_of : Output → Output
+raw_of (InOrder wanted form) = InOrder wanted Raw
+raw_of (AsIs form) = AsIs Raw
+raw_of output = output
+
+-- the command that does
+abbrev pub in_raw : Command → Command
+in_raw command = record { output = raw_of command.output; selection = command.selection }
 
 -- each is a message within the limits that came in a packet
 abbrev pub AreCaptured : Limits → List Placed → Type 0
@@ -85,8 +90,8 @@ AreCaptured limits (m ∷ items) = IsValidMessage limits m.item.message × (m.pl
 -- writes of them raw
 abbrev pub WritesFile : Type 0
 WritesFile = (limits : Limits) (command : Command) (os : NameState) (window : Window) (m : Placed) (items : List Placed) (texts : List (List ℕ))
-    → form_of command ≡ AsRead → AreCaptured limits (m ∷ items) → IsOutputOfAll command os (m ∷ items) texts
-    → (raw : List (List ℕ)) × IsOutputOfAll (raw_of command) os (m ∷ items) raw
+    → form_of command.output ≡ AsRead → AreCaptured limits (m ∷ items) → IsOutputOfAll command os (m ∷ items) texts
+    → (raw : List (List ℕ)) × IsOutputOfAll (in_raw command) os (m ∷ items) raw
     × ((passes_cut : Bool) → IsRead passes_cut (output_of AsRead false window (m ∷ items) texts) (output_of Raw false window (m ∷ items) raw))
 
 -- One law for all commands and settings: two runs that read the same input end alike.
@@ -149,7 +154,7 @@ pub record AreOfOneInput {R S : Type 0} (r : Reading R) (s : Reading S) (setting
 -- command is exact, with the same bytes
 abbrev pub RunAlike : {R S W V E F : Type 0} → Reading R → Reading S → Writing W → Writing V → Writing E → Writing F → Settings → (command copy : Command) → (end other : ExitStatus) → Type 0
 RunAlike r s w v e f settings command copy end other =
-    (AreOfSamePackets r s → MadeAlike (Writes w e settings command) (Writes v f settings copy) end other) × (IsExact command → AreAlike (form_of command) (r.packets r.old) (s.packets s.old) → EndAlike w v e f end other)
+    (AreOfSamePackets r s → MadeAlike (Writes w e settings command) (Writes v f settings copy) end other) × (IsExact command.output → AreAlike (form_of command.output) (r.packets r.old) (s.packets s.old) → EndAlike w v e f end other)
 
 -- two runs of a command
 abbrev pub OneRun : (R S W V E F : Type 0) → Type 0
@@ -160,7 +165,7 @@ OneRun R S W V E F = (r : Reading R) (s : Reading S) (w : Writing W) (v : Writin
 -- two runs of a command under the same limits alone
 abbrev pub OneWithin : (R S W V E F : Type 0) → Type 0
 OneWithin R S W V E F = (r : Reading R) (s : Reading S) (w : Writing W) (v : Writing V) (e : Writing E) (f : Writing F) (limits : Limits) (most more : ℕ) (command copy : Command) (end other : ExitStatus)
-    → AreSameCommand command copy → IsExact command → AreAlike (form_of command) (r.packets r.old) (s.packets s.old) → ReadAlike r s → AreToldAlike r s end → end ≢ status.Failed → other ≢ status.Failed → Runs r w e limits most command end → Runs s v f limits more copy other
+    → AreSameCommand command copy → IsExact command.output → AreAlike (form_of command.output) (r.packets r.old) (s.packets s.old) → ReadAlike r s → AreToldAlike r s end → end ≢ status.Failed → other ≢ status.Failed → Runs r w e limits most command end → Runs s v f limits more copy other
     → EndAlike w v e f end other
 
 -- two runs end with one status, the second writers got the same bytes, and the first ones got

@@ -8,7 +8,6 @@ use Rattle.dbus_list.specs.Lines.{IsLine}
 use Rattle.dbus_list.specs.Pairs.{KeepsCalls, TellsCall, ToldCall}
 use Rattle.dbus_names.specs.Kept.{state_of}
 use Rattle.dbus_names.specs.NameStates.{KnownNames, NameState}
-use Rattle.cli_options.specs.Selections.{SelectsBy}
 use Rattle.cli_options.specs.declared.settings.Settings.{Settings}
 use Rattle.cli_options.specs.declared.wanted_lines.WantedLines.{WantedLines}
 use Rattle.cli_options.specs.declared.window.Window.{Window}
@@ -16,11 +15,11 @@ use Rattle.cli_report.specs.Devices.{Reading, Writing}
 use Rattle.cli_report.specs.declared.ending.ExitStatus.{ExitStatus}
 use Rattle.cli_run.specs.CallListing.{number_and_time, numbered}
 use Rattle.cli_run.specs.Inputs.{Placed}
-use Rattle.cli_run.specs.LineNames.{first_names, names_after, names_after_all, owners_for, told_beside}
+use Rattle.cli_run.specs.Learning.{Selects, selection_of}
+use Rattle.cli_run.specs.LineNames.{first_names, names_after, names_after_all, told_beside}
 use Rattle.cli_run.specs.Making.{RunsBy, WritesMade}
 use Rattle.cli_run.specs.Output.{after, is_spent, line_place, written}
 use Rattle.cli_run.specs.declared.line_listing.LineRenderer.{LineRenderer}
-use Rattle.cli_run.specs.declared.line_selector.LineSelector.{LineSelector}
 use Rattle.cli_run.specs.declared.place.MessagePlace.{MessagePlace}
 
 module _ (wanted : WantedLines) where
@@ -34,8 +33,8 @@ module _ (wanted : WantedLines) where
   -- none. The names that it tells itself are known in its line
   abbrev pub AreLinesOfOne : NameState → (before : List Numbered) → Order → MessageTree → MessagePlace → List (List ℕ) → Type 0
   AreLinesOfOne os before order message place lines =
-      (SelectsBy wanted.selection (owners_for wanted.selection os) message × (line : List ℕ) × IsLineAfter (names_after os message).names before order message place line × (lines ≡ line ∷ []))
-      ⊎ ((SelectsBy wanted.selection (owners_for wanted.selection os) message → ⊥) × (lines ≡ []))
+      (Selects wanted.selection os message × (line : List ℕ) × IsLineAfter (names_after os message).names before order message place line × (lines ≡ line ∷ []))
+      ⊎ ((Selects wanted.selection os message → ⊥) × (lines ≡ []))
 
   -- those of several, one after the other
   abbrev pub AreLinesOf : NameState → (before : List Numbered) → List Placed → List (List ℕ) → Type 0
@@ -43,9 +42,9 @@ module _ (wanted : WantedLines) where
   AreLinesOf os before (m ∷ items) lines = (one more : List (List ℕ)) × AreLinesOfOne os before m.item.order m.item.message m.place one
       × AreLinesOf (names_after os m.item.message) (before ++ nth (number_and_time m.place) m.item.message ∷ []) items more × (lines ≡ one ++ more)
 
--- what a selector stands for
-abbrev pub asked : LineSelector → WantedLines
-asked selector = record { selection = selector.selector.selection.now; width = selector.width }
+-- what lines are wanted of one
+abbrev pub asked : LineRenderer → WantedLines
+asked a = record { selection = selection_of a.selector; width = a.width }
 
 -- what lines are made by: what is wanted, the window for what follows, what is known of names, and the
 -- messages that came
@@ -57,7 +56,7 @@ pub record LinesState : Type 0 where
 
 -- where what makes lines stands after such messages
 abbrev pub state_at : LineRenderer → (before : List Numbered) → LinesState
-state_at a before = record { wanted = asked a.selector; window = a.window; names = state_of a.names; before = before }
+state_at a before = record { wanted = asked a; window = a.window; names = state_of a.names; before = before }
 
 -- it keeps the calls that wait after them
 abbrev pub StandsAt : LineRenderer → LinesState → Type 0

@@ -1,9 +1,6 @@
 -- Who has which name, as the lines of `list` and of `calls` tell it. D-Bus Specification, "Message Bus Names".
-use Rattle.std.specs.Prelude.{List, [], ◌∷◌, Option, if◌then◌else◌, option_and_then}
-use Rattle.std.specs.FinSet.{from_list}
+use Rattle.std.specs.Prelude.{List, [], ◌∷◌, Option, option_and_then}
 use Rattle.dbus_message_model.specs.Messages.{MessageTree}
-use Rattle.dbus_match.specs.Matching.{Ownership, ownerships}
-use Rattle.dbus_rule_set.specs.Owners.{OwnerSet, owners_in}
 use Rattle.dbus_calls.specs.Events.{destination_of, sender_of}
 use Rattle.dbus_names.specs.Filters.{is_well_known}
 use Rattle.dbus_names.specs.NameStates.{KnownNames, NameState, known_after, known_first}
@@ -12,13 +9,11 @@ use Rattle.dbus_list.specs.Pairs.{ToldCall}
 use Rattle.dbus_list.specs.Told.{Told}
 use Rattle.cli_options.specs.declared.selection.Selection.{Selection}
 use Rattle.cli_run.specs.Inputs.{Placed}
+use Rattle.cli_run.specs.Learning.{given_owners}
 
--- the owners that a selection gives
-abbrev pub given_owners : Selection → OwnerSet
-given_owners selection = from_list (ownerships selection.owners.items)
-
--- these are known first, and what each message tells of well-known names after it
-abbrev pub first_names : Selection → NameState
+-- those that a selection gives are known first, and what each message tells of well-known names
+-- after it
+abbrev pub first_names : Option Selection → NameState
 first_names selection = known_first (given_owners selection)
 
 abbrev pub names_after : NameState → MessageTree → NameState
@@ -27,10 +22,6 @@ names_after os m = known_after is_well_known os m
 abbrev pub names_after_all : NameState → List Placed → NameState
 names_after_all os [] = os
 names_after_all os (m ∷ items) = names_after_all (names_after os m.item.message) items
-
--- the owners by which a selection goes: if it learns, those that are known; else those that it gives
-abbrev pub owners_for : Selection → NameState → List Ownership
-owners_for selection os = owners_in (if selection.learns then os.owners else given_owners selection)
 
 -- the names by which the connections of a message are known
 abbrev pub known_beside : KnownNames → MessageTree → Known

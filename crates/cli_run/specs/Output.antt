@@ -1,6 +1,5 @@
 -- What a command writes of the messages of its input and the fault after them.
 use Rattle.std.specs.Prelude.{◌≡◌, ℕ, zero, suc, ◌+◌, ◌⊎◌, Bool, true, false, ◌&&◌, not, List, [], ◌∷◌, ◌++◌, length, Option, None, Some, codes, decimal, ◌-◌, take, drop, option_map}
-use Rattle.std.specs.FinSet.{empty}
 use Rattle.std.specs.List.{concat}
 use Rattle.dbus_device.specs.Packets.{Packets}
 use Rattle.dbus_value_model.specs.declared.fault.Fault.{Fault}
@@ -17,60 +16,40 @@ use Rattle.dbus_json.specs.JsonIntegers.{integers_of}
 use Rattle.dbus_json.specs.JsonMessages.{IsJsonLine}
 use Rattle.dbus_json.specs.Times.{seconds_text}
 use Rattle.dbus_json.specs.declared.place.LinePlace.{LinePlace}
-use Rattle.dbus_names.specs.NameStates.{NameState, known_first}
-use Rattle.dbus_names.specs.declared.names.Names.{Names}
-use Rattle.dbus_rule_set.specs.Owners.{owners_in}
-use Rattle.cli_options.specs.Selections.{SelectsBy}
+use Rattle.dbus_names.specs.NameStates.{NameState}
 use Rattle.cli_options.specs.declared.file_form.FileForm.{FileForm}
 use Rattle.cli_options.specs.declared.file_form.FileForm.TheVariants.{AsRead, Raw}
 use Rattle.cli_options.specs.declared.command.Command.{Command}
-use Rattle.cli_options.specs.declared.command.Command.TheVariants.{Show, Json, Check, Swap, Filter}
+use Rattle.cli_options.specs.declared.command.Output.{Output}
+use Rattle.cli_options.specs.declared.command.Output.TheVariants.{AsIs, InOrder, JsonLine, Nothing, Text}
+use Rattle.cli_options.specs.declared.selection.Selection.{Selection}
 use Rattle.cli_report.specs.Gathering.{IsPrefixTo}
 use Rattle.cli_report.specs.Telling.{refused_line}
 use Rattle.cli_report.specs.declared.ending.ExitStatus.{ExitStatus}
 use Rattle.cli_report.specs.declared.ending.ExitStatus.TheVariants as status
 use Rattle.cli_options.specs.declared.window.Window.{Window}
 use Rattle.cli_run.specs.Inputs.{ArePlaced, Placed, wholes}
-use Rattle.cli_run.specs.Learning.{known, known_after}
+use Rattle.cli_run.specs.Learning.{Selects, known, known_after, known_after_all}
 use Rattle.cli_run.specs.Refusals.{IsFaultIn}
 use Rattle.cli_run.specs.Told.{first_of, second_of}
 use Rattle.cli_run.specs.declared.place.MessagePlace.{MessagePlace}
-use Rattle.cli_run.specs.declared.output.Output.{Output}
-use Rattle.cli_run.specs.declared.output.Output.TheVariants.{InOrder, JsonLine, Matching, Nothing, Text}
 
--- which command writes what of each message
-abbrev pub command_of : Output → Command
-command_of Nothing = Check
-command_of (Text times escapes) = Show times escapes
-command_of (JsonLine times safe) = Json times safe
-command_of (InOrder order form) = Swap order form
-command_of (Matching selector form) = Filter selector.selection.now form
+-- nothing is written of a message, by `check`, which tells the first writer of a fault
+abbrev pub is_check : Output → Bool
+is_check Nothing = true
+is_check output = false
 
--- the command is `check`, which writes nothing of a message, and tells the first writer of a fault
-abbrev pub is_check : Command → Bool
-is_check Check = true
-is_check command = false
-
--- what a command knows of the owners of names: of its own, or what it has learned since
-abbrev pub owners_known : Command → Option Names → NameState
-owners_known (Filter selection form) learned = known selection learned
-owners_known command learned = known_first empty
-
--- what it knows after a message, if it knew this before
-abbrev pub owners_after : Command → NameState → MessageTree → NameState
-owners_after (Filter selection form) os message = known_after selection os message
-owners_after command os message = os
-
--- what a command knows after messages, if it knew this before
+-- what a command knows of the owners of names after messages, if it knew this before
 abbrev pub owners_after_all : Command → NameState → List Placed → NameState
-owners_after_all command os [] = os
-owners_after_all command os (m ∷ items) = owners_after_all command (owners_after command os m.item.message) items
+owners_after_all command = known_after_all command.selection
 
--- a command makes a text of the message, if it knows this
+-- a text is made of a message that is selected, if one is to be written
+abbrev pub PicksBy : Output → Option Selection → NameState → MessageTree → Type 0
+PicksBy Nothing selection os message = ⊥
+PicksBy output selection os message = Selects selection os message
+
 abbrev pub Picks : Command → NameState → MessageTree → Type 0
-Picks Check os message = ⊥
-Picks (Filter selection form) os message = SelectsBy selection (owners_in os.owners) message
-Picks command os message = Unit {0}
+Picks command os message = PicksBy command.output command.selection os message
 
 -- the time of a message, if times are wanted
 abbrev pub time_if : Bool → Option ℕ → Option ℕ
@@ -95,11 +74,11 @@ abbrev pub seen_if : (escapes : Bool) → List ℕ → List ℕ
 seen_if true text = visible text
 seen_if false text = text
 
--- the form in which a command writes messages; of one that writes no messages it is raw
-abbrev pub form_of : Command → FileForm
-form_of (Swap wanted form) = form
-form_of (Filter selection form) = form
-form_of command = Raw
+-- the form in which messages are written; if none are, it is raw
+abbrev pub form_of : Output → FileForm
+form_of (InOrder wanted form) = form
+form_of (AsIs form) = form
+form_of output = Raw
 
 -- a message is written as a packet of a pcap file: it came in a packet, and is written as it is
 -- read
@@ -140,36 +119,36 @@ abbrev pub line_place : MessagePlace → LinePlace
 line_place place = record { number = place.number; offset = place.offset; time = place.time }
 
 -- that text, if the message has this place in its input
-abbrev pub IsTextOf : Command → Order → MessageTree → MessagePlace → List ℕ → Type 0
-IsTextOf (Show times escapes) order message place text = text ≡ seen_if escapes (shown_text order message (told_place times place))
-IsTextOf (Json times safe) order message place text = IsJsonLine (integers_of safe) order message (line_place (told_place times place)) text
-IsTextOf Check order message place text = text ≡ []
-IsTextOf (Swap wanted form) order message place text = text ≡ framed (is_framed form place) place.time (message_bytes wanted message)
-IsTextOf (Filter selection form) order message place text = text ≡ framed (is_framed form place) place.time (message_bytes order message)
+abbrev pub IsTextOf : Output → Order → MessageTree → MessagePlace → List ℕ → Type 0
+IsTextOf (Text times escapes) order message place text = text ≡ seen_if escapes (shown_text order message (told_place times place))
+IsTextOf (JsonLine times safe) order message place text = IsJsonLine (integers_of safe) order message (line_place (told_place times place)) text
+IsTextOf Nothing order message place text = text ≡ []
+IsTextOf (InOrder wanted form) order message place text = text ≡ framed (is_framed form place) place.time (message_bytes wanted message)
+IsTextOf (AsIs form) order message place text = text ≡ framed (is_framed form place) place.time (message_bytes order message)
 
--- the texts that it makes of one message: one if it picks it, else none
+-- the texts that a command makes of one message: one if it picks it, else none
 abbrev pub IsOutputOf : Command → NameState → Order → MessageTree → MessagePlace → List (List ℕ) → Type 0
 IsOutputOf command os order message place texts =
-    (Picks command os message × (text : List ℕ) × IsTextOf command order message place text × (texts ≡ text ∷ []))
+    (Picks command os message × (text : List ℕ) × IsTextOf command.output order message place text × (texts ≡ text ∷ []))
     ⊎ ((Picks command os message → ⊥) × (texts ≡ []))
 
 -- those that it makes of several, one after the other, if it knows this before
 abbrev pub IsOutputOfAll : Command → NameState → List Placed → List (List ℕ) → Type 0
 IsOutputOfAll command os [] texts = texts ≡ []
 IsOutputOfAll command os (m ∷ items) texts = (one : List (List ℕ)) × (more : List (List ℕ)) × (texts ≡ one ++ more)
-    × IsOutputOf command os m.item.order m.item.message m.place one × IsOutputOfAll command (owners_after command os m.item.message) items more
+    × IsOutputOf command os m.item.order m.item.message m.place one × IsOutputOfAll command (known_after command.selection os m.item.message) items more
 
 -- all that is written of messages: these texts are made of them, and the header comes first
 abbrev pub whole_output : FileForm → List Placed → List (List ℕ) → List ℕ
 whole_output form items texts = header_before form false items ++ concat texts
 
 -- the messages, with their times if they are written as packets, and the fault after them determine
--- each byte that the command writes: no other time, which their packets have, and no DOUBLE of
+-- each byte that is written: no other time, which their packets have, and no DOUBLE of
 -- `json`, which may be any digits that read back as its bits
-abbrev pub IsExact : Command → Type 0
-IsExact (Show true escapes) = ⊥
-IsExact (Json times safe) = ⊥
-IsExact command = Unit {0}
+abbrev pub IsExact : Output → Type 0
+IsExact (Text true escapes) = ⊥
+IsExact (JsonLine times safe) = ⊥
+IsExact output = Unit {0}
 
 -- the packets of two inputs are known and the same, if they matter to this form
 abbrev pub AreAlike : FileForm → Option Packets → Option Packets → Type 0
@@ -188,7 +167,7 @@ check_line count size (Some fault) packet = refused_line (size + fault.at) fault
 
 -- what is written after so many messages of so many bytes: only `check` writes a line there
 abbrev pub last_line : Command → ℕ → ℕ → Option Fault → (packet : Option ℕ) → List ℕ
-last_line command count size fault packet = first_of (is_check command) [] (check_line count size fault packet)
+last_line command count size fault packet = first_of (is_check command.output) [] (check_line count size fault packet)
 
 -- what the first writer gets, if the bytes of the input are of these packets, and its fault of the
 -- one of this number
@@ -196,8 +175,8 @@ pub record IsFirstOutput (packets : Option Packets) (command : Command) (items :
   pub messages : List Placed
   pub placed : ArePlaced packets 1 0 (wholes items) messages
   pub texts : List (List ℕ)
-  pub each : IsOutputOfAll command (owners_known command None) messages texts
-  pub joined : out ≡ whole_output (form_of command) messages texts ++ last_line command (length items) (sizes items) fault packet
+  pub each : IsOutputOfAll command (known command.selection None) messages texts
+  pub joined : out ≡ whole_output (form_of command.output) messages texts ++ last_line command (length items) (sizes items) fault packet
 
 -- a prefix of what the first writer gets of an input that these messages begin, and then the rest
 pub record IsFront (packets : Option Packets) (limits : Limits) (command : Command) (items : List CutMessage) (rest : List ℕ) (fault : Option Fault) (front : List ℕ) : Type 0 where
@@ -206,7 +185,7 @@ pub record IsFront (packets : Option Packets) (limits : Limits) (command : Comma
   pub output : IsFirstOutput packets command items fault packet out
   pub prefix : IsPrefixTo front out
   -- a line of the fault that was begun has its packet
-  pub packet_is : IsPrefixTo front (whole_output (form_of command) output.messages output.texts) ⊎ IsFaultIn packets limits (sizes items) rest fault packet
+  pub packet_is : IsPrefixTo front (whole_output (form_of command.output) output.messages output.texts) ⊎ IsFaultIn packets limits (sizes items) rest fault packet
 
 abbrev pub fault_line : ℕ → Option Fault → (packet : Option ℕ) → List ℕ
 fault_line size None packet = []
@@ -214,7 +193,7 @@ fault_line size (Some fault) packet = refused_line (size + fault.at) fault.reaso
 
 -- what the second writer gets: the fault, which `check` tells the first
 abbrev pub second_output : Command → ℕ → Option Fault → (packet : Option ℕ) → List ℕ
-second_output command size fault packet = second_of (is_check command) (fault_line size fault packet)
+second_output command size fault packet = second_of (is_check command.output) (fault_line size fault packet)
 
 abbrev pub status_of : Option Fault → ExitStatus
 status_of None = status.Done
@@ -251,13 +230,13 @@ is_spent_by (Some (suc n)) checks_rest = false
 abbrev pub is_spent : Window → Bool
 is_spent window = is_spent_by window.limit window.checks_rest
 
--- a command wants no more messages under this window. `check` wants all
-abbrev pub is_filled : Command → Window → Bool
-is_filled command window = is_spent window && not (is_check command)
+-- no more messages are wanted under this window. `check` wants all
+abbrev pub is_filled : Output → Window → Bool
+is_filled output window = is_spent window && not (is_check output)
 
 -- this says whether a command wants no more messages after these
 abbrev pub IsFilledBy : Command → Window → List Placed → Bool → Type 0
-IsFilledBy command window items filled = (texts : List (List ℕ)) × IsOutputOfAll command (owners_known command None) items texts × (is_filled command (after window (length texts)) ≡ filled)
+IsFilledBy command window items filled = (texts : List (List ℕ)) × IsOutputOfAll command (known command.selection None) items texts × (is_filled command.output (after window (length texts)) ≡ filled)
 
 -- a text, or nothing
 abbrev pub text_if : Bool → List ℕ → List ℕ

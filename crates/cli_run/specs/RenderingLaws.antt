@@ -4,14 +4,16 @@ use Rattle.std.proofs.Common.{◌≡◌, ℕ, Bool, true, false, ◌&&◌, List,
 use Rattle.std.proofs.lemmas.Bool.{false≢true}
 use Rattle.dbus_names.specs.NameStates.{NameState}
 use Rattle.cli_options.specs.declared.command.Command.{Command}
-use Rattle.cli_options.specs.declared.command.Command.TheVariants.{Check, Filter, Json, Show, Swap}
+use Rattle.cli_options.specs.declared.command.Output.{Output}
+use Rattle.cli_options.specs.declared.command.Output.TheVariants.{Nothing}
 use Rattle.cli_options.specs.declared.file_form.FileForm.{FileForm}
 use Rattle.cli_options.specs.declared.file_form.FileForm.TheVariants.{Raw}
 use Rattle.cli_options.specs.declared.window.Window.{Window}
 use Rattle.cli_run.specs.Inputs.{Placed}
-use Rattle.cli_run.specs.Output.{IsOutputOfAll, begun_after, command_of, form_of, header_before, header_if, is_check, is_framed, output_of, owners_after, owners_after_all, written}
+use Rattle.cli_run.specs.Learning.{known_after}
+use Rattle.cli_run.specs.Output.{IsOutputOfAll, PicksBy, begun_after, form_of, header_before, header_if, is_check, is_framed, output_of, owners_after_all, written}
 use Rattle.cli_run.specs.Rendering.{Makes, OutputState, state_after, state_of}
-use Rattle.cli_run.specs.VisitorLaws.{after_more, after_none, written_more, written_none}
+use Rattle.cli_run.specs.VisitorLaws.{after_more, after_none, known_both, written_more, written_none}
 use Rattle.cli_run.specs.declared.output.OutputRenderer.{OutputRenderer}
 
 -- messages after others
@@ -19,13 +21,7 @@ pub output_both : (command : Command) (os : NameState) (items more : List Placed
     → IsOutputOfAll command (owners_after_all command os items) more b → IsOutputOfAll command os (items ++ more) (a ++ b)
 output_both command os [] more a b p q = subst (λ l. IsOutputOfAll command os more (l ++ b)) (sym p) q
 output_both command os (m ∷ items) more a b p q =
-    (p.0, p.1 ++ b, ap (λ l. l ++ b) p.2 ∙ append_assoc p.0 p.1 b, p.3, output_both command (owners_after command os m.item.message) items more p.1 b p.4 q)
-
--- the owners after messages, and after others
-after_all_both : (command : Command) (os : NameState) (items more : List Placed)
-    → owners_after_all command os (items ++ more) ≡ owners_after_all command (owners_after_all command os items) more
-after_all_both command os [] more = refl
-after_all_both command os (m ∷ items) more = after_all_both command (owners_after command os m.item.message) items more
+    (p.0, p.1 ++ b, ap (λ l. l ++ b) p.2 ∙ append_assoc p.0 p.1 b, p.3, output_both command (known_after command.selection os m.item.message) items more p.1 b p.4 q)
 
 -- the header comes before the first message alone
 pub and_false : (b : Bool) → b && false ≡ false
@@ -59,10 +55,10 @@ pub nothing : (s : OutputState) → Makes s [] [] s
 nothing s = record { texts = []; made = refl; text_is = sym (written_none s.window); then = λ i. record { command = s.command; window = sym (after_none s.window) i; begun = s.begun; owners = s.owners } }
 
 -- from where the first texts leave off
-module _ (s : OutputState) (a b : List Placed) (p q : List ℕ) (u : OutputState) (h : List (List ℕ)) (made : IsOutputOfAll s.command s.owners a h) (text : p ≡ output_of (form_of s.command) s.begun s.window a h) where
+module _ (s : OutputState) (a b : List Placed) (p q : List ℕ) (u : OutputState) (h : List (List ℕ)) (made : IsOutputOfAll s.command s.owners a h) (text : p ≡ output_of (form_of s.command.output) s.begun s.window a h) where
   after_first : Makes (state_after s a (length h)) b q u → Makes s (a ++ b) (p ++ q) u
   after_first k =
-      let form = form_of s.command in
+      let form = form_of s.command.output in
       let now = (state_after s a (length h)).window in
       record {
         texts = h ++ k.texts;
@@ -70,29 +66,28 @@ module _ (s : OutputState) (a b : List Placed) (p q : List ℕ) (u : OutputState
         text_is = (λ i. text i ++ k.text_is i)
             ∙ (header_both form s.begun a b (written s.window h) (written now k.texts) (none_written s.command s.owners s.window a h made)
             ∙ ap (λ l. header_before form s.begun (a ++ b) ++ l) (written_more s.window now h k.texts refl));
-        then = k.then ∙ (λ i. record { command = s.command; window = after_more s.window now h k.texts refl i; begun = begun_both s.begun a b i; owners = sym (after_all_both s.command s.owners a b) i });
+        then = k.then ∙ (λ i. record { command = s.command; window = after_more s.window now h k.texts refl i; begun = begun_both s.begun a b i; owners = known_both s.command.selection s.owners a b i });
       }
 
 pub joins : (s t u : OutputState) (a b : List Placed) (p q : List ℕ) → Makes s a p t → Makes t b q u → Makes s (a ++ b) (p ++ q) u
 joins s t u a b p q h k = after_first s a b p q u h.texts h.made h.text_is (subst (λ (x : OutputState). Makes x b q u) h.then k)
 
 -- `check` makes no texts
-pub no_texts : (os : NameState) (items : List Placed) (texts : List (List ℕ)) → IsOutputOfAll Check os items texts → texts ≡ []
-no_texts os [] texts made = made
-no_texts os (m ∷ items) texts made =
-    let none : made.0 ≡ [] = elim made.3 [ inl some ↦ absurd some.0 | inr none ↦ none.1 ] in
-    made.2 ∙ (λ i. none i ++ no_texts os items made.1 made.4 i)
+pub no_texts : (command : Command) → command.output ≡ Nothing → (os : NameState) (items : List Placed) (texts : List (List ℕ)) → IsOutputOfAll command os items texts → texts ≡ []
+no_texts command is os [] texts made = made
+no_texts command is os (m ∷ items) texts made =
+    let none : made.0 ≡ [] = elim made.3 [ inl some ↦ absurd (subst (λ (o : Output). PicksBy o command.selection os m.item.message) is some.0) | inr none ↦ none.1 ] in
+    made.2 ∙ (λ i. none i ++ no_texts command is (known_after command.selection os m.item.message) items made.1 made.4 i)
 
 pub no_header : (begun : Bool) (items : List Placed) → header_before Raw begun items ≡ []
 no_header begun [] = refl
 no_header begun (m ∷ items) = refl
 
-none_of : (command : Command) (os : NameState) (begun : Bool) (window : Window) (items : List Placed) (texts : List (List ℕ)) → is_check command ≡ true → IsOutputOfAll command os items texts → output_of (form_of command) begun window items texts ≡ []
-none_of Check os begun window items texts check made = (λ i. no_header begun items i ++ written window (no_texts os items texts made i)) ∙ written_none window
-none_of (Show times escapes) os begun window items texts check made = absurd (false≢true check)
-none_of (Json times safe) os begun window items texts check made = absurd (false≢true check)
-none_of (Swap order form) os begun window items texts check made = absurd (false≢true check)
-none_of (Filter selection form) os begun window items texts check made = absurd (false≢true check)
+pub checks : (output : Output) → is_check output ≡ true → output ≡ Nothing
+checks Nothing check = refl
+checks output check = absurd (false≢true check)
 
-pub quiet : {A : Type 0} (a : OutputRenderer A) (s t : OutputState) (items : List Placed) (text : List ℕ) → is_check (command_of a.output) ≡ true → s ≡ state_of a → Makes s items text t → text ≡ []
-quiet a s t items text check there h = h.text_is ∙ none_of s.command s.owners s.begun s.window items h.texts (ap (λ (x : OutputState). is_check x.command) there ∙ check) h.made
+pub quiet : {A : Type 0} (a : OutputRenderer A) (s t : OutputState) (items : List Placed) (text : List ℕ) → is_check a.output ≡ true → s ≡ state_of a → Makes s items text t → text ≡ []
+quiet a s t items text check there h =
+    let is : s.command.output ≡ Nothing = checks s.command.output (ap (λ (x : OutputState). is_check x.command.output) there ∙ check) in
+    h.text_is ∙ ((λ i. output_of (form_of (is i)) s.begun s.window items (no_texts s.command is s.owners items h.texts h.made i)) ∙ ((λ i. no_header s.begun items i ++ written s.window []) ∙ written_none s.window))

@@ -5,10 +5,12 @@ use Rattle.dbus_device.specs.Device.{Wrote, Stopped, one_more}
 use Rattle.dbus_device.specs.Packets.{Packets}
 use Rattle.dbus_value_model.specs.declared.limits.Limits.{Limits}
 use Rattle.cli_options.specs.declared.command.Command.{Command}
+use Rattle.cli_options.specs.declared.command.Output.TheVariants.{Nothing}
 use Rattle.cli_options.specs.declared.settings.Settings.{Settings}
 use Rattle.cli_run.specs.Going.{IsStopOf}
 use Rattle.cli_run.specs.Inputs.{ArePlaced, Placed, wholes}
-use Rattle.cli_run.specs.Output.{IsOutputOfAll, form_of, is_check, owners_known, IsFirstOutput, IsFront, second_output, status_of, whole_output}
+use Rattle.cli_run.specs.Learning.{known}
+use Rattle.cli_run.specs.Output.{IsOutputOfAll, form_of, is_check, IsFirstOutput, IsFront, second_output, status_of, whole_output}
 use Rattle.cli_run.specs.Making.{LeavesMade, RunsBy, WritesMade}
 use Rattle.cli_run.specs.Needed.{IsReadFor, ReadsOnlyIf, WantToSee}
 use Rattle.cli_run.specs.Refusals.{IsFaultIn}
@@ -42,8 +44,8 @@ pub record WritesMessages (packets : Option Packets) (limits : Limits) (command 
   pub handed : List Placed
   pub placed : ArePlaced packets 1 0 (wholes items) handed
   pub texts : List (List ℕ)
-  pub output : IsOutputOfAll command (owners_known command None) handed texts
-  pub written_is : written ≡ whole_output (form_of command) handed texts
+  pub output : IsOutputOfAll command (known command.selection None) handed texts
+  pub written_is : written ≡ whole_output (form_of command.output) handed texts
 
 -- where reading was given up, all messages that were read were written
 abbrev pub WritesBefore : Option Packets → Limits → Command → Cause → List ℕ → List ℕ → Type 0
@@ -104,14 +106,18 @@ module _ {R W E : Type 0} (r : Reading R) (w : Writing W) (e : Writing E) (limit
 abbrev pub Runs : {R W E : Type 0} → Reading R → Writing W → Writing E → Limits → ℕ → Command → ExitStatus → Type 0
 Runs r w e limits most command end = Answers r w e limits most command end ⊎ GaveUp r w e limits most command end
 
+-- `check` of all messages
+abbrev pub check : Command
+check = record { output = Nothing; selection = None }
+
 -- what a command makes of messages was written, and this was told; and the same, as far as a stop
 -- let it come
 abbrev pub Writes : {W E : Type 0} → Writing W → Writing E → Settings → Command → List Placed → (told : List ℕ) → Type 0
-Writes w e settings command = WritesMade Makes (first_state command settings.window) (is_check command) w e
+Writes w e settings command = WritesMade Makes (first_state command settings.window) (is_check command.output) w e
 
 abbrev pub WritesSome : {W E : Type 0} → Writing W → Writing E → Settings → Command → List Placed → (told : List ℕ) → RunStop → Type 0
-WritesSome w e settings command = LeavesMade Makes (first_state command settings.window) (is_check command) w e
+WritesSome w e settings command = LeavesMade Makes (first_state command settings.window) (is_check command.output) w e
 
 -- what a command does with what r reads, by the writers w and e, under these settings
 abbrev pub RunsWith : {R W E : Type 0} → Reading R → Writing W → Writing E → Settings → ℕ → Command → ExitStatus → Type 0
-RunsWith r w e settings most command end = RunsBy Makes (first_state command settings.window) is_full (is_check command) r w e settings most end
+RunsWith r w e settings most command end = RunsBy Makes (first_state command settings.window) is_full (is_check command.output) r w e settings most end

@@ -11,7 +11,10 @@ use Rattle.cli_run.specs.declared.visitor.RunStop.{RunStop}
 use Rattle.cli_run.specs.declared.visitor.RunStop.TheVariants.{Cause as ByCause, Untold}
 use Rattle.std.specs.List.{concat}
 use Rattle.std.proofs.lemmas.List.Folds.{concat-append}
+use Rattle.dbus_names.specs.NameStates.{NameState}
+use Rattle.cli_options.specs.declared.selection.Selection.{Selection}
 use Rattle.cli_options.specs.declared.window.Window.{Window}
+use Rattle.cli_run.specs.Learning.{known_after, known_after_all}
 use Rattle.cli_run.specs.Output.{after, at_most, written}
 use Rattle.cli_run.specs.Inputs.{Placed}
 use Rattle.cli_run.specs.Visiting.{AddsUp}
@@ -115,6 +118,12 @@ written_more window now a b e = ap (λ w. written window a ++ written w b) e ∙
 
 pub after_more : (window now : Window) (a b : List (List ℕ)) → now ≡ after window (length a) → after now (length b) ≡ after window (length (a ++ b))
 after_more window now a b e = ap (λ w. after w (length b)) e ∙ (after_both window (length a) (length b) ∙ ap (λ n. after window n) (sym (length-append a b)))
+
+-- ---- what is known after messages, and after others
+
+pub known_both : (selection : Option Selection) (os : NameState) (s t : List Placed) → known_after_all selection (known_after_all selection os s) t ≡ known_after_all selection os (s ++ t)
+known_both selection os [] t = refl
+known_both selection os (m ∷ s) t = known_both selection (known_after selection os m.item.message) s t
 
 -- ---- what writes an output
 

@@ -7,7 +7,7 @@ ghost use Rattle.cli_run.specs.CallListing.{CallsState, EndsCalls, FollowRising,
 
 use crate::byte_draft::{ByteDraft, LentDraft};
 use crate::ending::run_to_end;
-use crate::line_selector::{known_names, learn_names};
+use crate::line_names::{known_names, learn_names};
 use crate::place::Lent;
 use crate::renderer::{EndRenderer, Renderer};
 use cli_options::Settings;

@@ -15,7 +15,7 @@ pub fn some_output()
 {}
 
 /// It has no other, also if the packets are others, unless it writes messages as they are read.
-/// Others have `Show` with times and `Json`: times are those of packets, and the latter may write a
+/// Others have `Text` with times and `JsonLine`: times are those of packets, and the latter may write a
 /// DOUBLE by any digits that read back as its bits.
 pub fn one_output()
     ensures { OneOutput }
@@ -26,7 +26,7 @@ pub fn one_front()
     ensures { OneFront }
 {}
 
-/// What `Swap` and `Filter` write as they are read, of messages that came in packets, is a pcap
+/// What `InOrder` and `AsIs` write as they are read, of messages that came in packets, is a pcap
 /// file. A capture reads it whole, and gives what they write of these messages raw.
 pub fn file_is_read()
     ensures { WritesFile }
@@ -38,17 +38,17 @@ pub fn plain_run<R: Source, W: Sink, E: Sink>()
 {}
 
 /// Two runs of a command by the same settings, neither of which failed, that read the same input
-/// end with the same status, and their writers got the same bytes; but `Json` may write a DOUBLE by
+/// end with the same status, and their writers got the same bytes; but `JsonLine` may write a DOUBLE by
 /// other digits that read back as its bits, and times are others if the packets are. Both inputs
 /// are of the same packets if a message is refused, since its line has the packet of its fault, and
-/// of `Swap` and `Filter` that write messages as they are read. If what is refused is explained, or
+/// of `InOrder` and `AsIs` that write messages as they are read. If what is refused is explained, or
 /// told as JSON, both had read as many bytes of each such message when it was, since these are
 /// shown, and in JSON its header fields have no DOUBLE.
 pub fn one_run<R, S, W, V, E, F>()
     ensures { OneRun R S W V E F }
 {}
 
-/// The same of two runs of a command under the same limits alone, but `Json`, and `Show` with
+/// The same of two runs of a command under the same limits alone, but `JsonLine`, and `Text` with
 /// times.
 pub fn one_within<R, S, W, V, E, F>()
     ensures { OneWithin R S W V E F }

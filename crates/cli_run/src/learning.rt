@@ -1,5 +1,5 @@
 //! The owners of names that the messages of an input tell.
-ghost use Rattle.std.specs.Prelude.{◌≡◌, OnOk, option_map};
+ghost use Rattle.std.specs.Prelude.{◌≡◌, OnOk, Some, option_map};
 ghost use Rattle.dbus_value_model.specs.declared.order.Order.{Order};
 ghost use Rattle.dbus_message_model.specs.Messages.{MessageTree};
 ghost use Rattle.dbus_view.specs.Views.{Views};
@@ -22,7 +22,7 @@ pub(crate) fn learn(
     names: &mut Names,
 ) -> Result<(), AllocError>
     ensures { (order : Order) (m : MessageTree) → Views view.now order m →
-        OnOk result (state_of names.new ≡ known_after selection.now (state_of names.old) m) }
+        OnOk result (state_of names.new ≡ known_after (Some selection.now) (state_of names.old) m) }
 {
     if !selection.learns {
         return Ok(());

@@ -3,7 +3,7 @@
 //! [`run_within`] runs a command under limits, with at most a given number of reads, [`run_with`]
 //! by settings, [`list_lines`] writes a line for each message, [`count_by_name`] counts messages by
 //! their names, [`list_calls`] lists their calls, and [`sum_calls`] sums these up. Each returns the
-//! exit status. `specs/` states what a command writes: of all but `Json` and lines it is a function
+//! exit status. `specs/` states what a command writes: of all but lines of JSON and of `list` it is a function
 //! of what it reads.
 #![tactic(auto)]
 
@@ -15,16 +15,16 @@ mod closing;
 mod counted;
 mod counting;
 mod ending;
-mod filtering;
 mod framing;
 mod going;
 mod handing;
 pub mod laws;
 mod learning;
 mod line_listing;
-mod line_selector;
+mod line_names;
 mod output;
 mod output_writer;
+mod picking;
 mod place;
 mod renderer;
 mod running;

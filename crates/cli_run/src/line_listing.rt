@@ -14,9 +14,11 @@ ghost use Rattle.cli_run.specs.LineListing.{LinesState, ListsLines, MakesLines, 
 
 use crate::byte_draft::ByteDraft;
 use crate::ending::run_by;
-use crate::line_selector::{LineSelector, beside, first_names, learn_names};
+use crate::line_names::{beside, learn_names};
+use crate::picking::{first_names, selector_of, selects};
 use crate::place::Lent;
 use crate::renderer::Renderer;
+use crate::selector::Selector;
 use crate::showing::line_place;
 use crate::window::{is_spent, lets_through};
 use cli_options::{Settings, WantedLines, Window};
@@ -34,8 +36,10 @@ use std::alloc::{AllocError, Global};
 /// What makes the lines of messages.
 #[derive(Drop)]
 pub(crate) struct LineRenderer<'s> {
-    /// Which messages are listed.
-    pub(crate) selector: LineSelector<'s>,
+    /// Which messages are listed; without a selector, all.
+    pub(crate) selector: Option<Selector<'s>>,
+    /// The most cells of a line.
+    pub(crate) width: u16,
     /// The window for the messages that follow.
     pub(crate) window: Window,
     /// Who has which name.
@@ -79,7 +83,7 @@ impl Renderer for LineRenderer<'_> {
         let Ok(answered) = self.calls.take(place, &message) else {
             return Err(AllocError);
         };
-        let selected = self.selector.selects(&view, &self.names);
+        let selected = selects(&self.selector, &view, &self.names);
         let Ok(_) = learn_names(&message, &mut self.names) else {
             return Err(AllocError);
         };
@@ -90,7 +94,7 @@ impl Renderer for LineRenderer<'_> {
             return Ok(());
         }
         let told = beside(&view, place.time, &answered, &self.names);
-        write_listed(draft, self.selector.width, lent, told);
+        write_listed(draft, self.width, lent, told);
         Ok(())
     }
 
@@ -147,14 +151,15 @@ pub fn list_lines<R: Source, W: Sink, E: Sink>(
         (writing E.held E.failures second.old second.new)
         settings wanted.now (2 ^ 32) result }
 {
-    let Ok(selector) = LineSelector::new(alloc, wanted) else {
+    let Ok(selector) = selector_of(&wanted.selection) else {
         return give_up(Cause::Memory, second);
     };
-    let Ok(names) = first_names(alloc, wanted) else {
+    let Ok(names) = first_names(alloc, &wanted.selection) else {
         return give_up(Cause::Memory, second);
     };
     let renderer = LineRenderer {
         selector,
+        width: wanted.width,
         window: settings.window,
         names,
         calls: CallTable::new(alloc),

@@ -30,16 +30,18 @@ use Rattle.dbus_match.specs.Matching.{Ownership, ownership, ownerships}
 use Rattle.dbus_rule.specs.RuleViews.{rule_pairs}
 use Rattle.cli_options.specs.CommandLine.{wire_app}
 use Rattle.cli_options.specs.Limiting.{HasLimits, HasResync, HasWindow, IsGiven, IsGivenNumber, IsNumberOf, IsRuleOf, is_on}
-use Rattle.cli_options.specs.Named.{AreRulesOf, HasEncoding, HasQuestion, HasSettings, HasWanted, IsNamedBy, IsSelectionGiven, Names, NamesCommand, rules_given, words_of}
+use Rattle.cli_options.specs.Named.{AreRulesOf, HasEncoding, HasQuestion, HasSelection, HasSettings, HasWanted, IsNamedBy, IsSelectionGiven, Names, NamesTask, rules_given, words_of}
 use Rattle.cli_options.specs.Worded.{fds_word, order_word, side_word}
 use Rattle.cli_options.specs.Owners.{AreOwnersOf, IsOwnerWord, lacks_owner, needs_owner, selection_lacks_owner, some_needs_owner, some_owns}
-use Rattle.cli_options.specs.Selections.{AreSameCommand, AreSameSelection}
+use Rattle.cli_options.specs.Selections.{AreSameSelected, AreSameSelection}
 use Rattle.cli_options.specs.declared.asked.Asked.{Asked}
-use Rattle.cli_options.specs.declared.asked.Asked.TheVariants.{Messages, Count, List as Listing, Calls, Encode, Handshake}
-use Rattle.cli_options.specs.declared.command.Command.{Command}
+use Rattle.cli_options.specs.declared.asked.Asked.TheVariants.{Messages, Encode, Handshake}
+use Rattle.cli_options.specs.declared.command.Output.TheVariants as output
+use Rattle.cli_options.specs.declared.command.Request.{Request}
+use Rattle.cli_options.specs.declared.command.Task.{Task}
+use Rattle.cli_options.specs.declared.command.Task.TheVariants.{Write, Count, Lines, Calls}
 use Rattle.cli_options.specs.declared.file_form.FileForm.{FileForm}
 use Rattle.cli_options.specs.declared.file_form.FileForm.TheVariants as files
-use Rattle.cli_options.specs.declared.command.Command.TheVariants.{Show, Json, Check, Swap, Filter}
 use Rattle.cli_options.specs.declared.resync.Resync.{Resync}
 use Rattle.cli_options.specs.declared.resync.Resync.TheVariants.{Off, Within}
 use Rattle.cli_options.specs.declared.selection.Question.{Question}
@@ -48,7 +50,6 @@ use Rattle.cli_options.specs.declared.selection.Selection.{Selection}
 use Rattle.cli_options.specs.declared.settings.Settings.{Settings}
 use Rattle.cli_options.specs.declared.wanted_calls.WantedCalls.{WantedCalls}
 use Rattle.cli_options.specs.declared.wanted_encoding.WantedEncoding.{WantedEncoding}
-use Rattle.cli_options.specs.declared.wanted_lines.WantedLines.{WantedLines}
 use Rattle.cli_options.specs.declared.window.Window.{Window}
 use Rattle.dbus_handshake_input.specs.Heard.{HeardLine, Reads, heard}
 use Rattle.dbus_handshake_input.specs.declared.fault.HandshakeFault.{HandshakeFault}
@@ -57,6 +58,7 @@ use Rattle.dbus_handshake_input.specs.declared.read_ahead.ReadAhead.{ReadAhead}
 use Rattle.dbus_handshake_input.specs.declared.size.HandshakeSize.{HandshakeSize}
 use Rattle.dbus_show_handshake.specs.ShownHandshakes.{line_text, size_line}
 use Rattle.dbus_show_handshake.specs.declared.lines.ShownLines.{ShownLines}
+use Rattle.cli_options.proofs.Nothing.{mark, marked, no_task}
 use Rattle.cli_report.specs.Devices.{writing}
 use Rattle.cli_report.specs.Gathering.{Gathers, Passes, Breaks, Goes}
 use Rattle.cli_report.specs.PageLaws.{breaks_after, joins, passes_both}
@@ -66,10 +68,7 @@ use Rattle.dbus_tool.specs.Handshaking.{GathersLines, IsListed, PutsLines, Write
 
 -- the same is asked for
 abbrev pub AreSameAsked : Asked → Asked → Type 0
-AreSameAsked (Messages c s) (Messages d t) = AreSameCommand c d × (s ≡ t)
-AreSameAsked (Count s) (Count t) = s ≡ t
-AreSameAsked (Listing s a) (Listing t b) = (s ≡ t) × AreSameSelection a.selection b.selection × (a.width ≡ b.width)
-AreSameAsked (Calls s f) (Calls t g) = (s ≡ t) × (f ≡ g)
+AreSameAsked (Messages a) (Messages b) = (a.task ≡ b.task) × AreSameSelected a.selection b.selection × (a.settings ≡ b.settings)
 AreSameAsked (Encode a) (Encode b) = a ≡ b
 AreSameAsked (Handshake a) (Handshake b) = a ≡ b
 AreSameAsked a b = ⊥
@@ -252,8 +251,8 @@ same_question rows questions.MayMatch questions.MayMatch p q = refl
 same_question rows questions.Matches questions.MayMatch p q = absurd (p q)
 same_question rows questions.MayMatch questions.Matches p q = absurd (q p)
 
-same_selection : (rows : List Row) (a b : Selection) → IsSelectionGiven rows a → IsSelectionGiven rows b → AreSameSelection a b
-same_selection rows a b p q = record {
+same_selection : (name : Text) (rows : List Row) (a b : Selection) → IsSelectionGiven name rows a → IsSelectionGiven name rows b → AreSameSelection a b
+same_selection name rows a b p q = record {
   rules = same_rules (rules_given rows) a.rules.items b.rules.items p.rules q.rules;
   inverted = same_flag a.is_inverted b.is_inverted p.inverted q.inverted;
   question = same_question rows a.question b.question p.question q.question;
@@ -262,43 +261,23 @@ same_selection rows a b p q = record {
   as_bus = same_flag a.as_bus b.as_bus p.as_bus q.as_bus;
 }
 
+same_made : (name : Text) (rows : List Row) (a b : Option Selection) → HasSelection name rows a → HasSelection name rows b → AreSameSelected a b
+same_made name rows None None p q = tt
+same_made name rows None (Some b) p q = absurd (q.2.0 p.2)
+same_made name rows (Some a) None p q = absurd (p.2.0 q.2)
+same_made name rows (Some a) (Some b) p q = transport (λ i. AreSameSelection (sym p.2.1 i) (sym q.2.1 i)) (same_selection name rows p.0 q.0 p.1 q.1)
+
 same_order_word : (a b : Order) → order_word a ≡ order_word b → a ≡ b
 same_order_word Little Little e = refl
 same_order_word Big Big e = refl
 same_order_word Little Big e = let bad : ◌≡◌ {A = ℕ} 108 66 = ap (λ t. slice_index t 0) e in absurd (omega arith)
 same_order_word Big Little e = let bad : ◌≡◌ {A = ℕ} 66 108 = ap (λ t. slice_index t 0) e in absurd (omega arith)
 
--- the first two bytes of a name tell it from the others
-abbrev pub mark : Text → ℕ
-mark t = slice_index t 0 * 256 + slice_index t 1
-
-abbrev pub mark_of : Command → ℕ
-mark_of (Show times escapes) = mark (codes "show")
-mark_of (Json times safe) = mark (codes "json")
-mark_of Check = mark (codes "check")
-mark_of (Swap order form) = mark (codes "swap")
-mark_of (Filter selection form) = mark (codes "filter")
-
-pub marked : (name : Text) (rows : List Row) (command : Command) → NamesCommand name rows command → mark name ≡ mark_of command
-marked name rows (Show times escapes) h = ap mark h.0
-marked name rows (Json times safe) h = ap mark h.0
-marked name rows Check h = ap mark h
-marked name rows (Swap order form) h = ap mark h.0
-marked name rows (Filter selection form) h = ap mark h.0
-
 same_file_form : (a b : FileForm) {P : Type 0} → (a ≡ files.Raw) ↔ P → (b ≡ files.Raw) ↔ P → a ≡ b
 same_file_form files.Raw files.Raw p q = refl
 same_file_form files.AsRead files.AsRead p q = refl
 same_file_form files.Raw files.AsRead p q = sym (q.1 (p.0 refl))
 same_file_form files.AsRead files.Raw p q = p.1 (q.0 refl)
-
-same_command : (name : Text) (rows : List Row) (a b : Command) → NamesCommand name rows a → NamesCommand name rows b → AreSameCommand a b
-same_command name rows (Show a x) (Show b y) p q = (same_flag a b p.1 q.1, same_flag x y p.2 q.2)
-same_command name rows (Json a x) (Json b y) p q = (same_absent a b p.1 q.1, same_flag x y p.2 q.2)
-same_command name rows Check Check p q = tt
-same_command name rows (Swap a f) (Swap b g) p q = (same_order_word a b (some_is (order_word a) (order_word b) (sym p.1 ∙ q.1)), same_file_form f g p.2 q.2)
-same_command name rows (Filter a f) (Filter b g) p q = (same_selection rows a b p.1 q.1, same_file_form f g p.2 q.2)
-same_command name rows a b p q = absurd (let e = sym (marked name rows a p) ∙ marked name rows b q in omega (arith, e))
 
 -- ---- what is asked for
 
@@ -320,58 +299,47 @@ same_encoding rows a b p q =
     let max_line = same_number _ _ a.max_line b.max_line p.max_line.0 q.max_line.0 in
     λ i. record { limits = limits i; order = order i; safe_integers = safe_integers i; explains = explains i; keeps_going = keeps_going i; max_line = max_line i }
 
--- and what is asked for by it: all commands have one kind
-abbrev kind : ℕ → ℕ
-kind n = if nat_eq n (mark (codes "show")) || nat_eq n (mark (codes "json")) || nat_eq n (mark (codes "check")) || nat_eq n (mark (codes "swap")) || nat_eq n (mark (codes "filter")) then 0 else n
-
-abbrev kind_of : Asked → ℕ
-kind_of (Messages command settings) = 0
-kind_of (Count settings) = mark (codes "count")
-kind_of (Listing settings wanted) = mark (codes "list")
-kind_of (Calls settings wanted) = mark (codes "calls")
-kind_of (Encode wanted) = mark (codes "encode")
-kind_of (Handshake side) = mark (codes "handshake")
-
-command_kind : (command : Command) → kind (mark_of command) ≡ 0
-command_kind (Show times escapes) = refl
-command_kind (Json times safe) = refl
-command_kind Check = refl
-command_kind (Swap order form) = refl
-command_kind (Filter selection form) = refl
-
-kind_is : (sub : Text × List Row) (asked : Asked) → Names (Some sub) asked → kind (mark sub.0) ≡ kind_of asked
-kind_is sub (Messages command settings) p = ap kind (marked sub.0 sub.1 command p.0) ∙ command_kind command
-kind_is sub (Count settings) p = ap (λ (name : Text). kind (mark name)) p.0
-kind_is sub (Listing settings wanted) p = ap (λ (name : Text). kind (mark name)) p.0
-kind_is sub (Calls settings wanted) p = ap (λ (name : Text). kind (mark name)) p.0
-kind_is sub (Encode wanted) p = ap (λ (name : Text). kind (mark name)) p.0
-kind_is sub (Handshake side) p = ap (λ (name : Text). kind (mark name)) p.0
+same_task : (name : Text) (rows : List Row) (a b : Task) → NamesTask name rows a → NamesTask name rows b → a ≡ b
+same_task name rows (Write (output.Text a x)) (Write (output.Text b y)) p q = λ i. Write (output.Text (same_flag a b p.1 q.1 i) (same_flag x y p.2 q.2 i))
+same_task name rows (Write (output.JsonLine a x)) (Write (output.JsonLine b y)) p q = λ i. Write (output.JsonLine (same_absent a b p.1 q.1 i) (same_flag x y p.2 q.2 i))
+same_task name rows (Write output.Nothing) (Write output.Nothing) p q = refl
+same_task name rows (Write (output.InOrder a f)) (Write (output.InOrder b g)) p q = λ i. Write (output.InOrder (same_order_word a b (some_is (order_word a) (order_word b) (sym p.1 ∙ q.1)) i) (same_file_form f g p.2 q.2 i))
+same_task name rows (Write (output.AsIs f)) (Write (output.AsIs g)) p q = ap (λ (form : FileForm). Write (output.AsIs form)) (same_file_form f g p.1 q.1)
+same_task name rows Count Count p q = refl
+same_task name rows (Lines a) (Lines b) p q = ap Lines (same_number _ 80 a b p.1.0 q.1.0)
+same_task name rows (Calls a) (Calls b) p q = ap Calls (same_wanted rows a b p.1 q.1)
+same_task name rows Count (Write output.Nothing) p q = absurd (let e = sym (marked name rows Count p) ∙ marked name rows (Write output.Nothing) q in omega (arith, e))
+same_task name rows (Lines width) (Write output.Nothing) p q = absurd (let e = sym (marked name rows (Lines width) p) ∙ marked name rows (Write output.Nothing) q in omega (arith, e))
+same_task name rows (Calls wanted) (Write output.Nothing) p q = absurd (let e = sym (marked name rows (Calls wanted) p) ∙ marked name rows (Write output.Nothing) q in omega (arith, e))
+same_task name rows a b p q = absurd (let e = sym (marked name rows a p) ∙ marked name rows b q in omega (arith, e))
 
 same_named : (sub : Option (Text × List Row)) (a b : Asked) → Names sub a → Names sub b → AreSameAsked a b
 same_named None a b p q = absurd p
-same_named (Some sub) (Messages c s) (Messages d t) p q = (same_command sub.0 sub.1 c d p.0 q.0, same_settings sub.1 s t p.1 q.1)
-same_named (Some sub) (Count s) (Count t) p q = same_settings sub.1 s t p.1 q.1
-same_named (Some sub) (Listing s a) (Listing t b) p q =
-    (same_settings sub.1 s t p.1 q.1, same_selection sub.1 a.selection b.selection p.2.selection q.2.selection, same_number _ 80 a.width b.width p.2.width.0 q.2.width.0)
-same_named (Some sub) (Calls s f) (Calls t g) p q = (same_settings sub.1 s t p.1 q.1, same_wanted sub.1 f g p.2 q.2)
+same_named (Some sub) (Messages a) (Messages b) p q =
+    (same_task sub.0 sub.1 a.task b.task p.task q.task, same_made sub.0 sub.1 a.selection b.selection p.selection q.selection, same_settings sub.1 a.settings b.settings p.settings q.settings)
 same_named (Some sub) (Encode a) (Encode b) p q = same_encoding sub.1 a b p.1 q.1
 same_named (Some sub) (Handshake x) (Handshake y) p q = same_side_word x y (some_is (side_word x) (side_word y) (sym p.1 ∙ q.1))
-same_named (Some sub) a b p q = absurd (let e = sym (kind_is sub a p) ∙ kind_is sub b q in omega (arith, e))
+same_named (Some sub) (Messages a) (Encode b) p q = absurd ((no_task sub.0 sub.1 a.task p.task).1 q.0)
+same_named (Some sub) (Messages a) (Handshake y) p q = absurd ((no_task sub.0 sub.1 a.task p.task).0 q.0)
+same_named (Some sub) (Encode a) (Messages b) p q = absurd ((no_task sub.0 sub.1 b.task q.task).1 p.0)
+same_named (Some sub) (Handshake x) (Messages b) p q = absurd ((no_task sub.0 sub.1 b.task q.task).0 p.0)
+same_named (Some sub) (Encode a) (Handshake y) p q = absurd (let e = ap mark (sym p.0 ∙ q.0) in omega (arith, e))
+same_named (Some sub) (Handshake x) (Encode b) p q = absurd (let e = ap mark (sym p.0 ∙ q.0) in omega (arith, e))
 
 pub same_asked : (words : List Text) (a b : Asked) → IsNamedBy words a → IsNamedBy words b → AreSameAsked a b
 same_asked words a b p q = same_named (subcommand_of wire_app words) a b p q
 
+-- what is asked for of these messages
+abbrev pub request : Task → Settings → Option Selection → Request
+request task settings selection = record { task = task; selection = selection; settings = settings }
+
 -- what holds of each two that ask for one thing holds of two that ask for the same
-pub same_by : (P : Asked → Asked → Type 0) → ((c d : Command) (s : Settings) → AreSameCommand c d → P (Messages c s) (Messages d s)) → ((s : Settings) → P (Count s) (Count s))
-    → ((s : Settings) (a b : WantedLines) → AreSameSelection a.selection b.selection → P (Listing s a) (Listing s b)) → ((s : Settings) (wanted : WantedCalls) → P (Calls s wanted) (Calls s wanted))
+pub same_by : (P : Asked → Asked → Type 0) → ((task : Task) (settings : Settings) (a b : Option Selection) → AreSameSelected a b → P (Messages (request task settings a)) (Messages (request task settings b)))
     → ((wanted : WantedEncoding) → P (Encode wanted) (Encode wanted)) → ((side : Side) → P (Handshake side) (Handshake side)) → (a b : Asked) → AreSameAsked a b → P a b
-same_by P messages count listing calls encode handshake (Messages c s) (Messages d t) h = subst (λ (x : Settings). P (Messages c s) (Messages d x)) h.1 (messages c d s h.0)
-same_by P messages count listing calls encode handshake (Count s) (Count t) h = subst (λ (x : Settings). P (Count s) (Count x)) h (count s)
-same_by P messages count listing calls encode handshake (Listing s a) (Listing t b) h = subst (λ (x : Settings). P (Listing s a) (Listing x b)) h.0 (listing s a b h.1)
-same_by P messages count listing calls encode handshake (Calls s f) (Calls t g) h = transport (λ i. P (Calls s f) (Calls (h.0 i) (h.1 i))) (calls s f)
-same_by P messages count listing calls encode handshake (Encode a) (Encode b) h = subst (λ (x : WantedEncoding). P (Encode a) (Encode x)) h (encode a)
-same_by P messages count listing calls encode handshake (Handshake a) (Handshake b) h = subst (λ (x : Side). P (Handshake a) (Handshake x)) h (handshake a)
-same_by P messages count listing calls encode handshake a b h = absurd h
+same_by P messages encode handshake (Messages a) (Messages b) h = transport (λ i. P (Messages a) (Messages (request (h.0 i) (h.2 i) b.selection))) (messages a.task a.settings a.selection b.selection h.1)
+same_by P messages encode handshake (Encode a) (Encode b) h = subst (λ (x : WantedEncoding). P (Encode a) (Encode x)) h (encode a)
+same_by P messages encode handshake (Handshake a) (Handshake b) h = subst (λ (x : Side). P (Handshake a) (Handshake x)) h (handshake a)
+same_by P messages encode handshake a b h = absurd h
 
 -- ---- owners that lack
 
@@ -388,13 +356,9 @@ selection_lacks a b h =
     = list_any-map (λ p. needs_owner a.owners.items (sender_of p)) rule_pairs a.rules.items ∙ ((λ i. list_any (λ p. needs i (sender_of p)) (h.rules i)) ∙ sym (list_any-map (λ p. needs_owner b.owners.items (sender_of p)) rule_pairs b.rules.items)) in
     λ i. not (h.learns i) && some i
 
--- the same commands lack them
-pub same_lacks : (a b : Command) → AreSameCommand a b → lacks_owner a ≡ lacks_owner b
-same_lacks (Show a x) (Show b y) h = refl
-same_lacks (Json a x) (Json b y) h = refl
-same_lacks Check Check h = refl
-same_lacks (Swap a f) (Swap b g) h = refl
-same_lacks (Filter a f) (Filter b g) h = selection_lacks a b h.0
+pub same_lacks : (a b : Option Selection) → AreSameSelected a b → lacks_owner a ≡ lacks_owner b
+same_lacks None None h = refl
+same_lacks (Some a) (Some b) h = selection_lacks a b h
 same_lacks a b h = absurd h
 
 -- The text of the lines of a handshake, by what its page gained.

@@ -25,20 +25,20 @@ use Rattle.dbus_rule.specs.declared.rule.Rule.{Rule}
 use Rattle.dbus_rule.specs.Rules.{SpellsRule}
 use Rattle.dbus_rule.specs.RuleViews.{rule_pairs}
 use Rattle.cli_options.specs.CommandLine.{wire_app}
-use Rattle.cli_options.specs.Named.{AreRulesOf, HasRefused, HasRuleFault, IsNamedBy, IsSelectionGiven, Names, TakesRules}
-use Rattle.cli_options.specs.Selections.{AreSameCommand}
+use Rattle.cli_options.specs.Named.{AreRulesOf, HasRefused, HasRuleFault, IsNamedBy, IsSelectionGiven, Names}
+use Rattle.cli_options.specs.Selections.{AreSameSelected}
 use Rattle.cli_options.specs.Told.{TellsFault}
 use Rattle.cli_options.specs.Owners.{lacks_owner}
 use Rattle.cli_options.specs.declared.asked.Asked.{Asked}
 use Rattle.cli_options.specs.declared.file_form.FileForm.{FileForm}
 use Rattle.cli_options.specs.declared.file_form.FileForm.TheVariants.{AsRead, Raw}
-use Rattle.cli_options.specs.declared.asked.Asked.TheVariants.{Messages, Count, List as Listing, Calls, Encode, Handshake}
+use Rattle.cli_options.specs.declared.asked.Asked.TheVariants.{Messages, Encode, Handshake}
+use Rattle.cli_options.specs.declared.command.Request.{Request}
+use Rattle.cli_options.specs.declared.command.Task.{Task}
+use Rattle.cli_options.specs.declared.command.Task.TheVariants.{Write, Count, Lines, Calls}
 use Rattle.dbus_handshake_input.specs.declared.side.Side.{Side}
-use Rattle.cli_options.specs.declared.command.Command.{Command}
-use Rattle.cli_options.specs.declared.command.Command.TheVariants.{Filter}
 use Rattle.cli_options.specs.declared.selection.Selection.{Selection}
 use Rattle.cli_options.specs.declared.settings.Settings.{Settings}
-use Rattle.cli_options.specs.declared.wanted_calls.WantedCalls.{WantedCalls}
 use Rattle.cli_options.specs.declared.wanted_encoding.WantedEncoding.{WantedEncoding}
 use Rattle.cli_options.specs.declared.usage_fault.RefusedRule.{RefusedRule}
 use Rattle.cli_options.specs.declared.usage_fault.UsageFault.{UsageFault}
@@ -50,17 +50,15 @@ use Rattle.cli_report.specs.Gathering.{Passes}
 use Rattle.cli_report.specs.declared.gathering.Unwritten.{Unwritten}
 use Rattle.cli_run.specs.Laws.{AreOfOneInput, AreOfSamePackets, AreToldAlike, EndAlike, GotAlike, ReadAlike, TellsOne}
 use Rattle.dbus_call_lines.specs.declared.wanted.Wanted.{Wanted}
-use Rattle.cli_run.specs.Output.{AreAlike, IsExact, form_of}
-use Rattle.cli_run.proofs.SameOutputs.{acts_as}
+use Rattle.cli_run.specs.Output.{AreAlike, form_of}
 use Rattle.cli_run.specs.VisitorLaws.{wrote_both, wrote_nothing}
 use Rattle.cli_run.proofs.SameRuns.{one_calls, one_count, one_run, one_sums}
 use Rattle.cli_encode_laws.proofs.OneEncoding.{one_encoding}
-use Rattle.dbus_tool.specs.Alike.{AskAlike, IsOneWay, OneProgram, RunAlike, TellsOneBehind}
+use Rattle.dbus_tool.specs.Alike.{AskAlike, IsOneTask, IsOneWay, OneProgram, RunAlike, TaskAlike, TellsOneBehind}
 use Rattle.dbus_tool.specs.Handshaking.{TakesHandshake, TellsHandshake, ahead, handshake_line, EndsList, IsListed, Lengthens, Lists, WritesLines, last_line}
 use Rattle.dbus_tool.specs.Words.{Does, DoesBy, DoesCalls, DoesTask, Notes, RunsNoted, calls_wanted, encoding_wanted, owner_note, table_form}
-use Rattle.dbus_tool.specs.declared.words.Task.{Task}
-use Rattle.dbus_tool.specs.declared.words.Task.TheVariants.{Run, CountAll, ListAll}
-use Rattle.dbus_tool.proofs.SameAsked.{AreSameAsked, mark, mark_of, marked, same_asked, same_by, same_lacks}
+use Rattle.cli_options.proofs.Nothing.{no_task}
+use Rattle.dbus_tool.proofs.SameAsked.{AreSameAsked, request, same_asked, same_by, same_lacks}
 
 -- ---- words that name something have no rule that is refused
 
@@ -70,27 +68,18 @@ spelled_at [] after text (rule ∷ rules) h = (rule, h.0)
 spelled_at (first ∷ before) after text [] h = absurd h
 spelled_at (first ∷ before) after text (rule ∷ rules) h = spelled_at before after text rules h.1
 
-none_refused : (rows : List Row) (selection : Selection) (refused : RefusedRule) → IsSelectionGiven rows selection → HasRefused rows refused → ⊥
-none_refused rows selection refused given fault =
+none_refused : (name : Text) (rows : List Row) (selection : Selection) (refused : RefusedRule) → IsSelectionGiven name rows selection → HasRefused rows refused → ⊥
+none_refused name rows selection refused given fault =
     let first = fault.first in
     let rules = subst (λ (l : List Text). AreRulesOf l selection.rules.items) first.texts_are given.rules in
     let at = spelled_at first.before first.after (string_bytes refused.text) selection.rules.items rules in
     not_both (string_bytes refused.text) (rule_pairs at.0) refused.reason refused.at at.1 first.fault
 
--- a name that has neither mark takes no rules
-takes_none : (name : Text) (rows : List Row) (own : ℕ) → mark name ≡ own → (own ≡ mark (codes "filter") → ⊥) → (own ≡ mark (codes "list") → ⊥) → TakesRules name rows → ⊥
-takes_none name rows own is f l (inl named) = f (sym is ∙ ap mark named)
-takes_none name rows own is f l (inr named) = l (sym is ∙ ap mark named.0)
-
 no_fault : (sub : Option (Text × List Row)) (asked : Asked) (refused : RefusedRule) → Names sub asked → HasRuleFault sub refused → ⊥
 no_fault None asked refused p h = p
-no_fault (Some sub) (Messages (Filter selection form) settings) refused p h = none_refused sub.1 selection refused p.0.1 h.0.refuses
-no_fault (Some sub) (Messages command settings) refused p h = takes_none sub.0 sub.1 (mark_of command) (marked sub.0 sub.1 command p.0) (λ e. omega (arith, e)) (λ e. omega (arith, e)) h.0.named
-no_fault (Some sub) (Count settings) refused p h = takes_none sub.0 sub.1 (mark (codes "count")) (ap mark p.0) (λ e. omega (arith, e)) (λ e. omega (arith, e)) h.0.named
-no_fault (Some sub) (Listing settings wanted) refused p h = none_refused sub.1 wanted.selection refused p.2.selection h.0.refuses
-no_fault (Some sub) (Calls settings wanted) refused p h = takes_none sub.0 sub.1 (mark (codes "calls")) (ap mark p.0) (λ e. omega (arith, e)) (λ e. omega (arith, e)) h.0.named
-no_fault (Some sub) (Encode wanted) refused p h = takes_none sub.0 sub.1 (mark (codes "encode")) (ap mark p.0) (λ e. omega (arith, e)) (λ e. omega (arith, e)) h.0.named
-no_fault (Some sub) (Handshake side) refused p h = takes_none sub.0 sub.1 (mark (codes "handshake")) (ap mark p.0) (λ e. omega (arith, e)) (λ e. omega (arith, e)) h.0.named
+no_fault (Some sub) (Messages request) refused p h = none_refused sub.0 sub.1 p.selection.0 refused p.selection.1 h.0
+no_fault (Some sub) (Encode wanted) refused p h = (no_task sub.0 sub.1 h.1.0 h.1.1).1 p.0
+no_fault (Some sub) (Handshake side) refused p h = (no_task sub.0 sub.1 h.1.0 h.1.1).0 p.0
 
 module _ {R W E : Type 0} (left : R → Option (List ℕ)) (calls failures : R → ℕ) (packets : R → Option Packets) (packet : R → Option Packet) (old new : ReadAhead R) (w : Writing W) (e : Writing E) (words : List Text) (named_one : Asked) (named_is : IsNamedBy words named_one) (faultless : fault_of wire_app words ≡ []) (end : ExitStatus) (done : end ≢ status.Failed) where
   pub answer_is : (answer : Result Asked UsageFault) → IfOk answer (IsNamedBy words) → TellsFault words answer → Does left calls failures packets packet old new w e answer end
@@ -108,16 +97,15 @@ module _ {R W E : Type 0} (left : R → Option (List ℕ)) (calls failures : R �
 -- ---- what is done in one way
 
 one_way_too : (end : ExitStatus) (a b : Asked) → AreSameAsked a b → IsOneWay end a → IsOneWay end b
-one_way_too end = same_by (λ a b. IsOneWay end a → IsOneWay end b) (λ c d s same. (acts_as c d same).exact) (λ s one. one) (λ s a b same one. one) (λ s wanted one. one) (λ wanted one. one) (λ side one. one)
+one_way_too end = same_by (λ a b. IsOneWay end a → IsOneWay end b) (λ task settings a b same one. one) (λ wanted one. one) (λ side one. one)
 
 -- without a note
-module _ {R W E : Type 0} (left : R → Option (List ℕ)) (calls failures : R → ℕ) (packets : R → Option Packets) (packet : R → Option Packet) (old new : ReadAhead R) (w : Writing W) (e : Writing E) (settings : Settings) where
-  pub unnoted : (c : Command) (end : ExitStatus) → end ≢ status.Failed → settings.explains ≡ false → RunsNoted left calls failures packets packet old new w e settings (lacks_owner c) (Run c) end
-      → DoesTask left calls failures packets packet old new w e settings (Run c) end
-  unnoted c end done off does = elim does [
+module _ {R W E : Type 0} (left : R → Option (List ℕ)) (calls failures : R → ℕ) (packets : R → Option Packets) (packet : R → Option Packet) (old new : ReadAhead R) (w : Writing W) (e : Writing E) (request : Request) where
+  pub unnoted : (end : ExitStatus) → end ≢ status.Failed → request.settings.explains ≡ false → RunsNoted left calls failures packets packet old new w e request end → DoesTask left calls failures packets packet old new w e request end
+  unnoted end done off does = elim does [
     | inl h ↦ (
-        let same : h.0 ≡ e.old = subst (λ (b : Bool). Notes e.held e.failures (b && lacks_owner c) e.old h.0 (Ok tt)) off h.1 in
-        subst (λ (x : E). DoesTask left calls failures packets packet old new w (writing e.held e.failures x e.new) settings (Run c) end) same h.2
+        let same : h.0 ≡ e.old = subst (λ (b : Bool). Notes e.held e.failures (b && lacks_owner request.selection) e.old h.0 (Ok tt)) off h.1 in
+        subst (λ (x : E). DoesTask left calls failures packets packet old new w (writing e.held e.failures x e.new) request end) same h.2
         )
     | inr h ↦ absurd (done h.2)
   ]
@@ -261,45 +249,42 @@ module _ {R S W V : Type 0} (one_table : OneTable) (left : R → Option (List �
   placed_alike AsRead run r s here = let all = here.1 run in (all.all, all.one, all.same)
 
   module _ {E F : Type 0} (e : Writing E) (f : Writing F) (settings : Settings) where
-    -- tasks end alike that do so with what follows a handshake
-    tasks_alike : (task copy : Task)
-        → ((r : ReadAhead R) (s : ReadAhead S) → FromHere r s → ((bytes : List ℕ) → (ahead left calls failures packets packet r r1).left r ≡ Some bytes → TellsOne (packets_of packets packet r) settings bytes end)
-        → DoesBy (ahead left calls failures packets packet r r1) w e settings task end → DoesBy (ahead other_left other_calls other_failures other_packets other_packet s s1) v f settings copy other → EndAlike w v e f end other)
-        → Behind settings → DoesTask left calls failures packets packet r0 r1 w e settings task end → DoesTask other_left other_calls other_failures other_packets other_packet s0 s1 v f settings copy other → EndAlike w v e f end other
-    tasks_alike task copy from tells (inl h) (inl k) = from h.0 k.0 (taken_alike settings.handshake h.0 k.0 (Ok tt) (Ok tt) tt tt h.1 k.1).1 (λ bytes is. tells h.0 bytes h.1 is) h.2 k.2
-    tasks_alike task copy from tells (inl h) (inr k) =
-        let one = taken_alike settings.handshake h.0 s1 (Ok tt) (Err k.0) tt (fault_of_input f other other_done (Unit {0}) k.0 k.3) h.1 k.1 in
-        absurd (let is : ◌≡◌ {A = Result (Unit {0}) HandshakeFault} (Ok tt) (Err k.0) = one.0 in cc)
-    tasks_alike task copy from tells (inr h) (inl k) =
-        let one = taken_alike settings.handshake r1 k.0 (Err h.0) (Ok tt) (fault_of_input e end done (Unit {0}) h.0 h.3) tt h.1 k.1 in
-        absurd (let is : ◌≡◌ {A = Result (Unit {0}) HandshakeFault} (Err h.0) (Ok tt) = one.0 in cc)
-    tasks_alike task copy from tells (inr h) (inr k) =
-        let one = taken_alike settings.handshake r1 s1 (Err h.0) (Err k.0) (fault_of_input e end done (Unit {0}) h.0 h.3) (fault_of_input f other other_done (Unit {0}) k.0 k.3) h.1 k.1 in
-        let same : h.0 ≡ k.0 = let is : ◌≡◌ {A = Result (Unit {0}) HandshakeFault} (Err h.0) (Err k.0) = one.0 in cc in
-        let all = tells_alike e f end other done other_done h.0 k.0 same h.3 k.3 in
-        record { status_is = all.0; first = ([], wrote_none w.held w.failures w.old w.new h.2, wrote_none v.held v.failures v.old v.new k.2); second = all.1 }
-
-    runs_alike : (c d : Command) → Runs (form_of c) → AreSameCommand c d → IsExact c → Behind settings → DoesTask left calls failures packets packet r0 r1 w e settings (Run c) end → DoesTask other_left other_calls other_failures other_packets other_packet s0 s1 v f settings (Run d) other
-        → EndAlike w v e f end other
-    runs_alike c d run same exact = tasks_alike (Run c) (Run d) (λ r s here tells does doing.
-        (one_run (ReadAhead R) (ReadAhead S) W V E F (ahead left calls failures packets packet r r1) (ahead other_left other_calls other_failures other_packets other_packet s s1) w v e f settings _ _ c d end other same does doing
-        (record { input = here.0; told = told_from r s here (told_of (form_of c) run); one = tells here.0.0 here.0.2; done = done; other_done = other_done })).1 exact (placed_alike (form_of c) run r s here))
-
-    counts_alike : Same r0 s0 → Behind settings → DoesTask left calls failures packets packet r0 r1 w e settings CountAll end → DoesTask other_left other_calls other_failures other_packets other_packet s0 s1 v f settings CountAll other → EndAlike w v e f end other
-    counts_alike same = tasks_alike CountAll CountAll (λ r s here tells does doing.
-        (one_count (ReadAhead R) (ReadAhead S) W V E F one_table (ahead left calls failures packets packet r r1) (ahead other_left other_calls other_failures other_packets other_packet s s1) w v e f settings (table_form settings.as_json) _ _ end other does doing
-        (record { input = here.0; told = inl (here.1 same); one = tells here.0.0 here.0.2; done = done; other_done = other_done })).1 (here.1 same))
+    module _ (task : Task) (a b : Option Selection) where
+      -- tasks end alike that do so with what follows a handshake
+      tasks_alike : ((r : ReadAhead R) (s : ReadAhead S) → FromHere r s → ((bytes : List ℕ) → (ahead left calls failures packets packet r r1).left r ≡ Some bytes → TellsOne (packets_of packets packet r) settings bytes end)
+          → DoesBy (ahead left calls failures packets packet r r1) w e settings a task end → DoesBy (ahead other_left other_calls other_failures other_packets other_packet s s1) v f settings b task other → EndAlike w v e f end other)
+          → Behind settings → DoesTask left calls failures packets packet r0 r1 w e (request task settings a) end → DoesTask other_left other_calls other_failures other_packets other_packet s0 s1 v f (request task settings b) other → EndAlike w v e f end other
+      tasks_alike from tells (inl h) (inl k) = from h.0 k.0 (taken_alike settings.handshake h.0 k.0 (Ok tt) (Ok tt) tt tt h.1 k.1).1 (λ bytes is. tells h.0 bytes h.1 is) h.2 k.2
+      tasks_alike from tells (inl h) (inr k) =
+          let one = taken_alike settings.handshake h.0 s1 (Ok tt) (Err k.0) tt (fault_of_input f other other_done (Unit {0}) k.0 k.3) h.1 k.1 in
+          absurd (let is : ◌≡◌ {A = Result (Unit {0}) HandshakeFault} (Ok tt) (Err k.0) = one.0 in cc)
+      tasks_alike from tells (inr h) (inl k) =
+          let one = taken_alike settings.handshake r1 k.0 (Err h.0) (Ok tt) (fault_of_input e end done (Unit {0}) h.0 h.3) tt h.1 k.1 in
+          absurd (let is : ◌≡◌ {A = Result (Unit {0}) HandshakeFault} (Err h.0) (Ok tt) = one.0 in cc)
+      tasks_alike from tells (inr h) (inr k) =
+          let one = taken_alike settings.handshake r1 s1 (Err h.0) (Err k.0) (fault_of_input e end done (Unit {0}) h.0 h.3) (fault_of_input f other other_done (Unit {0}) k.0 k.3) h.1 k.1 in
+          let same : h.0 ≡ k.0 = let is : ◌≡◌ {A = Result (Unit {0}) HandshakeFault} (Err h.0) (Err k.0) = one.0 in cc in
+          let all = tells_alike e f end other done other_done h.0 k.0 same h.3 k.3 in
+          record { status_is = all.0; first = ([], wrote_none w.held w.failures w.old w.new h.2, wrote_none v.held v.failures v.old v.new k.2); second = all.1 }
 
     either_alike : (r : Reading (ReadAhead R)) (s : Reading (ReadAhead S)) (by_member : Bool) (wanted : Wanted) → AreOfSamePackets r s → DoesCalls r w e settings by_member wanted end → DoesCalls s v f settings by_member wanted other
         → AreOfOneInput r s settings end other → EndAlike w v e f end other
     either_alike r s true wanted same does doing is = one_sums (ReadAhead R) (ReadAhead S) W V E F r s w v e f settings wanted _ _ end other does doing is same
     either_alike r s false wanted same does doing is = one_calls (ReadAhead R) (ReadAhead S) W V E F r s w v e f settings wanted _ _ end other does doing is same
 
-    called_alike : (wanted : WantedCalls) → Same r0 s0 → Behind settings → DoesTask left calls failures packets packet r0 r1 w e settings (ListAll wanted) end → DoesTask other_left other_calls other_failures other_packets other_packet s0 s1 v f settings (ListAll wanted) other
-        → EndAlike w v e f end other
-    called_alike wanted same = tasks_alike (ListAll wanted) (ListAll wanted) (λ r s here tells does doing.
-        either_alike (ahead left calls failures packets packet r r1) (ahead other_left other_calls other_failures other_packets other_packet s s1) wanted.by_member (calls_wanted settings.as_json wanted) (here.1 same) does doing
-        (record { input = here.0; told = inl (here.1 same); one = tells here.0.0 here.0.2; done = done; other_done = other_done }))
+    -- what is asked for of the same messages
+    done_alike : (task : Task) (a b : Option Selection) → AreSameSelected a b → IsOneTask task → TaskAlike left calls failures packets packet other_left other_calls other_failures other_packets other_packet r0 r1 s0 s1 end task → Behind settings
+        → DoesTask left calls failures packets packet r0 r1 w e (request task settings a) end → DoesTask other_left other_calls other_failures other_packets other_packet s0 s1 v f (request task settings b) other → EndAlike w v e f end other
+    done_alike (Write output) a b same exact run = tasks_alike (Write output) a b (λ r s here tells does doing.
+        (one_run (ReadAhead R) (ReadAhead S) W V E F (ahead left calls failures packets packet r r1) (ahead other_left other_calls other_failures other_packets other_packet s s1) w v e f settings _ _ (record { output = output; selection = a }) (record { output = output; selection = b }) end other (refl, same) does doing
+        (record { input = here.0; told = told_from r s here (told_of (form_of output) run); one = tells here.0.0 here.0.2; done = done; other_done = other_done })).1 exact (placed_alike (form_of output) run r s here))
+    done_alike Count a b same exact run = tasks_alike Count a b (λ r s here tells does doing.
+        (one_count (ReadAhead R) (ReadAhead S) W V E F one_table (ahead left calls failures packets packet r r1) (ahead other_left other_calls other_failures other_packets other_packet s s1) w v e f settings (table_form settings.as_json) _ _ end other does doing
+        (record { input = here.0; told = inl (here.1 run); one = tells here.0.0 here.0.2; done = done; other_done = other_done })).1 (here.1 run))
+    done_alike (Calls wanted) a b same exact run = tasks_alike (Calls wanted) a b (λ r s here tells does doing.
+        either_alike (ahead left calls failures packets packet r r1) (ahead other_left other_calls other_failures other_packets other_packet s s1) wanted.by_member (calls_wanted settings.as_json wanted) (here.1 run) does doing
+        (record { input = here.0; told = inl (here.1 run); one = tells here.0.0 here.0.2; done = done; other_done = other_done }))
+    done_alike (Lines width) a b same exact run = absurd exact
 
   module _ {E F : Type 0} (e : Writing E) (f : Writing F) where
     listed_alike : (side : Side) → Lists left calls failures packets packet r0 r1 w e side end → Lists other_left other_calls other_failures other_packets other_packet s0 s1 v f side other → EndAlike w v e f end other
@@ -313,22 +298,21 @@ module _ {R S W V : Type 0} (one_table : OneTable) (left : R → Option (List �
         record { status_is = ends.0; first = (h.text ++ last_line h.read, h.wrote, subst (λ l. Wrote v.held v.failures v.old l v.new) (sym all) k.wrote); second = ends.1 }
 
     -- after a note that is due, or is not
-    noted_alike : (c d : Command) (settings : Settings) → Runs (form_of c) → AreSameCommand c d → IsExact c → Behind settings
-        → RunsNoted left calls failures packets packet r0 r1 w e settings (lacks_owner c) (Run c) end → RunsNoted other_left other_calls other_failures other_packets other_packet s0 s1 v f settings (lacks_owner d) (Run d) other
-        → EndAlike w v e f end other
-    noted_alike c d settings run same exact tells (inl h) (inl k) =
-        let all = runs_alike (writing e.held e.failures h.0 e.new) (writing f.held f.failures k.0 f.new) settings c d run same exact tells h.2 k.2 in
-        let due = settings.explains && lacks_owner c in
+    noted_alike : (task : Task) (settings : Settings) (a b : Option Selection) → AreSameSelected a b → IsOneTask task → TaskAlike left calls failures packets packet other_left other_calls other_failures other_packets other_packet r0 r1 s0 s1 end task → Behind settings
+        → RunsNoted left calls failures packets packet r0 r1 w e (request task settings a) end → RunsNoted other_left other_calls other_failures other_packets other_packet s0 s1 v f (request task settings b) other → EndAlike w v e f end other
+    noted_alike task settings a b same exact run tells (inl h) (inl k) =
+        let all = done_alike (writing e.held e.failures h.0 e.new) (writing f.held f.failures k.0 f.new) settings task a b same exact run tells h.2 k.2 in
+        let due = settings.explains && lacks_owner a in
         let here = noted e.held e.failures due e.old h.0 h.1 in
-        let there = noted f.held f.failures due f.old k.0 (subst (λ (b : Bool). Notes f.held f.failures (settings.explains && b) f.old k.0 (Ok tt)) (sym (same_lacks c d same)) k.1) in
+        let there = noted f.held f.failures due f.old k.0 (subst (λ (l : Bool). Notes f.held f.failures (settings.explains && l) f.old k.0 (Ok tt)) (sym (same_lacks a b same)) k.1) in
         let told = all.second in
         record {
           status_is = all.status_is;
           first = all.first;
           second = (note_if due ++ told.0, wrote_both e.held e.failures (note_if due) told.0 e.old h.0 e.new here told.1, wrote_both f.held f.failures (note_if due) told.0 f.old k.0 f.new there told.2);
         }
-    noted_alike c d settings run same exact tells (inl h) (inr k) = absurd (other_done k.2)
-    noted_alike c d settings run same exact tells (inr h) doing = absurd (done h.2)
+    noted_alike task settings a b same exact run tells (inl h) (inr k) = absurd (other_done k.2)
+    noted_alike task settings a b same exact run tells (inr h) doing = absurd (done h.2)
 
     -- two that ask for the same
     abbrev DoAlike : Asked → Asked → Type 0
@@ -341,8 +325,7 @@ module _ {R S W V : Type 0} (one_table : OneTable) (left : R → Option (List �
         record { status_is = both.status_is; first = both.first; second = both.second one }
 
     alike : (a b : Asked) → AreSameAsked a b → DoAlike a b
-    alike = same_by DoAlike (λ c d settings same one does doing told. noted_alike c d settings told.0 same one told.1 does doing) (λ settings one does doing told. counts_alike e f settings told.0 told.1 does doing)
-        (λ settings a b same one does doing told. absurd one) (λ settings wanted one does doing told. called_alike e f settings wanted told.0 told.1 does doing) encoded_alike (λ side one does doing told. listed_alike side does doing)
+    alike = same_by DoAlike (λ task settings a b same one does doing told. noted_alike task settings a b same one told.0 told.1 does doing) encoded_alike (λ side one does doing told. listed_alike side does doing)
 
 pub one_program : (R S W V E F : Type 0) → OneTable → OneProgram R S W V E F
 one_program R S W V E F one_table left calls failures packets packet other_left other_calls other_failures other_packets other_packet r0 r1 s0 s1 w v e f words end other one input done other_done runs ran told =

@@ -11,7 +11,9 @@ use Rattle.cli_options.specs.Named.{IsNamedBy}
 use Rattle.cli_options.specs.declared.asked.Asked.{Asked}
 use Rattle.cli_options.specs.declared.file_form.FileForm.{FileForm}
 use Rattle.cli_options.specs.declared.file_form.FileForm.TheVariants.{AsRead, Raw}
-use Rattle.cli_options.specs.declared.asked.Asked.TheVariants.{Messages, Count, List as Listing, Calls, Encode, Handshake}
+use Rattle.cli_options.specs.declared.asked.Asked.TheVariants.{Messages, Encode, Handshake}
+use Rattle.cli_options.specs.declared.command.Task.{Task}
+use Rattle.cli_options.specs.declared.command.Task.TheVariants.{Write, Lines}
 use Rattle.cli_options.specs.declared.settings.Settings.{Settings}
 use Rattle.cli_report.specs.Devices.{Reading, Writing}
 use Rattle.cli_report.specs.declared.ending.ExitStatus.{ExitStatus}
@@ -23,11 +25,13 @@ use Rattle.dbus_tool.specs.Words.{RunsWords}
 
 -- what is asked for is done in one way: it is neither `json` nor `list`, and no `show` with times,
 -- and `encode` refuses no line
+abbrev pub IsOneTask : Task → Type 0
+IsOneTask (Write output) = IsExact output
+IsOneTask (Lines width) = ⊥
+IsOneTask task = Unit {0}
+
 abbrev pub IsOneWay : (end : ExitStatus) → Asked → Type 0
-IsOneWay end (Messages command settings) = IsExact command
-IsOneWay end (Count settings) = Unit {0}
-IsOneWay end (Listing settings wanted) = ⊥
-IsOneWay end (Calls settings wanted) = Unit {0}
+IsOneWay end (Messages request) = IsOneTask request.task
 IsOneWay end (Encode wanted) = end ≡ status.Done
 IsOneWay end (Handshake side) = Unit {0}
 
@@ -55,12 +59,13 @@ module _ {R S : Type 0} (left : R → Option (List ℕ)) (calls failures : R →
   TellsOneBehind settings = (begun : ReadAhead R) (bytes : List ℕ) → TakesHandshake left calls failures packets packet settings.handshake r0 begun (Ok tt) → (ahead left calls failures packets packet begun r1).left begun ≡ Some bytes
       → TellsOne (packets_of packets packet begun) settings bytes end
 
-  -- what is asked for has one output: `count`, `list` and `calls` write times of packets too
+  -- what is done has one output: `count`, `list` and `calls` write times of packets too
+  abbrev pub TaskAlike : Task → Type 0
+  TaskAlike (Write output) = RunAlike (form_of output)
+  TaskAlike task = SamePackets
+
   abbrev pub AskAlike : Asked → Type 0
-  AskAlike (Messages command settings) = RunAlike (form_of command) × TellsOneBehind settings
-  AskAlike (Count settings) = SamePackets × TellsOneBehind settings
-  AskAlike (Listing settings wanted) = SamePackets × TellsOneBehind settings
-  AskAlike (Calls settings wanted) = SamePackets × TellsOneBehind settings
+  AskAlike (Messages request) = TaskAlike request.task × TellsOneBehind request.settings
   AskAlike (Encode wanted) = Unit {0}
   AskAlike (Handshake side) = Unit {0}
 

@@ -10,7 +10,8 @@ use Rattle.cli_options.specs.CommandLine.{wire_app}
 use Rattle.cli_options.specs.Limiting.{ask_more}
 use Rattle.cli_options.specs.Named.{IsNamedBy}
 use Rattle.cli_options.specs.declared.asked.Asked.TheVariants.{Messages, Encode}
-use Rattle.cli_options.specs.declared.command.Command.TheVariants.{Json}
+use Rattle.cli_options.specs.declared.command.Output.TheVariants.{JsonLine}
+use Rattle.cli_options.specs.declared.command.Task.TheVariants.{Write}
 use Rattle.cli_options.specs.declared.settings.Settings.{Settings}
 use Rattle.cli_options.specs.declared.wanted_encoding.WantedEncoding.{WantedEncoding}
 use Rattle.cli_report.specs.Devices.{Reading, Writing}
@@ -20,14 +21,14 @@ use Rattle.cli_encode_laws.specs.InputBack.{AreShort, IsDoneWith}
 use Rattle.dbus_tool.specs.Handshaking.{ahead}
 use Rattle.dbus_tool.specs.Words.{RunsWords}
 
--- The first words name `json`, with no options but limits, whether times are written and whether
--- integers are safe, and the others `encode`, with the same limits, integers safe or not as in the
--- first, and no other byte order.
+-- The first words name `json`, with no rules, and with no options but limits, whether times are
+-- written and whether integers are safe, and the others `encode`, with the same limits, integers
+-- safe or not as in the first, and no other byte order.
 pub record NameInverses (words others : List Text) : Type 0 where
   pub times : Bool
   pub safe : Bool
   pub settings : Settings
-  pub json : IsNamedBy words (Messages (Json times safe) settings)
+  pub json : IsNamedBy words (Messages (record { task = Write (JsonLine times safe); selection = None; settings = settings }))
   pub no_more : ask_more settings ≡ false
   pub no_handshake : settings.handshake ≡ None
   pub wanted : WantedEncoding

@@ -11,7 +11,7 @@ use Rattle.dbus_device.specs.declared.packet.Packet.{Packet}
 use Rattle.dbus_device.specs.declared.writing.WrittenOnly.{WrittenOnly}
 use Rattle.cli_options.specs.Named.{IsNamedBy}
 use Rattle.cli_options.specs.Told.{TellsFault}
-use Rattle.cli_options.specs.Owners.{lacks_owner, selection_lacks_owner}
+use Rattle.cli_options.specs.Owners.{lacks_owner}
 use Rattle.cli_run.specs.ByName.{CountsByName}
 use Rattle.cli_run.specs.CallListing.{ListsCalls}
 use Rattle.cli_run.specs.CallSumming.{SumsCalls}
@@ -24,7 +24,11 @@ use Rattle.cli_report.specs.Telling.{Told}
 use Rattle.dbus_handshake_input.specs.declared.fault.HandshakeFault.{HandshakeFault}
 use Rattle.dbus_handshake_input.specs.declared.read_ahead.ReadAhead.{ReadAhead}
 use Rattle.cli_options.specs.declared.asked.Asked.{Asked}
-use Rattle.cli_options.specs.declared.asked.Asked.TheVariants.{Messages, Count, List as Listing, Calls, Encode, Handshake}
+use Rattle.cli_options.specs.declared.asked.Asked.TheVariants.{Messages, Encode, Handshake}
+use Rattle.cli_options.specs.declared.command.Request.{Request}
+use Rattle.cli_options.specs.declared.command.Task.{Task}
+use Rattle.cli_options.specs.declared.command.Task.TheVariants.{Write, Count, Lines, Calls}
+use Rattle.cli_options.specs.declared.selection.Selection.{Selection}
 use Rattle.dbus_count.specs.declared.form.Form as tables
 use Rattle.dbus_count.specs.declared.form.Form.TheVariants as written
 use Rattle.dbus_call_lines.specs.declared.form.Form.TheVariants.{Text as InWords, Json as InJson}
@@ -38,8 +42,6 @@ use Rattle.cli_report.specs.declared.ending.ExitStatus.{ExitStatus}
 use Rattle.cli_report.specs.declared.ending.ExitStatus.TheVariants as status
 use Rattle.cli_report.specs.declared.ending.Cause.TheVariants as cause
 use Rattle.dbus_tool.specs.Handshaking.{Shows, StopsBy, TakesHandshake, TellsHandshake, ahead, Lists}
-use Rattle.dbus_tool.specs.declared.words.Task.{Task}
-use Rattle.dbus_tool.specs.declared.words.Task.TheVariants.{Run, CountAll, ListAll, ListLines}
 
 -- What is written of a rule that is refused.
 
@@ -83,13 +85,13 @@ abbrev pub DoesCalls : {R W E : Type 0} → Reading R → Writing W → Writing 
 DoesCalls r w e settings true wanted end = SumsCalls r w e settings wanted (2 ^ 32) end
 DoesCalls r w e settings false wanted end = ListsCalls r w e settings wanted (2 ^ 32) end
 
--- what is done with messages by settings: a command is run, they are counted by their names, their
--- calls are listed or summed up, or they are listed
-abbrev pub DoesBy : {R W E : Type 0} → Reading R → Writing W → Writing E → Settings → Task → ExitStatus → Type 0
-DoesBy r w e settings (Run command) end = RunsWith r w e settings (2 ^ 32) command end
-DoesBy r w e settings CountAll end = CountsByName r w e settings (table_form settings.as_json) (2 ^ 32) end
-DoesBy r w e settings (ListAll wanted) end = DoesCalls r w e settings wanted.by_member (calls_wanted settings.as_json wanted) end
-DoesBy r w e settings (ListLines wanted) end = ListsLines r w e settings wanted (2 ^ 32) end
+-- what is done with the messages that are selected, by settings: something is written of each, they
+-- are counted by their names, they are listed, or their calls are listed or summed up
+abbrev pub DoesBy : {R W E : Type 0} → Reading R → Writing W → Writing E → Settings → Option Selection → Task → ExitStatus → Type 0
+DoesBy r w e settings selection (Write output) end = RunsWith r w e settings (2 ^ 32) (record { output = output; selection = selection }) end
+DoesBy r w e settings selection Count end = CountsByName r w e settings (table_form settings.as_json) (2 ^ 32) end
+DoesBy r w e settings selection (Lines width) end = ListsLines r w e settings (record { selection = selection; width = width }) (2 ^ 32) end
+DoesBy r w e settings selection (Calls wanted) end = DoesCalls r w e settings wanted.by_member (calls_wanted settings.as_json wanted) end
 
 -- what is said of a rule whose sender has no owner
 abbrev pub owner_note : List ℕ
@@ -102,28 +104,29 @@ Notes held failures false old new (Err n) = ⊥
 Notes held failures true old new result = WritesAll held failures old owner_note new result
 
 module _ {R W E : Type 0} (left : R → Option (List ℕ)) (calls failures : R → ℕ) (packets : R → Option Packets) (packet : R → Option Packet) (old new : ReadAhead R) (w : Writing W) (e : Writing E) where
-  -- the task is done with all that the reader gives, or with what follows the handshake of a side;
-  -- or none was read, which was told
-  abbrev pub DoesTask : Settings → Task → ExitStatus → Type 0
-  DoesTask settings task end =
-      ((begun : ReadAhead R) × TakesHandshake left calls failures packets packet settings.handshake old begun (Ok tt) × DoesBy (ahead left calls failures packets packet begun new) w e settings task end)
-      ⊎ ((why : HandshakeFault) × TakesHandshake left calls failures packets packet settings.handshake old new (Err why) × (w.new ≡ w.old) × TellsHandshake e.held e.failures e.old e.new why end)
+  -- what is asked for is done with all that the reader gives, or with what follows the handshake of
+  -- a side; or none was read, which was told
+  abbrev pub DoesTask : Request → ExitStatus → Type 0
+  DoesTask request end =
+      ((begun : ReadAhead R) × TakesHandshake left calls failures packets packet request.settings.handshake old begun (Ok tt) × DoesBy (ahead left calls failures packets packet begun new) w e request.settings request.selection request.task end)
+      ⊎ ((why : HandshakeFault) × TakesHandshake left calls failures packets packet request.settings.handshake old new (Err why) × (w.new ≡ w.old) × TellsHandshake e.held e.failures e.old e.new why end)
+
+-- a note is due: an owner is not known, and explanations are asked for
+abbrev pub is_noted : Request → Bool
+is_noted request = request.settings.explains && lacks_owner request.selection
 
 module _ {R W E : Type 0} (left : R → Option (List ℕ)) (calls failures : R → ℕ) (packets : R → Option Packets) (packet : R → Option Packet) (old new : ReadAhead R) (w : Writing W) (e : Writing E) where
-  -- a note is written before the task is done, if an owner is not known; or a write of it failed
-  abbrev pub RunsNoted : Settings → (lacks_owner : Bool) → Task → ExitStatus → Type 0
-  RunsNoted settings lacks_owner task end =
-      ((begun : E) × Notes e.held e.failures (settings.explains && lacks_owner) e.old begun (Ok tt)
-      × DoesTask left calls failures packets packet old new w (writing e.held e.failures begun e.new) settings task end)
-      ⊎ ((new ≡ old) × (w.new ≡ w.old) × (end ≡ status.Failed) × (n : WrittenOnly) × Notes e.held e.failures (settings.explains && lacks_owner) e.old e.new (Err n))
+  -- the note is written before the task is done, if it is due; or a write of it failed
+  abbrev pub RunsNoted : Request → ExitStatus → Type 0
+  RunsNoted request end =
+      ((begun : E) × Notes e.held e.failures (is_noted request) e.old begun (Ok tt)
+      × DoesTask left calls failures packets packet old new w (writing e.held e.failures begun e.new) request end)
+      ⊎ ((new ≡ old) × (w.new ≡ w.old) × (end ≡ status.Failed) × (n : WrittenOnly) × Notes e.held e.failures (is_noted request) e.old e.new (Err n))
 
-  -- what is done for a command by its settings, for `count`, for `list`, for `calls`, for `encode`,
-  -- for the side whose handshake is listed, or for words that name nothing
+  -- what is done for messages, for `encode`, for the side whose handshake is listed, or for words
+  -- that name nothing
   abbrev pub Does : Result Asked UsageFault → ExitStatus → Type 0
-  Does (Ok (Messages command settings)) end = RunsNoted settings (lacks_owner command) (Run command) end
-  Does (Ok (Listing settings wanted)) end = RunsNoted settings (selection_lacks_owner wanted.selection) (ListLines wanted) end
-  Does (Ok (Count settings)) end = DoesTask left calls failures packets packet old new w e settings CountAll end
-  Does (Ok (Calls settings wanted)) end = DoesTask left calls failures packets packet old new w e settings (ListAll wanted) end
+  Does (Ok (Messages request)) end = RunsNoted request end
   Does (Ok (Encode wanted)) end = EncodesLines (ahead left calls failures packets packet old new) w e (encoding_wanted wanted) (2 ^ 32) end
   Does (Ok (Handshake side)) end = Lists left calls failures packets packet old new w e side end
   Does (Err Memory) end = (new ≡ old) × (w.new ≡ w.old) × StopsBy e.held e.failures e.old e.new cause.Memory end

@@ -13,8 +13,8 @@ mod words;
 
 pub use cli_encode::{Encoding, LineReason, Refusal, encode_lines};
 pub use cli_options::{
-    Asked, Command, RefusedRule, Selection, Settings, Side, UsageFault, WantedCalls,
-    WantedEncoding, WantedLines, Window, command_of,
+    Asked, Command, Output, RefusedRule, Request, Selection, Settings, Side, Task, UsageFault,
+    WantedCalls, WantedEncoding, WantedLines, Window, command_of,
 };
 pub use cli_report::ExitStatus;
 pub use cli_run::{run, run_reads, run_with, run_within};

@@ -1,16 +1,16 @@
 //! The program over the words of its command line.
-ghost use Rattle.std.specs.Prelude.{◌≡◌, ◌&&◌, map, string_bytes};
+ghost use Rattle.std.specs.Prelude.{◌≡◌, map, string_bytes};
 ghost use Rattle.cli_report.specs.Devices.{writing};
 ghost use Rattle.dbus_tool.specs.Handshaking.{Shows, TakesHandshake, TellsHandshake, Lists, ahead};
-ghost use Rattle.dbus_tool.specs.Words.{Does, DoesCalls, DoesTask, Notes, RefusesRule, RunsWords, ShowsText, calls_wanted, encoding_wanted, table_form};
+ghost use Rattle.dbus_tool.specs.Words.{Does, DoesCalls, DoesTask, Notes, RefusesRule, RunsWords, ShowsText, calls_wanted, encoding_wanted, is_noted, table_form};
 
 use crate::lines::handshake_line;
 use crate::listing::write_lines;
 use crate::rule_lines::rule_text;
 use cli_encode::{Encoding, encode_lines};
 use cli_options::{
-    Asked, Command, RefusedRule, Settings, UsageFault, WantedCalls, WantedEncoding, WantedLines,
-    command_of,
+    Asked, Command, RefusedRule, Request, Settings, Task, UsageFault, WantedCalls, WantedEncoding,
+    WantedLines, command_of,
 };
 use cli_report::{Cause, ExitStatus, Unwritten, give_up};
 use cli_run::{count_by_name, list_calls, list_lines, run_with, sum_calls};
@@ -26,13 +26,13 @@ const OWNER_NOTE: &str =
 /// Does what [`run_with`] does for the command that the words name, of which the first is the
 /// program's name, by the settings that they name and with at most 2^32 reads. If the words ask for
 /// help, its text goes to the first writer. If they name no command, a text that says how goes to
-/// the second; and if they name `list` or `filter` with a text that spells no rule, `rule refused
+/// the second; and if they name a command with a text that spells no rule, `rule refused
 /// at P: NAME` and LF, the place in that text and the name of the reason, and then the lines that
 /// explain it, if they ask for explanations.
 ///
-/// If they ask for explanations, and a rule of `list` or `filter` asks for a well-known sender of
-/// which no owner is known, as `cli_options::Selection::lacks_owner` says, a line on the second
-/// writer says so first, and how to give owners.
+/// If they ask for explanations, and a rule of `filter` asks for a well-known sender of which no
+/// owner is known, as `cli_options::Selection::lacks_owner` says, a line on the second writer says
+/// so first, and how to give owners.
 ///
 /// If they name the side of a handshake, that is taken first, as
 /// `dbus_handshake_input::pass_handshake` does, by reads which are none of the 2^32; the run has
@@ -93,38 +93,10 @@ pub fn run_asked<R: Source, W: Sink, E: Sink>(
         (writing E.held E.failures second.old second.new) answer result }
 {
     match answer {
-        Ok(Asked::Messages(command, settings)) => {
-            match note_owners(command.lacks_owner(), settings, second) {
-                Ok(()) => do_task(alloc, Task::Run(command), settings, reader, first, second),
-                Err(WrittenOnly(_)) => ExitStatus::Failed,
-            }
-        }
-        Ok(Asked::List(settings, wanted)) => {
-            match note_owners(wanted.selection.lacks_owner(), settings, second) {
-                Ok(()) => do_task(
-                    alloc,
-                    Task::ListLines(wanted),
-                    settings,
-                    reader,
-                    first,
-                    second,
-                ),
-                Err(WrittenOnly(_)) => ExitStatus::Failed,
-            }
-        }
-        Ok(Asked::Count(settings)) => {
-            do_task(alloc, Task::CountAll, settings, reader, first, second)
-        }
-        Ok(Asked::Calls(settings, wanted)) => {
-            do_task(
-                alloc,
-                Task::ListAll(wanted),
-                settings,
-                reader,
-                first,
-                second,
-            )
-        }
+        Ok(Asked::Messages(request)) => match note_owners(&request, second) {
+            Ok(()) => do_task(alloc, request, reader, first, second),
+            Err(WrittenOnly(_)) => ExitStatus::Failed,
+        },
         Ok(Asked::Encode(wanted)) => encode_lines(
             alloc,
             encoding_wanted(wanted),
@@ -145,38 +117,20 @@ pub fn run_asked<R: Source, W: Sink, E: Sink>(
 
 // Says of a rule whose sender has no owner that it has none, if there is one and the settings
 // explain.
-fn note_owners<E: Sink>(
-    lacks_owner: bool,
-    settings: Settings,
-    second: &mut E,
-) -> Result<(), WrittenOnly>
-    ensures { Notes E.held E.failures (settings.explains && lacks_owner) second.old second.new result }
+fn note_owners<E: Sink>(request: &Request, second: &mut E) -> Result<(), WrittenOnly>
+    ensures { Notes E.held E.failures (is_noted request.now) second.old second.new result }
 {
-    if settings.explains && lacks_owner {
+    if request.settings.explains && request.lacks_owner() {
         write_all(second, OWNER_NOTE.as_bytes())
     } else {
         Ok(())
     }
 }
 
-// What is done with the messages of an input.
-#[derive(Drop)]
-enum Task {
-    // A command is run.
-    Run(Command),
-    // The messages are counted by their names.
-    CountAll,
-    // Their calls are listed, or summed up by their members.
-    ListAll(WantedCalls),
-    // They are listed, a line for each.
-    ListLines(WantedLines),
-}
-
-// Does it by the settings, after the handshake if they name its side.
+// Does what is asked for, after the handshake if the settings name its side.
 fn do_task<R: Source, W: Sink, E: Sink>(
     alloc: Global,
-    task: Task,
-    settings: Settings,
+    request: Request,
     reader: &mut ReadAhead<R>,
     first: &mut W,
     second: &mut E,
@@ -184,25 +138,26 @@ fn do_task<R: Source, W: Sink, E: Sink>(
     ensures { DoesTask R.left R.calls R.failures R.packets R.packet reader.old reader.new
         (writing W.held W.failures first.old first.new)
         (writing E.held E.failures second.old second.new)
-        settings task result }
+        request result }
 {
+    let Request {
+        task,
+        selection,
+        settings,
+    } = request;
     match take_handshake(alloc, settings.handshake, reader) {
         Ok(()) => match task {
-            Task::Run(command) => {
+            Task::Write(output) => {
+                let command = Command { output, selection };
                 run_with(alloc, command, settings, MOST_READS, reader, first, second)
             }
-            Task::CountAll => {
-                count_by_name(
-                    alloc,
-                    settings,
-                    table_form(settings.as_json),
-                    reader,
-                    first,
-                    second,
-                )
+            Task::Count => {
+                let form = table_form(settings.as_json);
+                count_by_name(alloc, settings, form, reader, first, second)
             }
-            Task::ListAll(wanted) => { do_calls(alloc, settings, wanted, reader, first, second) }
-            Task::ListLines(wanted) => {
+            Task::Calls(wanted) => do_calls(alloc, settings, wanted, reader, first, second),
+            Task::Lines(width) => {
+                let wanted = WantedLines { selection, width };
                 list_lines(alloc, settings, &wanted, reader, first, second)
             }
         },

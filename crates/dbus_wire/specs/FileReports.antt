@@ -2,7 +2,7 @@
 -- passed over, and the fault of the file, if it has one.
 use Rattle.std.specs.Prelude.{◌≡◌, ℕ, ◌⊎◌, ◌++◌, ◌==◌, nat_lt, ◌&&◌, ◌||◌, if◌then◌else◌, Bool, true, false, List, [], Option, Some, None, is_none, Result, Ok, Err, codes, decimal}
 use Rattle.cli_options.specs.declared.asked.Asked.{Asked}
-use Rattle.cli_options.specs.declared.asked.Asked.TheVariants.{Messages, Count, List as Listing, Calls, Encode}
+use Rattle.cli_options.specs.declared.asked.Asked.TheVariants.{Messages, Encode}
 use Rattle.cli_options.specs.declared.settings.Settings.{Settings}
 use Rattle.cli_options.specs.declared.usage_fault.UsageFault.{UsageFault}
 use Rattle.cli_report.specs.declared.ending.Cause.TheVariants as cause
@@ -24,10 +24,7 @@ takes_lines answer = false
 
 -- the settings of the command over messages that they ask for
 abbrev pub settings_of : Result Asked UsageFault → Option Settings
-settings_of (Ok (Messages command settings)) = Some settings
-settings_of (Ok (Count settings)) = Some settings
-settings_of (Ok (Listing settings wanted)) = Some settings
-settings_of (Ok (Calls settings wanted)) = Some settings
+settings_of (Ok (Messages request)) = Some request.settings
 settings_of answer = None
 
 -- how many packets were passed over, if any were: as text, or as an object of JSON

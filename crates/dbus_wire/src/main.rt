@@ -117,12 +117,7 @@ fn settings_of(asked: &Result<Asked, UsageFault>) -> Option<Settings>
     ensures { result ≡ settings_of asked.now }
 {
     match asked {
-        Ok(
-            Asked::Messages(_, settings)
-            | Asked::Count(settings)
-            | Asked::List(settings, _)
-            | Asked::Calls(settings, _),
-        ) => Some(*settings),
+        Ok(Asked::Messages(request)) => Some(request.settings),
         Ok(Asked::Encode(_) | Asked::Handshake(_)) | Err(_) => None,
     }
 }

@@ -1,7 +1,7 @@
 //! Copies, where memory is there: each says the same as what it was made of, and other values do
 //! not.
 
-use cli_options::{Asked, Command, command_of};
+use cli_options::{Asked, Command, Output, command_of};
 use dbus_auth::{EndStep, Mechanism, Status};
 use dbus_auth_lines::{ClientLine, ServerLine};
 use dbus_rule::{RuleFault, parse_rule};
@@ -55,7 +55,15 @@ fn commands(alloc: Global) -> Result<bool, AllocError> {
         words.push(String::from_str(alloc, word)?)?;
     }
     match command_of(alloc, words.as_slice()) {
-        Ok(Asked::Messages(command, _)) => is_copied(&command, &Command::Check),
+        Ok(Asked::Messages(request)) => {
+            let selection = request.selection;
+            let output = Output::Nothing;
+            let other = Command {
+                output,
+                selection: None,
+            };
+            is_copied(&Command { output, selection }, &other)
+        }
         _ => Ok(false),
     }
 }

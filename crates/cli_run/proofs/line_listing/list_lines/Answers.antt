@@ -20,4 +20,4 @@ returns-in_default-first_names g c =
 pub returns : goal.returns
 returns g c =
     c.run_by.ensures (first_lines c.args.wanted.now c.args.settings.window)
-    ([], λ i. record { wanted = record { selection = sym c.in-Ok.ensures.selection i; width = sym c.in-Ok.ensures.width i }; window = c.args.settings.window; names = sym c.in-Ok-first_names.ensures i; before = [] }, c.new-2.ensures) (λ items. tt)
+    ([], λ i. record { wanted = record { selection = sym c.in-Ok.ensures i; width = c.args.wanted.now.width }; window = c.args.settings.window; names = sym c.in-Ok-first_names.ensures i; before = [] }, c.new.ensures) (λ items. tt)

@@ -28,11 +28,11 @@ returns-in-InOrder-clause-writes g c = λ order m whole.
     let written = subst (λ (f : Front). OnOk c.swap.result (g.D.Draft.gains c.args.draft.now (after_front f (message_bytes wanted m)) c.swap.new.draft)) c.of-front.ensures (c.swap.ensures.swaps order m whole) in
     rw c.in-InOrder.is (framed (is_framed form place) place.time (message_bytes wanted m), refl, written)
 
-pub returns-in-Matching-clause-writes : goal.returns-in-Matching-clause-writes
-returns-in-Matching-clause-writes g c = λ order m whole.
-    let form = c.in-Matching.form in
+pub returns-in-AsIs-clause-writes : goal.returns-in-AsIs-clause-writes
+returns-in-AsIs-clause-writes g c = λ order m whole.
+    let form = c.in-AsIs.form in
     let place = c.args.lent.now.place in
     let bytes = c.args.lent.now.bytes.now in
     let is = bytes_are c.args.lent.now.limits bytes order m whole in
-    let written = subst (λ (f : Front). g.D.Draft.gains c.args.draft.now (after_front f bytes) c.write_message.new.draft) c.of-front-in-Matching.ensures c.write_message.ensures in
-    rw c.in-Matching.is (framed (is_framed form place) place.time bytes, ap (framed (is_framed form place) place.time) is, written)
+    let written = subst (λ (f : Front). g.D.Draft.gains c.args.draft.now (after_front f bytes) c.write_message.new.draft) c.of-front-in-AsIs.ensures c.write_message.ensures in
+    rw c.in-AsIs.is (framed (is_framed form place) place.time bytes, ap (framed (is_framed form place) place.time) is, written)

@@ -25,7 +25,7 @@ use Rattle.cli_run.proofs.line_listing.LineRendererRenderer.take.Goals as goal
 module _ (a : LineRenderer) (order : Order) (m : MessageTree) (place : MessagePlace) (size : ℕ) where
   -- how many lines there are of the message, if this is what came before it
   abbrev Lined : (before : List Numbered) → List (List ℕ) → Type 0
-  Lined before lines = AreLinesOfOne (asked a.selector) (state_of a.names) before order m place lines
+  Lined before lines = AreLinesOfOne (asked a) (state_of a.names) before order m place lines
 
   abbrev now : (before : List Numbered) → List (List ℕ) → LinesState
   now before lines = lines_after (state_at a before) (placed_at place order m size ∷ []) (length lines)
@@ -40,12 +40,12 @@ module _ (a : LineRenderer) (order : Order) (m : MessageTree) (place : MessagePl
 pub returns-in_default-clause-renders : goal.returns-in_default-clause-renders
 returns-in_default-clause-renders g c = λ order m whole.
     rendered c.args.self.now order m c.args.lent.now.place (length c.args.lent.now.bytes.now) (λ t text. Unit {0})
-    (λ before keeps. let some = some_lines_of_one (asked c.args.self.now.selector) (state_of c.args.self.now.names) before order m c.args.lent.now.place in (some.0, some.1, tt))
+    (λ before keeps. let some = some_lines_of_one (asked c.args.self.now) (state_of c.args.self.now.names) before order m c.args.lent.now.place in (some.0, some.1, tt))
 
 pub returns-in_default-learn_names-clause-renders : goal.returns-in_default-learn_names-clause-renders
 returns-in_default-learn_names-clause-renders g c = λ order m whole.
     rendered c.args.self.now order m c.args.lent.now.place (length c.args.lent.now.bytes.now) (λ t text. Unit {0})
-    (λ before keeps. let some = some_lines_of_one (asked c.args.self.now.selector) (state_of c.args.self.now.names) before order m c.args.lent.now.place in (some.0, some.1, tt))
+    (λ before keeps. let some = some_lines_of_one (asked c.args.self.now) (state_of c.args.self.now.names) before order m c.args.lent.now.place in (some.0, some.1, tt))
 
 pub returns-then-not-selected-clause-renders : goal.returns-then-not-selected-clause-renders
 returns-then-not-selected-clause-renders g c = λ order m whole.
@@ -59,7 +59,7 @@ returns-then-not-selected-clause-renders g c = λ order m whole.
       [],
       inr (λ is. absurd (false≢true (sym c.if-not-selected.true ∙ selects.1 is)), refl),
       (
-        (before ++ nth (number_and_time place) m ∷ [], λ i. record { wanted = asked was.selector; window = after_none was.window i; names = sym learned i; before = before ++ nth (number_and_time place) m ∷ [] }, c.in-Ok.ensures.keeps order m seen before keeps),
+        (before ++ nth (number_and_time place) m ∷ [], λ i. record { wanted = asked was; window = after_none was.window i; names = sym learned i; before = before ++ nth (number_and_time place) m ∷ [] }, c.in-Ok.ensures.keeps order m seen before keeps),
         subst (λ (l : List ℕ). g.D.Draft.gains c.args.draft.now l c.args.draft.now) (sym (written_none was.window)) (g.met.D.Draft.nothing c.args.draft.now),
       ),
     ))
@@ -73,12 +73,12 @@ returns-then-not-lets_through-clause-renders g c = λ order m whole.
     let place = c.args.lent.now.place in
     let learned : state_of c.learn_names.new.names ≡ names_after (state_of was.names) m = c.in-Ok-learn_names.ensures order m seen in
     rendered was order m place (length c.args.lent.now.bytes.now) (λ t text. StandsAt (record was { window = c.lets_through.new.window; names = c.learn_names.new.names; calls = c.take.new.self }) t × g.D.Draft.gains c.args.draft.now text c.args.draft.now) (λ before keeps.
-    let some = some_line (asked was.selector) (names_after (state_of was.names) m).names before order m place in
+    let some = some_line (asked was) (names_after (state_of was.names) m).names before order m place in
     let none : written was.window (some.0 ∷ []) ≡ [] = c.lets_through.ensures.lets some.0 ∙ ap (λ b. text_if b some.0) c.if-not-lets_through.true in (
       some.0 ∷ [],
       inl (selects.0 c.if-not-selected.false, some.0, some.1, refl),
       (
-        (before ++ nth (number_and_time place) m ∷ [], λ i. record { wanted = asked was.selector; window = sym c.lets_through.ensures.after i; names = sym learned i; before = before ++ nth (number_and_time place) m ∷ [] }, c.in-Ok.ensures.keeps order m seen before keeps),
+        (before ++ nth (number_and_time place) m ∷ [], λ i. record { wanted = asked was; window = sym c.lets_through.ensures.after i; names = sym learned i; before = before ++ nth (number_and_time place) m ∷ [] }, c.in-Ok.ensures.keeps order m seen before keeps),
         subst (λ (l : List ℕ). g.D.Draft.gains c.args.draft.now l c.args.draft.now) (sym none) (g.met.D.Draft.nothing c.args.draft.now),
       ),
     ))
@@ -96,12 +96,12 @@ returns-clause-renders g c = λ order m whole.
     let call = c.in-Ok.ensures.answered order m seen before keeps in
     let answered = option_map (told place.time) c.in-Ok.answered in
     let beside = c.beside-told.ensures order m views ∙ ap (λ (os : NameState). told_beside answered os.names m) learned in
-    let placed = subst (λ (t : Told). IsLine was.selector.width (line_place place) t order m line.0) beside line.1 in
+    let placed = subst (λ (t : Told). IsLine was.width (line_place place) t order m line.0) beside line.1 in
     let all : written was.window (line.0 ∷ []) ≡ line.0 = c.lets_through.ensures.lets line.0 ∙ ap (λ b. text_if b line.0) c.if-not-lets_through.false in (
       line.0 ∷ [],
       inl (selects.0 c.if-not-selected.false, line.0, (answered, call, placed), refl),
       (
-        (before ++ nth (number_and_time place) m ∷ [], λ i. record { wanted = asked was.selector; window = sym c.lets_through.ensures.after i; names = sym learned i; before = before ++ nth (number_and_time place) m ∷ [] }, c.in-Ok.ensures.keeps order m seen before keeps),
+        (before ++ nth (number_and_time place) m ∷ [], λ i. record { wanted = asked was; window = sym c.lets_through.ensures.after i; names = sym learned i; before = before ++ nth (number_and_time place) m ∷ [] }, c.in-Ok.ensures.keeps order m seen before keeps),
         subst (λ (l : List ℕ). g.D.Draft.gains c.args.draft.now l c.write_listed.new.draft) (sym all) line.2,
       ),
     ))

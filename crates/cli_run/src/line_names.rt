@@ -1,5 +1,5 @@
-//! Which messages are listed, and what their lines tell of connections.
-ghost use Rattle.std.specs.Prelude.{◌≡◌, ◌↔◌, IfOk, IsTrue, List, OnOk, option_and_then, option_map};
+//! What lines of messages and calls tell of connections.
+ghost use Rattle.std.specs.Prelude.{◌≡◌, OnOk, option_and_then, option_map};
 ghost use Rattle.dbus_value_model.specs.declared.order.Order.{Order};
 ghost use Rattle.dbus_message_model.specs.Messages.{MessageTree};
 ghost use Rattle.dbus_view.specs.Views.{Views};
@@ -8,82 +8,14 @@ ghost use Rattle.dbus_call_lines.specs.Names.{names_seen};
 ghost use Rattle.dbus_list.specs.Pairs.{call_seen, told};
 ghost use Rattle.dbus_list.specs.Told.{told_seen};
 ghost use Rattle.dbus_names.specs.Kept.{state_of};
-ghost use Rattle.dbus_rule_set.specs.Owners.{owners_in};
-ghost use Rattle.cli_options.specs.Selections.{SelectsBy};
-ghost use Rattle.cli_run.specs.LineNames.{first_names, given_owners, known_beside, names_after, owners_for, told_beside};
+ghost use Rattle.cli_run.specs.LineNames.{known_beside, names_after, told_beside};
 
-use crate::filtering::owners_of;
-use crate::selector::Selector;
-use cli_options::WantedLines;
 use dbus_call_lines::CallNames;
 use dbus_calls::EventView;
 use dbus_list::{AnsweredCall, Beside, KnownCall};
 use dbus_names::{Names, WellKnownNames};
-use dbus_rule_set::Owners;
 use dbus_view::MessageView;
-use std::alloc::{AllocError, Global};
-
-/// Which messages are listed, in lines of at most so many cells.
-#[derive(Drop)]
-pub(crate) struct LineSelector<'a> {
-    /// The selection.
-    pub(crate) selector: Selector<'a>,
-    /// The owners of names that the selection gives.
-    given: Owners,
-    /// The most cells of a line.
-    pub(crate) width: u16,
-    ghost same_owners: { given ≡ given_owners selector.selection.now },
-}
-
-impl<'a> LineSelector<'a> {
-    /// Of these lines.
-    ///
-    /// `AllocError`: an allocation failed.
-    pub(crate) fn new(
-        alloc: Global,
-        wanted: &'a WantedLines,
-    ) -> Result<LineSelector<'a>, AllocError>
-        ensures selection { IfOk result (λ selector. selector.selector.selection.now ≡ wanted.now.selection) }
-        ensures width { IfOk result (λ selector. selector.width ≡ wanted.now.width) }
-    {
-        let selector = Selector::new(&wanted.selection)?;
-        let given = owners_of(alloc, &wanted.selection.owners)?;
-        Ok(LineSelector {
-            selector,
-            given,
-            width: wanted.width,
-        })
-    }
-
-    /// Whether the message of the view is listed, if these names are known before it.
-    pub(crate) fn selects(&self, view: &MessageView, names: &Names) -> bool
-        ensures { (order : Order) (m : MessageTree) → Views view.now order m →
-            IsTrue result ↔ SelectsBy self.now.selector.selection.now
-            (owners_for self.now.selector.selection.now (state_of names.now)) m }
-    {
-        self.selector.selects(view, self.owners(names))
-    }
-
-    // The owners of names by which it selects.
-    fn owners<'b>(&'b self, names: &'b Names) -> &'b Owners
-        ensures { owners_in result.now ≡ owners_for self.now.selector.selection.now (state_of names.now) }
-    {
-        if self.selector.selection.learns {
-            names.owners()
-        } else {
-            &self.given
-        }
-    }
-}
-
-/// The names that are known before the first message.
-///
-/// `AllocError`: an allocation failed.
-pub(crate) fn first_names(alloc: Global, wanted: &WantedLines) -> Result<Names, AllocError>
-    ensures { IfOk result (λ names. state_of names ≡ first_names wanted.now.selection) }
-{
-    Ok(Names::new(alloc, owners_of(alloc, &wanted.selection.owners)?))
-}
+use std::alloc::AllocError;
 
 /// Learns what the message tells of names.
 ///

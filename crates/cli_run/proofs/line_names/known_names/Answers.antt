@@ -1,4 +1,4 @@
-use Rattle.cli_run.proofs.line_selector.known_names.Goals as goal
+use Rattle.cli_run.proofs.line_names.known_names.Goals as goal
 
 pub returns : goal.returns
 returns c = λ order m views.

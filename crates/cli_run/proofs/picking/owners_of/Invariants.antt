@@ -1,7 +1,7 @@
 use Rattle.std.proofs.Common.{◌≡◌, take}
 use Rattle.std.specs.FinSet.{from_list}
 use Rattle.dbus_match.specs.Matching.{ownerships}
-use Rattle.cli_run.proofs.filtering.owners_of.Given as goal
+use Rattle.cli_run.proofs.picking.owners_of.Given as goal
 
 -- those so far
 abbrev pub invariant-loop-owner : goal.invariant-loop-owner
