@@ -1,12 +1,12 @@
 -- Putting a field among others, in the order of their codes.
-use Rattle.std.proofs.Common.{◌≡◌, ℕ, ◌+◌, ◌<◌, ◌≤◌, List, [], ◌∷◌, ◌++◌, length, get_or, take, drop, set, insert, refl, sym, ap, ◌∙◌, arith, Option, Some, None, Result, Ok, Err, option_map, option_to_list, inr, subst}
+use Rattle.std.proofs.Common.{◌≡◌, ℕ, ◌+◌, ◌<◌, ◌≤◌, List, [], ◌∷◌, ◌++◌, length, get_or, take, drop, set, insert, refl, sym, ap, ◌∙◌, arith, Option, Some, None, Result, Ok, Err, option_map, option_to_list, MatchOption, inr, subst}
 use Rattle.std.proofs.lemmas.Bool.{eq-eqb, ne_eqb, lt-ltb, le-ltb}
 use Rattle.std.proofs.lemmas.List.{append_assoc, map-append, take_more, take_all, take-append-drop, take-set, drop-set}
 use Rattle.dbus_message_model.specs.Messages.{FieldTree, MessageTree}
 use Rattle.dbus_message_model.specs.PartsViews.{field_tree, field_trees, parts_tree}
 use Rattle.dbus_message_model.specs.declared.header_field.HeaderField.{HeaderField}
 use Rattle.dbus_message_model.proofs.FieldLists.{fields_from, no_fields_from}
-use Rattle.dbus_texts.specs.Types.{UINT32, SIGNATURE, sigs}
+use Rattle.dbus_texts.specs.Types.{UINT32, STRING, SIGNATURE, sigs}
 use Rattle.dbus_value_model.specs.Specification.{specification}
 use Rattle.dbus_value_model.specs.Values.{ValueTree, NumberValue, TextValue, types_of}
 use Rattle.dbus_value_model.specs.ValueViews.{value_trees_of}
@@ -15,7 +15,7 @@ use Rattle.dbus_message_model.specs.KnownFields.{field_value}
 use Rattle.dbus_message_model.specs.declared.parts.Parts.{Parts}
 use Rattle.dbus_build.specs.BuildFaults.{IsFirstFault}
 use Rattle.dbus_build.specs.declared.build_fault.BuildFault.{BuildFault}
-use Rattle.dbus_compose.specs.Drafts.{put, IsComposed, Draft, Becomes, IsDraft, begun, draft_in, draft_of, draft_tree, field_of, reply_fields, signed}
+use Rattle.dbus_compose.specs.Drafts.{put, IsComposed, Draft, Becomes, IsDraft, begun, draft_in, draft_of, draft_tree, field_of, fields_to, name_field, reply_fields, signed}
 
 -- ---- at the first of some fields
 
@@ -67,6 +67,16 @@ module _ {A : Type 0} (fields : List (HeaderField A)) (field : HeaderField A) wh
       map-append field_tree fields (field ∷ [])
       ∙ sym (from ∙ rw (take_all i fields h, no_fields_from fields i h) refl)
 
+-- a reply to a message, by its serial and its sender
+pub replied : {S : Type 0} (text : S → List ℕ) (m : MessageTree) (serial : ℕ) (sender : Option S) → serial ≡ m.serial
+    → MatchOption sender (field_value 7 m.fields ≡ None) (λ s. field_value 7 m.fields ≡ Some (TextValue STRING (text s)))
+    → fields_to serial (option_map text sender) ≡ reply_fields m
+replied text m serial None is none =
+    ap (λ (n : ℕ). field_of 5 (NumberValue UINT32 n) ∷ []) is ∙ ap (λ (v : Option ValueTree). field_of 5 (NumberValue UINT32 m.serial) ∷ option_to_list (option_map (field_of 6) v)) (sym none)
+replied text m serial (Some s) is there =
+    ap (λ (n : ℕ). field_of 5 (NumberValue UINT32 n) ∷ name_field 6 (text s) ∷ []) is
+    ∙ ap (λ (v : Option ValueTree). field_of 5 (NumberValue UINT32 m.serial) ∷ option_to_list (option_map (field_of 6) v)) (sym there)
+
 -- One call of a builder after another.
 
 module _ {A : Type 0} where
@@ -79,13 +89,6 @@ module _ {A : Type 0} where
 
   pub first_step : (d : Draft A) (change : Draft A → Draft A) (before after : Option (Draft A)) → before ≡ Some d → Becomes before change after → IsDraft (change d) after
   first_step d change before after is k = next_step d change before after (subst (IsDraft d) (sym is) refl) k
-
-  -- a reply to a message with a sender
-  pub replied : (kind : ℕ) (m : MessageTree) (serial sender : ValueTree) (b : Option (Draft A)) → serial ≡ NumberValue UINT32 m.serial → field_value 7 m.fields ≡ Some sender
-      → IsDraft (begun kind 1 (field_of 5 serial ∷ field_of 6 sender ∷ [])) b → IsDraft (begun kind 1 (reply_fields m)) b
-  replied kind m serial sender b is there h =
-      subst (λ (fs : List FieldTree). IsDraft (begun kind 1 fs) b)
-      (ap (λ (v : ValueTree). field_of 5 v ∷ field_of 6 sender ∷ []) is ∙ ap (λ (v : Option ValueTree). field_of 5 (NumberValue UINT32 m.serial) ∷ option_to_list (option_map (field_of 6) v)) (sym there)) h
 
   -- ---- the SIGNATURE field
 

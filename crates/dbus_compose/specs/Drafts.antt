@@ -50,8 +50,13 @@ abbrev pub put : FieldTree → List FieldTree → List FieldTree
 put f [] = f ∷ []
 put f (g ∷ gs) = if nat_eq f.code g.code then f ∷ gs else if nat_lt f.code g.code then f ∷ g ∷ gs else g ∷ put f gs
 
--- the fields of a reply: the serial of the message that is replied to, and the destination, which
--- is its sender if it has one
+-- the fields of a reply to a message of this serial and sender: that serial, and the destination,
+-- which is the sender if there is one
+abbrev pub fields_to : (serial : ℕ) → (sender : Option (List ℕ)) → List FieldTree
+fields_to serial sender =
+    field_of 5 (NumberValue UINT32 serial) ∷ option_to_list (option_map (name_field 6) sender)
+
+-- to the message
 abbrev pub reply_fields : MessageTree → List FieldTree
 reply_fields m = field_of 5 (NumberValue UINT32 m.serial) ∷ option_to_list (option_map (field_of 6) (field_value 7 m.fields))
 

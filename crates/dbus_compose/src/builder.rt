@@ -5,11 +5,12 @@ use crate::parts::{with_field, with_value};
 use crate::signature::with_signature;
 use dbus_build::{Build, BuildFault};
 use dbus_message_model::field_code::{
-    DESTINATION, INTERFACE, PATH, REPLY_SERIAL, SENDER, UNIX_FDS,
+    DESTINATION, ERROR_NAME, INTERFACE, PATH, REPLY_SERIAL, SENDER, UNIX_FDS,
 };
 use dbus_message_model::flag::NO_REPLY_EXPECTED;
-use dbus_message_model::{HeaderField, Message, Parts, field};
-use dbus_value_model::{Value, copy};
+use dbus_message_model::message_type::{ERROR, METHOD_RETURN};
+use dbus_message_model::{HeaderField, Message, Parts};
+use dbus_value_model::Value;
 use std::alloc::{AllocError, Allocator, Global};
 
 /// What a message is to be made of, given part by part. D-Bus Specification, "Message Format".
@@ -37,12 +38,11 @@ pub struct MessageBuilder<A: Allocator = Global> {
 }
 
 impl<A: Allocator + Copy> MessageBuilder<A> {
-    ghost use Rattle.std.specs.Prelude.{◌≡◌, [], Some, None, option_map};
+    ghost use Rattle.std.specs.Prelude.{◌≡◌, [], ◌∷◌, Some, None, option_map};
     ghost use Rattle.dbus_texts.specs.Types.{UINT32, STRING, OBJECT_PATH};
     ghost use Rattle.dbus_value_model.specs.Values.{NumberValue, TextValue};
     ghost use Rattle.dbus_value_model.specs.ValueViews.{value_tree};
-    ghost use Rattle.dbus_message_model.specs.MessageViews.{message_tree};
-    ghost use Rattle.dbus_compose.specs.Drafts.{AppendsText, Becomes, IsDraft, begun, field_of, name_field, path_field, reply_fields, with_body, with_field, with_flags, with_serial, with_value, drafted, IsComposed};
+    ghost use Rattle.dbus_compose.specs.Drafts.{AppendsText, Becomes, IsDraft, begun, field_of, fields_to, name_field, path_field, with_body, with_field, with_flags, with_serial, with_value, drafted, IsComposed};
 
     /// A builder of a message of the type, with these flags and no fields.
     pub(crate) fn begin(alloc: A, kind: u8, flags: u8) -> Self
@@ -61,22 +61,43 @@ impl<A: Allocator + Copy> MessageBuilder<A> {
         }
     }
 
-    /// The builder of a reply to the message.
-    pub(crate) fn begin_reply(alloc: A, kind: u8, message: &Message<A>) -> Self
+    /// A builder of the reply to a call of this serial and SENDER, which expects no reply itself: its
+    /// REPLY_SERIAL is the serial, and its DESTINATION the sender, if there is one. D-Bus
+    /// Specification, "Message Format", "Header Fields".
+    pub fn reply(alloc: A, serial: u32, sender: Option<&str>) -> Self
         ensures { IsDraft
-            (begun kind NO_REPLY_EXPECTED (reply_fields (message_tree message.now)))
+            (begun METHOD_RETURN NO_REPLY_EXPECTED
+            (fields_to serial (option_map (λ s. s.now) sender.entry)))
+            (drafted result) }
+    {
+        MessageBuilder::begin_reply(alloc, METHOD_RETURN, serial, sender)
+    }
+
+    /// A builder of the reply to such a call that failed, with the error of this name; otherwise as
+    /// [`MessageBuilder::reply`] says.
+    pub fn error(alloc: A, serial: u32, sender: Option<&str>, name: &str) -> Self
+        ensures { IsDraft
+            (begun ERROR NO_REPLY_EXPECTED
+            (name_field ERROR_NAME name.now ∷ fields_to serial (option_map (λ s. s.now) sender.entry)))
+            (drafted result) }
+    {
+        MessageBuilder::begin_reply(alloc, ERROR, serial, sender).name(ERROR_NAME, name)
+    }
+
+    // A builder of a reply of the type.
+    fn begin_reply(alloc: A, kind: u8, serial: u32, sender: Option<&str>) -> Self
+        ensures { IsDraft
+            (begun kind NO_REPLY_EXPECTED
+            (fields_to serial (option_map (λ s. s.now) sender.entry)))
             (drafted result) }
     {
         let builder = MessageBuilder::begin(alloc, kind, NO_REPLY_EXPECTED).field(
             REPLY_SERIAL,
-            Value::U32(message.parts().serial),
+            Value::U32(serial),
         );
-        match field(message, SENDER) {
+        match sender {
             None => builder,
-            Some(sender) => match copy(alloc, sender) {
-                Ok(sender) => builder.field(DESTINATION, sender),
-                Err(error) => MessageBuilder::failed(alloc, error),
-            },
+            Some(sender) => builder.destination(sender),
         }
     }
 

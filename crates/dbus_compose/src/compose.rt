@@ -78,7 +78,7 @@ impl<A: Allocator + Copy> Compose for Message<A> {
             (begun METHOD_RETURN NO_REPLY_EXPECTED (reply_fields (message_tree message.now)))
             (drafted result) }
     {
-        MessageBuilder::begin_reply(alloc, METHOD_RETURN, message)
+        MessageBuilder::reply(alloc, message.parts().serial, message.sender())
     }
 
     fn error_to(alloc: A, message: &Message<A>, name: &str) -> MessageBuilder<A>
@@ -87,6 +87,6 @@ impl<A: Allocator + Copy> Compose for Message<A> {
             (name_field ERROR_NAME name.now ∷ reply_fields (message_tree message.now)))
             (drafted result) }
     {
-        MessageBuilder::begin_reply(alloc, ERROR, message).name(ERROR_NAME, name)
+        MessageBuilder::error(alloc, message.parts().serial, message.sender(), name)
     }
 }

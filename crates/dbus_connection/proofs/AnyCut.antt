@@ -1,7 +1,6 @@
 -- What comes of bytes, whoever cuts them: lines of a handshake, and then messages.
 use Rattle.std.proofs.Common.{◌≡◌, ◌∙◌, ◌⊎◌, ℕ, Bool, true, false, List, [], ◌∷◌, length, take, drop, Option, None, if◌then◌else◌, refl, sym, ap, subst, inl, inr, arith, take-append-drop}
 use Rattle.std.proofs.lemmas.List.{drop-drop}
-use Rattle.dbus_value_model.specs.declared.limits.Limits.{Limits}
 use Rattle.dbus_auth_lines.specs.ClientCommands as client
 use Rattle.dbus_auth_lines.specs.Lines.{client_line, client_meaning, ended, server_line, server_meaning}
 use Rattle.dbus_auth_lines.proofs.Cuts.{length-ended}
@@ -13,6 +12,7 @@ use Rattle.dbus_auth.specs.declared.end_step.Status.TheVariants as status
 use Rattle.dbus_connection.specs.Answers.{client_answer, client_goes_on, server_answer}
 use Rattle.dbus_connection.specs.Runs.{AnyCut, AreCalls, BeginsAs, Call, came, coming}
 use Rattle.dbus_connection.specs.Standing.{Answer, Client, Closed, Fails, Messages, Server, Stand, Told, Wants, stands_by, told_by}
+use Rattle.dbus_connection.specs.declared.settings.Settings.{Settings}
 use Rattle.dbus_connection.proofs.Courses.{Course, course, longer, one_course, rests}
 use Rattle.dbus_connection.proofs.Handed.{IsLike, IsShut, IsTold, Settles, settled, settles, waits}
 
@@ -52,23 +52,23 @@ quiet st send guid agreed t nil =
     ap (λ (s : Status). told_by s send guid agreed) t
     ∙ ap (λ (b : List ℕ). told_by status.Talking b guid agreed) nil
 
-module _ (limits : Limits) where
+module _ (settings : Settings) where
   abbrev Goes : Stand → List ℕ → List Told → Type 0
   Goes s bytes [] = Unit {0}
   Goes (Client e) bytes (x ∷ told) =
       (x ≡ (client_answer (client_goes_on e bytes)).told) × Goes (stands_by (Client (client_goes_on e bytes).after) x) (drop (client_goes_on e bytes).taken bytes) told
   Goes (Server e) bytes (x ∷ told) =
       (x ≡ (server_answer (server_takes e bytes)).told) × Goes (stands_by (Server (server_takes e bytes).after) x) (drop (server_takes e bytes).taken bytes) told
-  Goes Messages bytes (x ∷ told) = Course limits bytes (x ∷ told)
+  Goes (Messages skip) bytes (x ∷ told) = Course settings (drop skip bytes) (x ∷ told)
   Goes Closed bytes (x ∷ told) = ⊥
 
   closed_any : (told : List Told) (b c : List ℕ) → Goes Closed b told → Goes Closed c told
   closed_any [] b c h = tt
   closed_any (x ∷ told) b c h = absurd h
 
-  among : (told : List Told) (bytes : List ℕ) → Course limits bytes told → Goes Messages bytes told
-  among [] bytes h = tt
-  among (x ∷ told) bytes h = h
+  among : (told : List Told) (skip : ℕ) (bytes : List ℕ) → Course settings (drop skip bytes) told → Goes (Messages skip) bytes told
+  among [] skip bytes h = tt
+  among (x ∷ told) skip bytes h = h
 
   -- ---- what an end tells, and what comes then
 
@@ -188,27 +188,28 @@ module _ (limits : Limits) where
 
   -- ---- all calls
 
-  goes : (calls : List Call) (s : Stand) (bytes : List ℕ) → AreCalls limits s bytes calls
+  goes : (calls : List Call) (s : Stand) (bytes : List ℕ) → AreCalls settings s bytes calls
       → Goes s bytes (came calls)
   goes [] s bytes are = tt
   goes (c ∷ cs) (Client e) bytes are =
       let o = client_goes_on e (take c.handed bytes) in
-      let after = subst (λ (a : Answer). AreCalls limits (stands_by (Client o.after) a.told) (drop a.taken bytes) cs) are.0 are.1 in
+      let after = subst (λ (a : Answer). AreCalls settings (stands_by (Client o.after) a.told) (drop a.taken bytes) cs) are.0 are.1 in
       subst (λ (a : Answer). Goes (Client e) bytes (coming a.told (came cs))) (sym are.0)
       (client_follows e c.handed bytes (came cs) (goes cs (stands_by (Client o.after) (client_answer o).told) (drop o.taken bytes) after))
   goes (c ∷ cs) (Server e) bytes are =
       let o = server_takes e (take c.handed bytes) in
-      let after = subst (λ (a : Answer). AreCalls limits (stands_by (Server o.after) a.told) (drop a.taken bytes) cs) are.0 are.1 in
+      let after = subst (λ (a : Answer). AreCalls settings (stands_by (Server o.after) a.told) (drop a.taken bytes) cs) are.0 are.1 in
       subst (λ (a : Answer). Goes (Server e) bytes (coming a.told (came cs))) (sym are.0)
       (server_follows e c.handed bytes (came cs) (goes cs (stands_by (Server o.after) (server_answer o).told) (drop o.taken bytes) after))
-  goes (c ∷ cs) Messages bytes are = among (came (c ∷ cs)) bytes (course limits (c ∷ cs) bytes are)
+  goes (c ∷ cs) (Messages skip) bytes are =
+      among (came (c ∷ cs)) skip bytes (course settings (c ∷ cs) skip bytes are)
   goes (c ∷ cs) Closed bytes are =
-      subst (Goes Closed bytes) (sym (rests limits (c ∷ cs) bytes are).came) tt
+      subst (Goes Closed bytes) (sym (rests settings (c ∷ cs) bytes are).came) tt
 
   both : (x y : Told) (xs ys : List Told) → x ≡ y → BeginsAs xs ys ⊎ BeginsAs ys xs
       → BeginsAs (x ∷ xs) (y ∷ ys) ⊎ BeginsAs (y ∷ ys) (x ∷ xs)
   both x y xs ys same h =
-      subst (λ (z : Told). BeginsAs (x ∷ xs) (z ∷ ys) ⊎ BeginsAs (z ∷ ys) (x ∷ xs)) same (longer limits x xs ys h)
+      subst (λ (z : Told). BeginsAs (x ∷ xs) (z ∷ ys) ⊎ BeginsAs (z ∷ ys) (x ∷ xs)) same (longer settings x xs ys h)
 
   one_way : (xs ys : List Told) (s : Stand) (bytes : List ℕ) → Goes s bytes xs → Goes s bytes ys
       → BeginsAs xs ys ⊎ BeginsAs ys xs
@@ -220,9 +221,10 @@ module _ (limits : Limits) where
   one_way (x ∷ xs) (y ∷ ys) (Server e) bytes c d =
       let o = server_takes e bytes in
       both x y xs ys (c.0 ∙ sym d.0) (one_way xs ys (stands_by (Server o.after) x) (drop o.taken bytes) c.1 (subst (λ (z : Told). Goes (stands_by (Server o.after) z) (drop o.taken bytes) ys) (d.0 ∙ sym c.0) d.1))
-  one_way (x ∷ xs) (y ∷ ys) Messages bytes c d = one_course limits (x ∷ xs) (y ∷ ys) bytes c d
+  one_way (x ∷ xs) (y ∷ ys) (Messages skip) bytes c d =
+      one_course settings (x ∷ xs) (y ∷ ys) (drop skip bytes) c d
   one_way (x ∷ xs) (y ∷ ys) Closed bytes c d = absurd c
 
 pub any_cut : AnyCut
-any_cut limits s bytes xs ys are others =
-    one_way limits (came xs) (came ys) s bytes (goes limits xs s bytes are) (goes limits ys s bytes others)
+any_cut settings s bytes xs ys are others =
+    one_way settings (came xs) (came ys) s bytes (goes settings xs s bytes are) (goes settings ys s bytes others)

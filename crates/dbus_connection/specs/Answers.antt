@@ -1,10 +1,10 @@
 -- What a call of a connection tells of the bytes that it is handed. D-Bus Specification,
 -- "Authentication Protocol" and "Message Protocol".
-use Rattle.std.specs.Prelude.{◌≡◌, ℕ, List, None, if◌then◌else◌}
-use Rattle.dbus_value_model.specs.declared.limits.Limits.{Limits}
+use Rattle.std.specs.Prelude.{◌≡◌, ℕ, ◌+◌, ◌-◌, List, length, drop, min, None, if◌then◌else◌}
 use Rattle.dbus_auth.specs.Ends.{ClientEndState, EndOutcome, ServerEndState, client_starts, client_takes, server_takes}
 use Rattle.dbus_connection.specs.Reading.{IsRead}
-use Rattle.dbus_connection.specs.Standing.{Answer, Client, Closed, IsOver, Messages, Server, Stand, told_by}
+use Rattle.dbus_connection.specs.Standing.{Answer, Client, Closed, IsOver, Messages, Server, Stand, Told, told_by}
+use Rattle.dbus_connection.specs.declared.settings.Settings.{Settings}
 
 -- a client's end starts by its first call, which takes nothing
 abbrev pub client_goes_on : ClientEndState → List ℕ → EndOutcome ClientEndState
@@ -23,16 +23,22 @@ server_answer o = record {
   told = told_by o.after.status o.send None o.after.machine.agreed;
 }
 
--- with the end as it is after the call
+-- the bytes that are skipped are taken, and then what those behind them are
+abbrev pub IsReadPast : Settings → (skip : ℕ) → (bytes : List ℕ) → (taken : ℕ) → Told → Type 0
+IsReadPast settings skip bytes taken told =
+    (more : ℕ) × IsRead settings (drop skip bytes) more told
+    × (taken ≡ min skip (length bytes) + more)
+
+-- with the end as it is after the call, or fewer bytes to skip
 abbrev pub gone_on : Stand → List ℕ → Stand
 gone_on (Client e) bytes = Client (client_goes_on e bytes).after
 gone_on (Server e) bytes = Server (server_takes e bytes).after
-gone_on Messages bytes = Messages
+gone_on (Messages skip) bytes = Messages (skip - length bytes)
 gone_on Closed bytes = Closed
 
 -- in the handshake it tells what its end did, and past it what the bytes are
-abbrev pub Answers : Limits → Stand → List ℕ → Answer → Type 0
-Answers limits (Client e) bytes a = a ≡ client_answer (client_goes_on e bytes)
-Answers limits (Server e) bytes a = a ≡ server_answer (server_takes e bytes)
-Answers limits Messages bytes a = IsRead limits bytes a.taken a.told
-Answers limits Closed bytes a = a ≡ record { taken = 0; told = IsOver }
+abbrev pub Answers : Settings → Stand → List ℕ → Answer → Type 0
+Answers settings (Client e) bytes a = a ≡ client_answer (client_goes_on e bytes)
+Answers settings (Server e) bytes a = a ≡ server_answer (server_takes e bytes)
+Answers settings (Messages skip) bytes a = IsReadPast settings skip bytes a.taken a.told
+Answers settings Closed bytes a = a ≡ record { taken = 0; told = IsOver }

@@ -1,9 +1,9 @@
 -- Calls of a connection, one after another, and what comes of them however the bytes are cut. D-Bus
 -- Specification, "Authentication Protocol" and "Message Protocol".
-use Rattle.std.specs.Prelude.{◌≡◌, ◌⊎◌, ◌+◌, ℕ, List, [], ◌∷◌, ◌++◌, take, drop}
-use Rattle.dbus_value_model.specs.declared.limits.Limits.{Limits}
+use Rattle.std.specs.Prelude.{◌≡◌, ◌≤◌, ◌⊎◌, ◌+◌, ℕ, List, [], ◌∷◌, ◌++◌, take, drop}
 use Rattle.dbus_connection.specs.Answers.{Answers, gone_on}
-use Rattle.dbus_connection.specs.Standing.{Answer, Gives, IsOver, Messages, Stand, Told, Wants, stands_by}
+use Rattle.dbus_connection.specs.Standing.{Answer, Gives, IsOver, Messages, Passes, Stand, Told, Wants, stands_by}
+use Rattle.dbus_connection.specs.declared.settings.Settings.{Settings}
 
 -- a call: how many bytes it is handed, the first of those that are not taken, and its answer
 pub record Call : Type 0 where
@@ -11,11 +11,11 @@ pub record Call : Type 0 where
   pub answer : Answer
 
 -- each call is handed what those before it left of these bytes
-abbrev pub AreCalls : Limits → Stand → List ℕ → List Call → Type 0
-AreCalls limits s bytes [] = Unit {0}
-AreCalls limits s bytes (c ∷ cs) =
-    Answers limits s (take c.handed bytes) c.answer
-    × AreCalls limits (stands_by (gone_on s (take c.handed bytes)) c.answer.told)
+abbrev pub AreCalls : Settings → Stand → List ℕ → List Call → Type 0
+AreCalls settings s bytes [] = Unit {0}
+AreCalls settings s bytes (c ∷ cs) =
+    Answers settings s (take c.handed bytes) c.answer
+    × AreCalls settings (stands_by (gone_on s (take c.handed bytes)) c.answer.told)
     (drop c.answer.taken bytes) cs
 
 -- what came, but for what says that nothing did
@@ -28,12 +28,16 @@ abbrev pub came : List Call → List Told
 came [] = []
 came (c ∷ cs) = coming c.answer.told (came cs)
 
--- the bytes of the messages among it, and how many bytes were taken
-abbrev pub bytes_of : List Told → List ℕ
-bytes_of [] = []
-bytes_of (Gives view fds ∷ told) = view.bytes ++ bytes_of told
-bytes_of (other ∷ told) = bytes_of told
+-- bytes are those of the messages among it, in order; those of the last may go on, if that is passed
+-- over
+abbrev pub AreOf : List Told → List ℕ → Type 0
+AreOf [] bytes = bytes ≡ []
+AreOf (Gives view fds ∷ told) bytes =
+    (rest : List ℕ) × (bytes ≡ view.bytes ++ rest) × AreOf told rest
+AreOf (Passes n header ∷ told) bytes = AreOf told (drop n bytes)
+AreOf (other ∷ told) bytes = AreOf told bytes
 
+-- how many bytes were taken
 abbrev pub taken_of : List Call → ℕ
 taken_of [] = 0
 taken_of (c ∷ cs) = c.answer.taken + taken_of cs
@@ -46,12 +50,17 @@ BeginsAs ys xs = (more : List Told) × (ys ≡ xs ++ more)
 
 -- of two ways to cut bytes, one tells what the other does, and maybe more
 abbrev pub AnyCut : Type 0
-AnyCut = (limits : Limits) (s : Stand) (bytes : List ℕ) (xs ys : List Call)
-    → AreCalls limits s bytes xs → AreCalls limits s bytes ys
+AnyCut = (settings : Settings) (s : Stand) (bytes : List ℕ) (xs ys : List Call)
+    → AreCalls settings s bytes xs → AreCalls settings s bytes ys
     → BeginsAs (came xs) (came ys) ⊎ BeginsAs (came ys) (came xs)
 
 -- each byte that was taken is one of a message, in order
 abbrev pub TakesMessages : Type 0
-TakesMessages = (limits : Limits) (bytes : List ℕ) (calls : List Call)
-    → AreCalls limits Messages bytes calls
-    → bytes ≡ bytes_of (came calls) ++ drop (taken_of calls) bytes
+TakesMessages = (settings : Settings) (bytes : List ℕ) (calls : List Call)
+    → AreCalls settings (Messages 0) bytes calls
+    → AreOf (came calls) (take (taken_of calls) bytes)
+
+-- no more bytes are wanted at hand than those of a message that is given, or the first of one
+abbrev pub Bounded : Type 0
+Bounded = (settings : Settings) (skip : ℕ) (bytes : List ℕ) (a : Answer) (n : ℕ)
+    → Answers settings (Messages skip) bytes a → a.told ≡ Wants n → (n ≤ settings.longest) ⊎ (n ≡ 16)

@@ -15,7 +15,7 @@ use Rattle.dbus_connection.specs.declared.settings.Settings.{Settings}
 abbrev pub phase_stand : Phase → Stand
 phase_stand (phase.Client side) = stands.Client (client_end_state side.end)
 phase_stand (phase.Server end) = stands.Server (server_end_state end)
-phase_stand phase.Messages = stands.Messages
+phase_stand (phase.Messages skip) = stands.Messages skip
 phase_stand phase.Closed = stands.Closed
 
 abbrev pub told : Event → Told
@@ -23,6 +23,7 @@ told (event.Wants n) = stands.Wants n
 told (event.Send send) = stands.Sends send.items
 told (event.Begun b) = stands.Begins b.send.items (option_map (λ g. g.0) b.guid) b.agreed
 told (event.Message m) = stands.Gives m.view m.fds
+told (event.Passed p) = stands.Passes p.length p.header
 told (event.Refused fault) = stands.Refuses fault
 told event.Failed = stands.Fails
 told event.Over = stands.IsOver

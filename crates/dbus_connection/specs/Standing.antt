@@ -5,18 +5,20 @@ use Rattle.dbus_auth.specs.Ends.{ClientEndState, ServerEndState}
 use Rattle.dbus_auth.specs.declared.end_step.Status.{Status}
 use Rattle.dbus_auth.specs.declared.end_step.Status.TheVariants as status
 use Rattle.dbus_value_model.specs.declared.fault.Fault.{Fault}
+use Rattle.dbus_header.specs.declared.fixed_header.FixedHeader.{FixedHeader}
 use Rattle.dbus_view.specs.Views.{ViewState}
 
--- in the handshake, with the end of a client or of a server; among messages; or it is closed
+-- in the handshake, with the end of a client or of a server; among messages, where so many bytes
+-- are skipped, of one that is passed over; or it is closed
 pub data Stand : Type 0 where
   Client : ClientEndState → Stand
   Server : ServerEndState → Stand
-  Messages : Stand
+  Messages : (skip : ℕ) → Stand
   Closed : Stand
 
 -- whether messages may be sent
 abbrev pub is_open : Stand → Bool
-is_open Messages = true
+is_open (Messages skip) = true
 is_open s = false
 
 -- what came of some bytes
@@ -29,6 +31,8 @@ pub data Told : Type 0 where
   Begins : (send : List ℕ) → (guid : Option (List ℕ)) → (agreed : Bool) → Told
   -- a message, of which so many file descriptors are its own
   Gives : ViewState → (fds : ℕ) → Told
+  -- a message of so many bytes, which begins so, is passed over
+  Passes : (length : ℕ) → FixedHeader → Told
   Refuses : Fault → Told
   -- the handshake failed
   Fails : Told
@@ -42,7 +46,8 @@ pub record Answer : Type 0 where
 
 -- where it stands once this is told
 abbrev pub stands_by : Stand → Told → Stand
-stands_by s (Begins send guid agreed) = Messages
+stands_by s (Begins send guid agreed) = Messages 0
+stands_by s (Passes n header) = Messages n
 stands_by s (Refuses fault) = Closed
 stands_by s Fails = Closed
 stands_by s _ = s

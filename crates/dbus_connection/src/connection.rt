@@ -1,7 +1,7 @@
 //! One side of a connection.
 #![tactic(auto)]
 
-ghost use Rattle.std.specs.Prelude.{◌≡◌, ◌≢◌, ◌+◌, ◌-◌, ◌^◌, min, true, false, IfOk, IfErr, OnErr, OnOk};
+ghost use Rattle.std.specs.Prelude.{◌≡◌, ◌≢◌, ◌∷◌, ◌+◌, ◌-◌, ◌^◌, min, true, false, IfOk, IfErr, OnErr, OnOk};
 
 use crate::client_side::ClientSide;
 use crate::event::Step;
@@ -15,6 +15,7 @@ use dbus_encode::encode;
 use dbus_message_model::Message;
 use dbus_pending::{NotWaiting, Pending};
 use dbus_value_model::Order;
+use dbus_view::MessageView;
 use std::alloc::{AllocError, Global};
 
 /// One side of a connection, without input and output: the handshake, and then messages. Hand it
@@ -36,7 +37,8 @@ use std::alloc::{AllocError, Global};
 ///
 /// if let Ok(client) = Client::new(vec![in alloc; Mechanism::External(Some(1000))]?) {
 ///     let end = ClientEnd::new(alloc, client);
-///     let settings = Settings { limits: Limits::specification(), calls: 128 };
+///     let limits = Limits::specification();
+///     let settings = Settings { limits, longest: 1 << 20, calls: 128 };
 ///     let mut connection = Connection::client(alloc, end, settings);
 ///     // What came and was not taken, which may end anywhere: here a line, and a message.
 ///     let mut input = Vec::from_slice(alloc, b"OK 0123456789abcdef0123456789abcdef\r\n")?;
@@ -58,6 +60,7 @@ use std::alloc::{AllocError, Global};
 ///                     None => println!(rt; "serial {}", message.view().serial())?,
 ///                 }
 ///             }
+///             Event::Passed(passed) => println!(rt; "{} bytes are too many", passed.length)?,
 ///             Event::Refused(fault) => println!(rt; "refused: {fault}")?,
 ///             Event::Failed | Event::Over => println!(rt; "close the connection")?,
 ///         }
@@ -78,8 +81,14 @@ pub struct Connection<T> {
 
 impl<T: Drop> Connection<T> {
     ghost use Rattle.dbus_auth.specs.EndViews.{client_end_state, server_end_state};
-    ghost use Rattle.dbus_compose.specs.Drafts.{drafted};
+    ghost use Rattle.dbus_compose.specs.Drafts.{IsDraft, begun, drafted, name_field, reply_fields};
     ghost use Rattle.dbus_message_model.specs.MessageViews.{message_tree};
+    ghost use Rattle.dbus_message_model.specs.Messages.{MessageTree};
+    ghost use Rattle.dbus_message_model.specs.declared.field_code.TheConstants.{ERROR_NAME};
+    ghost use Rattle.dbus_message_model.specs.declared.flag.TheConstants.{NO_REPLY_EXPECTED};
+    ghost use Rattle.dbus_message_model.specs.declared.message_type.TheConstants.{ERROR, METHOD_RETURN};
+    ghost use Rattle.dbus_value_model.specs.declared.order.Order.{Order};
+    ghost use Rattle.dbus_view.specs.Views.{Views};
     ghost use Rattle.dbus_pending.specs.Waiting.{Stays, last};
     ghost use Rattle.dbus_connection.specs.Answers.{Answers, gone_on};
     ghost use Rattle.dbus_connection.specs.Sending.{IsNextOf, IsSent, IsUnsent, Waits};
@@ -120,12 +129,13 @@ impl<T: Drop> Connection<T> {
     ///
     /// In the handshake it takes at most one line, as the end does, and the first call of a client
     /// takes nothing. Past it, it takes one message once all of it is at hand. Before that it looks
-    /// at the first 16 bytes alone, so a call takes no longer if many bytes wait.
+    /// at the first 16 bytes alone, so a call takes no longer if many bytes wait. Of a message that
+    /// is passed over it takes the bytes that are at hand.
     ///
     /// `AllocError`: an allocation failed. Then nothing is changed: hand in the same bytes again.
     pub fn take<'a>(&mut self, bytes: &'a [u8]) -> Result<Step<'a>, AllocError>
         ensures answers { IfOk result (λ s.
-            Answers (settings_of self.old).limits (stand self.old) bytes.now (answer s)) }
+            Answers (settings_of self.old) (stand self.old) bytes.now (answer s)) }
         ensures stands { IfOk result (λ s. stand self.new ≡
             stands_by (gone_on (stand self.old) bytes.now) (told s.event)) }
         ensures taken { IfOk result (λ s.
@@ -135,7 +145,7 @@ impl<T: Drop> Connection<T> {
         ensures settings { settings_of self.new ≡ settings_of self.old }
         ensures pending { self.new.pending ≡ self.old.pending }
     {
-        match self.phase.take(bytes, self.settings.limits) {
+        match self.phase.take(bytes, self.settings) {
             Ok(step) => {
                 self.taken = self.taken.saturating_add(step.taken as u64);
                 Ok(step)
@@ -195,6 +205,27 @@ impl<T: Drop> Connection<T> {
             Err(NotWaiting::Full(_)) => Err(Unsent::Full),
             Err(NotWaiting::Memory(_)) => Err(Unsent::Unmade(BuildFault::Memory)),
         }
+    }
+
+    /// The draft of the reply to a call that came: its REPLY_SERIAL is the call's serial, and its
+    /// DESTINATION the call's SENDER, if it has one. Give it values, and hand it to
+    /// [`Connection::send`]. D-Bus Specification, "Header Fields".
+    pub fn reply(&self, call: &MessageView<'_>) -> MessageBuilder
+        ensures { (order : Order) (m : MessageTree) → Views call.now order m → IsDraft
+            (begun METHOD_RETURN NO_REPLY_EXPECTED (reply_fields m))
+            (drafted result) }
+    {
+        MessageBuilder::reply(self.alloc, call.serial(), call.sender())
+    }
+
+    /// The draft of the reply to a call that failed, with the error of this name; otherwise as
+    /// [`Connection::reply`] says.
+    pub fn error(&self, call: &MessageView<'_>, name: &str) -> MessageBuilder
+        ensures { (order : Order) (m : MessageTree) → Views call.now order m → IsDraft
+            (begun ERROR NO_REPLY_EXPECTED (name_field ERROR_NAME name.now ∷ reply_fields m))
+            (drafted result) }
+    {
+        MessageBuilder::error(self.alloc, call.serial(), call.sender(), name)
     }
 
     // The draft's message, with the next serial.

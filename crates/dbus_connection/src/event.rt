@@ -2,6 +2,7 @@
 #![tactic(auto)]
 
 use dbus_auth::Guid;
+use dbus_header::FixedHeader;
 use dbus_value_model::Fault;
 use dbus_view::MessageView;
 
@@ -17,6 +18,9 @@ pub enum Event<'a> {
     Begun(Begun),
     /// A message, in place: its bytes are those that were taken.
     Message(Incoming<'a>),
+    /// A message that is longer than those that are given begins. The next calls take its bytes,
+    /// which need not be at hand at once, and tell nothing of them.
+    Passed(Passed),
     /// The bytes are no message within the limits. The place counts from the first of them. The
     /// connection is closed.
     Refused(Fault),
@@ -34,6 +38,15 @@ pub struct Incoming<'a> {
     /// How many of the Unix file descriptors that come beside the bytes are its own: the number of
     /// its header field UNIX_FDS, or 0 if it has none.
     pub fds: u32,
+}
+
+/// A message that is passed over. D-Bus Specification, "Message Format".
+#[derive(Clone, Copy, Drop)]
+pub struct Passed {
+    /// How many bytes it has.
+    pub length: u64,
+    /// What its first 16 bytes say: its type, flags and serial, and lengths.
+    pub header: FixedHeader,
 }
 
 /// How a handshake ended. D-Bus Specification, "Authentication Protocol".

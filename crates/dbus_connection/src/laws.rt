@@ -2,7 +2,7 @@
 //! are the laws, over the definitions that the calls of the crate are specified by.
 #![tactic(auto)]
 
-ghost use Rattle.dbus_connection.specs.Runs.{AnyCut, TakesMessages};
+ghost use Rattle.dbus_connection.specs.Runs.{AnyCut, Bounded, TakesMessages};
 
 /// However bytes are cut, the same comes of them, wherever a connection stands, in its handshake or
 /// past it: of two ways to cut them, one tells what the other does, and maybe more, since a call
@@ -12,8 +12,14 @@ pub fn any_cut()
     ensures { AnyCut }
 {}
 
-/// The bytes that were taken past the handshake are those of the messages that were given, one
-/// after another. D-Bus Specification, "Message Protocol".
+/// The bytes that were taken past the handshake are those of the messages that were given, and of
+/// those that were passed over, one after another. D-Bus Specification, "Message Protocol".
 pub fn takes_messages()
     ensures { TakesMessages }
+{}
+
+/// Past the handshake no call wants more bytes at hand than `longest` of the settings, or 16 if
+/// that is less, however long the messages are that come. D-Bus Specification, "Message Protocol".
+pub fn bounded()
+    ensures { Bounded }
 {}

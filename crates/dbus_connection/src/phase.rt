@@ -8,9 +8,9 @@ ghost use Rattle.dbus_connection.specs.Standing.{is_open, stands_by, told_by};
 
 use crate::client_side::ClientSide;
 use crate::event::{Begun, Event, Step};
-use crate::reading::read;
+use crate::reading::read_past;
+use crate::settings::Settings;
 use dbus_auth::{EndStep, Guid, ServerEnd, Status};
-use dbus_value_model::Limits;
 use std::alloc::AllocError;
 
 /// Where a connection stands.
@@ -20,8 +20,8 @@ pub(crate) enum Phase {
     Client(ClientSide),
     /// In the handshake, as a server.
     Server(ServerEnd),
-    /// Past the handshake.
-    Messages,
+    /// Past the handshake, where so many bytes are skipped, of a message that is passed over.
+    Messages(u64),
     /// It was refused, or the handshake failed.
     Closed,
 }
@@ -33,15 +33,15 @@ impl Phase {
     pub(crate) fn take<'a>(
         &mut self,
         bytes: &'a [u8],
-        limits: Limits,
+        settings: Settings,
     ) -> Result<Step<'a>, AllocError>
         ensures answers { IfOk result (λ s.
-            Answers limits (phase_stand self.old) bytes.now (answer s)) }
+            Answers settings (phase_stand self.old) bytes.now (answer s)) }
         ensures stands { IfOk result (λ s. phase_stand self.new ≡
             stands_by (gone_on (phase_stand self.old) bytes.now) (told s.event)) }
         ensures unchanged { OnErr result (phase_stand self.new ≡ phase_stand self.old) }
     {
-        match self.answer(bytes, limits) {
+        match self.answer(bytes, settings) {
             Ok(step) => {
                 self.go_by(&step.event);
                 Ok(step)
@@ -51,9 +51,9 @@ impl Phase {
     }
 
     // What the bytes begin with is taken, and what that is.
-    fn answer<'a>(&mut self, bytes: &'a [u8], limits: Limits) -> Result<Step<'a>, AllocError>
+    fn answer<'a>(&mut self, bytes: &'a [u8], settings: Settings) -> Result<Step<'a>, AllocError>
         ensures answers { IfOk result (λ s.
-            Answers limits (phase_stand self.old) bytes.now (answer s)) }
+            Answers settings (phase_stand self.old) bytes.now (answer s)) }
         ensures stands { IfOk result (λ _.
             phase_stand self.new ≡ gone_on (phase_stand self.old) bytes.now) }
         ensures unchanged { OnErr result (phase_stand self.new ≡ phase_stand self.old) }
@@ -67,7 +67,7 @@ impl Phase {
                 let step = end.take(bytes)?;
                 Ok(told_of(step, None, end.agreed()))
             }
-            Phase::Messages => Ok(read(bytes, limits)),
+            Phase::Messages(skip) => Ok(read_past(skip, bytes, settings)),
             Phase::Closed => Ok(Step {
                 taken: 0,
                 event: Event::Over,
@@ -79,7 +79,7 @@ impl Phase {
     pub(crate) fn is_open(&self) -> bool
         ensures { result ≡ is_open (phase_stand self.now) }
     {
-        matches!(self, Phase::Messages)
+        matches!(self, Phase::Messages(_))
     }
 
     // Where it stands once this came.
@@ -87,7 +87,8 @@ impl Phase {
         ensures { phase_stand self.new ≡ stands_by (phase_stand self.old) (told event.now) }
     {
         match event {
-            Event::Begun(_) => *self = Phase::Messages,
+            Event::Begun(_) => *self = Phase::Messages(0),
+            Event::Passed(passed) => *self = Phase::Messages(passed.length),
             Event::Refused(_) | Event::Failed => *self = Phase::Closed,
             _ => {}
         }
