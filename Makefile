@@ -111,7 +111,7 @@ KIT = $(shell sed -n 's/.*Proved with\*\* \([^ ,]*\),.*/\1/p' README.md)
 COMPLETIONS = bash-completion/completions/dbus-wire fish/vendor_completions.d/dbus-wire.fish
 INSTALLED = $(addprefix $(BINDIR)/,dbus-wire dbus-record dbus-join) $(addprefix $(MANDIR)/man1/,dbus-wire.1 dbus-record.1 dbus-join.1) $(addprefix $(DATADIR)/,$(COMPLETIONS)) $(ZSHDIR)/_dbus-wire \
 	$(addprefix $(DOCDIR)/,LICENSE NOTICES PROVED.md) $(MANDIR)/man3/dbus_wire*.3 \
-	$(INCLUDEDIR)/dbus_wire.h $(addprefix $(LIBDIR)/,libdbus_wire.a libdbus_wire.so $(SONAME) libdbus_wire.so.$(VERSION)) \
+	$(addprefix $(INCLUDEDIR)/,dbus_wire.h dbus_wire_bus.h) $(addprefix $(LIBDIR)/,libdbus_wire.a libdbus_wire.so $(SONAME) libdbus_wire.so.$(VERSION)) \
 	$(LIBDIR)/pkgconfig/dbus-wire.pc $(LIBDIR)/cmake/dbus-wire/*.cmake
 
 # What make run does, and with which capture.
@@ -312,7 +312,7 @@ install-shared: install-notices
 
 install-dev: install-notices
 	@test -f $(ARCHIVE) || { echo "there is no $(ARCHIVE): run make library" >&2; exit 1; }
-	install -D -m 644 include/dbus_wire.h $(DESTDIR)$(INCLUDEDIR)/dbus_wire.h
+	install -D -m 644 -t $(DESTDIR)$(INCLUDEDIR) include/dbus_wire.h include/dbus_wire_bus.h
 	install -D -m 644 $(ARCHIVE) $(DESTDIR)$(LIBDIR)/libdbus_wire.a
 	ln -sf $(SONAME) $(DESTDIR)$(LIBDIR)/libdbus_wire.so
 	install -d $(DESTDIR)$(LIBDIR)/pkgconfig $(DESTDIR)$(LIBDIR)/cmake/dbus-wire

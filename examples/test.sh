@@ -175,9 +175,9 @@ try_load() {
 	shift
 	sockets=$(mktemp -d)
 	bus=$(dbus-daemon --session --fork --print-pid --address="unix:path=$sockets/bus")
-	"$@" "unix:path=$sockets/bus" & service=$!
+	DBUS_SESSION_BUS_ADDRESS=unix:path=$sockets/bus "$@" & service=$!
 	trap 'kill "$bus" "$service"' EXIT
-	ask="gdbus call --address unix:path=$sockets/bus --dest org.example.Load --object-path / --method org.example.Load"
+	ask="gdbus call --address unix:path=$sockets/bus --dest org.example.Load --object-path /org/example/Load --method org.example.Load"
 	for _ in $(seq 100); do
 		if $ask.Get > "$built/said" 2> "$built/told"; then break; fi
 		sleep 0.1
@@ -185,20 +185,20 @@ try_load() {
 	grep -qx "$form" "$built/said"
 	$between "unix:path=$sockets/bus"
 	must_fail $ask.Set 2> "$built/told"
-	grep -q 'UnknownMethod: try Get' "$built/told"
+	grep -q 'Error.UnknownMethod: ' "$built/told"
 	kill "$bus" "$service"
 	trap - EXIT
 	rm -rf "$sockets"
 }
 "$CC" $sanitized -o "$built/service" "$here/c/service.c" -L"$built" -ldbus_wire
-# A call that is longer than its room does not end it.
+# A long call does not end it.
 call_long() {
 	if [ -n "$target" ]; then return; fi
 	said=$(DBUS_WIRE_LIBRARY=$(realpath "$shared") PYTHONPATH=$here/../python "$here/long_call.py" "$1")
-	test "$said" = org.freedesktop.DBus.Error.LimitsExceeded
+	test "$said" = org.freedesktop.DBus.Error.InvalidArgs
 }
 between=call_long
-try_load '([0-9.]*,)' $run "$built/service"
+try_load "({'Load': <[0-9.]*>},)" $run "$built/service"
 between=true
 # A checker for which there is no memory is not made.
 for nth in 1 2; do

@@ -5,7 +5,7 @@
  *
  * A value of type 'h' is an index into the descriptors of its message. These come beside its first
  * bytes, by sendmsg and recvmsg, if both ends agreed to it in the handshake. */
-#include "connect.h"
+#include <dbus_wire_bus.h>
 #include <fcntl.h>
 
 enum { MOST = 16 };
@@ -133,7 +133,7 @@ static void open_bus(struct bus *bus, const char *addresses) {
     struct dbus_wire_parts hello;
     size_t length = 0;
     uint32_t answer;
-    if ((bus->socket = connect_to(addresses)) < 0) fail("no bus");
+    if ((bus->socket = dbus_wire_bus_connect(addresses)) < 0) fail("no bus");
     if (dbus_wire_client_new(&mechanisms, NULL, 0, &client) != DBUS_WIRE_OK) fail("no client");
     if (dbus_wire_handshake_bound(&client, 6, 6) != DBUS_WIRE_OK) fail("no bounds");
     while ((answer = dbus_wire_handshake_take(&client, &byte, length, reply, sizeof reply, &step)) == DBUS_WIRE_PARTIAL) {

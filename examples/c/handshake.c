@@ -2,7 +2,7 @@
  * bytes come in pieces of LENGTH bytes; `handshake client BUS` with the bus at server addresses,
  * to which it then says Hello; `handshake server PATH` with a client that connects to a Unix
  * socket there, whose first message it then checks. */
-#include "connect.h"
+#include <dbus_wire_bus.h>
 
 static const char guid[] = "0123456789abcdef0123456789ABCDEF";
 
@@ -151,7 +151,7 @@ static struct sockaddr_un address_of(const char *path) {
 static void be_client(const char *addresses) {
     struct dbus_wire_handshake client = {0};
     struct pipe in = {{0}, 0};
-    int peer = connect_to(addresses);
+    int peer = dbus_wire_bus_connect(addresses);
     if (peer < 0) fail("no bus");
     make_client(&client, DBUS_WIRE_EXTERNAL_AS_USER, 0);
     shake(&client, peer, &in);

@@ -1,6 +1,6 @@
 /* The one at the other end of a socket, and what both ends of a proxy do with it: the handshake, and
  * messages one after another. A step that fails ends the process. */
-#include "connect.h"
+#include <dbus_wire_bus.h>
 
 static const struct dbus_wire_limits limits = {1 << 20, UINT32_MAX, UINT32_MAX, DBUS_WIRE_FDS_ANY};
 
@@ -58,7 +58,7 @@ static void shake(struct dbus_wire_handshake *end, struct peer *peer) {
 static void join(struct peer *bus, const char *addresses) {
     struct dbus_wire_mechanisms own_user = {DBUS_WIRE_EXTERNAL_AS_USER, (uint32_t)getuid(), 0, 0};
     struct dbus_wire_handshake client = {0};
-    if ((bus->socket = connect_to(addresses)) < 0) fail("no bus");
+    if ((bus->socket = dbus_wire_bus_connect(addresses)) < 0) fail("no bus");
     if (dbus_wire_client_new(&own_user, NULL, 0, &client) != DBUS_WIRE_OK) fail("no client");
     if (dbus_wire_handshake_bound(&client, 6, 6) != DBUS_WIRE_OK) fail("no bounds");
     shake(&client, bus);

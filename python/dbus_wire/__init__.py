@@ -29,7 +29,9 @@ stack for a call. A message of any depth is read within Python's default limit o
 
 from ._addresses import Address, BadAddress, connect, parse_addresses
 from ._building import build, call, error_to, rebuild, reply_to, signal
+from ._bus import Bus
 from ._checker import Checker
+from ._connection import Came, Connection, Event
 from ._errors import BadJson, BadValue, HeaderField, NotAMessage, Refused, Truncated
 from ._explaining import Explanation, StatedText, WholeParts, explain, whole_parts
 from ._handshake import Bounds, Client, Server, Status, Step
@@ -38,6 +40,7 @@ from ._limits import Limits
 from ._lines import BadLine, Line, LineCommand, NotPassed, Watch, client_line, server_line
 from ._messages import Message, MessageFlag, MessageType, byteswap, messages, stated_length
 from ._rules import BadRule, Rule, RuleSet
+from ._served import ErrorReply, Method, Property, Signal
 from ._spelling import spell_body
 from ._texts import TextFault, TextKind, check_text
 from ._values import ObjectPath, Order, Signature, UnixFd, Variant
@@ -51,8 +54,13 @@ __all__ = [
     "BadRule",
     "BadValue",
     "Bounds",
+    "Bus",
+    "Came",
     "Checker",
     "Client",
+    "Connection",
+    "ErrorReply",
+    "Event",
     "Explanation",
     "HeaderField",
     "Limits",
@@ -61,14 +69,17 @@ __all__ = [
     "Message",
     "MessageFlag",
     "MessageType",
+    "Method",
     "NotAMessage",
     "NotPassed",
     "ObjectPath",
     "Order",
+    "Property",
     "Refused",
     "Rule",
     "RuleSet",
     "Server",
+    "Signal",
     "Signature",
     "StatedText",
     "Status",

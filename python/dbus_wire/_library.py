@@ -24,6 +24,7 @@ NO_VALUE = 5
 NO_CHECKER = 7
 NO_RULE = 8
 NO_HANDSHAKE = 9
+NO_CONNECTION = 12
 EXTERNAL_AS_USER = 1
 EXTERNAL_AS_REPORTED = 2
 REPLY_ROOM = 528
@@ -134,6 +135,18 @@ class HandshakeStep(ctypes.Structure):
     _fields_ = [("count", c_uint64), ("reply", c_uint64)]
 
 
+class Connection(ctypes.Structure):
+    _fields_ = [("inner", c_void_p)]
+
+
+class ConnectionStep(ctypes.Structure):
+    _fields_ = [
+        *((name, c_uint64) for name in ("count", "wanted", "call", "offset")),
+        *((name, c_uint32) for name in ("event", "is_reply", "unix_fds", "descriptors", "reason", "field", "serial")),
+        *((name, c_uint16) for name in ("kind", "flags")),
+    ]
+
+
 class Line(ctypes.Structure):
     _fields_ = [
         *((name, c_uint64) for name in ("length", "offset")),
@@ -198,6 +211,13 @@ _CALLS = {
     "handshake_guid": (c_uint32, POINTER(Handshake), c_char_p, c_size_t),
     "handshake_agreed": (c_uint32, POINTER(Handshake)),
     "handshake_free": (None, POINTER(Handshake)),
+    "connection_new": (c_uint32, POINTER(Handshake), POINTER(Limits), c_uint32, c_uint32, POINTER(Connection)),
+    "connection_take": (c_uint32, POINTER(Connection), c_char_p, c_size_t, POINTER(ConnectionStep)),
+    "connection_unsent": (c_uint32, POINTER(Connection), c_char_p, c_size_t, POINTER(c_uint64)),
+    "connection_serial": (c_uint32, POINTER(Connection), POINTER(c_uint32)),
+    "connection_call": (c_uint32, POINTER(Connection), c_char_p, c_size_t, c_uint64, POINTER(c_uint32)),
+    "connection_give_up": (c_uint32, POINTER(Connection), c_uint32, POINTER(c_uint64)),
+    "connection_free": (None, POINTER(Connection)),
     "client_line": (c_uint32, c_char_p, c_size_t, POINTER(Line)),
     "server_line": (c_uint32, c_char_p, c_size_t, POINTER(Line)),
     "watch_client": (c_uint32, POINTER(Watch), c_char_p, c_size_t, POINTER(Line)),

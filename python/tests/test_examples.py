@@ -96,7 +96,7 @@ def connected(path):
 
 def asked(connection, incoming, serial, member, *body, **parts):
     """The reply to a call, and the error's name."""
-    call = build(MessageType.METHOD_CALL, serial, *body, member=member, path="/", **parts)
+    call = build(MessageType.METHOD_CALL, serial, *body, member=member, **{"path": "/", **parts})
     connection.sendall(bytes(call))
     reply = next(message for message in incoming if message.reply_serial == serial)
     return reply.error_name or reply.body
@@ -129,7 +129,9 @@ class AtABus(unittest.TestCase):
 
     def start(self, *words):
         """Starts a program, which ends with the test."""
-        program = subprocess.Popen(words, env=ENVIRONMENT, stdout=subprocess.DEVNULL, stderr=subprocess.DEVNULL)
+        addresses = f"unix:path={self.folder.name}/none;tcp:host=x;unix:path={self.bus}"
+        environment = {**ENVIRONMENT, "DBUS_SESSION_BUS_ADDRESS": addresses}
+        program = subprocess.Popen(words, env=environment, stdout=subprocess.DEVNULL, stderr=subprocess.DEVNULL)
         self.addCleanup(program.wait)
         self.addCleanup(program.kill)
 
@@ -147,20 +149,24 @@ class AtABus(unittest.TestCase):
 
     def test_service(self):
         listening = self.listen()
-        self.example("service.py", f"unix:path={self.folder.name}/none;tcp:host=x;unix:path={self.bus}")
+        self.example("service.py")
         service, _ = listening.accept()
         with service:
             service.settimeout(20)
             Server(GUID, os.getuid()).shake_hands(service)
             with service.makefile("rb") as file:
                 incoming = messages(file)
-                hello, request = next(incoming), next(incoming)
-                self.assertEqual((hello.member, request.member, request.body), ("Hello", "RequestName", ["org.example.Load", 0]))
-                service.sendall(bytes(reply_to(hello, 1, "s", ":1.1")))
-                [entries] = asked(service, incoming, 7, "Get", sender=":1.7")
+                requests = ("Hello", [], "s", ":1.1"), ("RequestName", ["org.example.Load", 4], "u", 1)
+                for member, body, *values in requests:
+                    call = next(incoming)
+                    self.assertEqual((call.member, call.body), (member, body))
+                    service.sendall(bytes(reply_to(call, 1, *values, sender=DBUS)))
+                parts = {"path": "/org/example/Load", "sender": ":1.7"}
+                [entries] = asked(service, incoming, 7, "Get", **parts)
                 self.assertEqual(list(entries), ["Load"])
                 self.assertIsInstance(entries["Load"].value, float)
-                self.assertEqual(asked(service, incoming, 8, "Set", "v", Variant("d", 1.0)), f"{DBUS}.Error.UnknownMethod")
+                reply = asked(service, incoming, 8, "Take", "v", Variant("d", 1.0), **parts)
+                self.assertEqual(reply, f"{DBUS}.Error.UnknownMethod")
 
     def test_descriptors(self):
         listening = self.listen()
@@ -243,7 +249,7 @@ class AtABus(unittest.TestCase):
     def test_both_at_a_dbus_daemon(self):
         self.start("dbus-daemon", "--session", "--nofork", f"--address=unix:path={self.bus}")
         connected(self.bus).close()
-        self.example("service.py", f"unix:path={self.folder.name}/none;tcp:host=x;unix:path={self.bus}")
+        self.example("service.py")
         self.example("proxy.py", "deny", self.door, f"unix:path={self.bus}", "member='GetId'")
         with connected(self.door) as client:
             Client(user=os.getuid()).shake_hands(client)
@@ -256,7 +262,8 @@ class AtABus(unittest.TestCase):
                     if asked(client, incoming, serial, "NameHasOwner", "s", "org.example.Load", **to_bus) == [True]:
                         break
                     time.sleep(0.1)
-                [entries] = asked(client, incoming, 100, "Get", destination="org.example.Load")
+                parts = {"path": "/org/example/Load", "destination": "org.example.Load"}
+                [entries] = asked(client, incoming, 100, "Get", **parts)
                 self.assertEqual(list(entries), ["Load"])
 
     @unittest.skipUnless(BUS or shutil.which("dbus-daemon"), "dbus-daemon is not there")

@@ -38,7 +38,7 @@ class Header(unittest.TestCase):
 
     def test_structs(self):
         declared = re.findall(r"(\d+) bytes\. \*/\nstruct dbus_wire_(\w+) \{(.*?)\n\};", self.text, re.DOTALL)
-        self.assertEqual(len(declared), 25)
+        self.assertEqual(len(declared), 27)
         self.assertEqual(len(declared), sum(isinstance(it, type(ctypes.Structure)) for it in vars(_library).values()))
         for size, name, fields in declared:
             lines = re.findall(r"^    (struct \w+|\w+_t|(?:const )?void \*) ?([\w, ]+);", fields, re.MULTILINE)

@@ -8,7 +8,7 @@ use std::ptr;
 use crate::{sys, OutOfMemory};
 
 // As the header's DBUS_WIRE_REPLY_ROOM and DBUS_WIRE_GUID_LENGTH.
-const REPLY_ROOM: usize = 528;
+pub(crate) const REPLY_ROOM: usize = 528;
 const GUID_LENGTH: usize = 32;
 
 /// The status of a handshake.
@@ -171,6 +171,11 @@ macro_rules! ends {
             /// and else what the connection returned.
             pub fn shake_hands(&mut self, connection: impl Read + Write) -> io::Result<()> {
                 self.0.shake_hands(connection)
+            }
+
+            // For a connection, which takes the end out of it.
+            pub(crate) fn raw(&mut self) -> *mut sys::dbus_wire_handshake {
+                &raw mut self.0.raw
             }
 
             /// Whether both ends agreed to pass Unix file descriptors, once the handshake succeeded.

@@ -36,7 +36,8 @@
 //! * A match [`Rule`], or a [`RuleSet`] of many, says which messages a program wants, and keeps who
 //!   owns the names that they ask for. Threads may ask one at the same time.
 //! * [`Server`] and [`Client`] are the ends of the authentication handshake, and [`client_line`]
-//!   and [`server_line`] give the lines of one between others, which a [`Watch`] passes on.
+//!   and [`server_line`] give the lines of one between others, which a [`Watch`] passes on. A
+//!   [`Connection`] is the handshake, the messages after it, and the calls that wait.
 //! * [`parse_addresses`] reads server addresses, and [`connect`] connects to a bus by them.
 //! * [`Limits`] are those that a message has to keep, and a [`Fault`] says where and why bytes are
 //!   no message; [`explain`] says it for a reader, with the name of the place and the rule,
@@ -60,8 +61,10 @@ mod address;
 mod bad_value;
 mod body;
 mod build;
+mod bus;
 mod check;
 mod checker;
+mod connection;
 mod explain;
 mod fault;
 mod handshake;
@@ -83,8 +86,10 @@ pub use address::{connect, parse_addresses, Address};
 pub use bad_value::BadValue;
 pub use body::{Body, TooLong};
 pub use build::{build, rebuild, reply_to, BuildError, BuildFault, Parts};
+pub use bus::{Bus, ErrorReply};
 pub use check::{check, wanted, Answer, Order};
 pub use checker::{Checker, OutOfMemory, Taken};
+pub use connection::{Came, Connection, ConnectionError, End, Event};
 pub use explain::{explain, whole_parts, Explanation, InputPlace, StatedText};
 pub use fault::{AddressFault, AddressReason, Fault, ParseError, Reason, RuleFault, RuleReason};
 pub use handshake::{Bounds, Client, External, HandshakeError, Server, Status, Step};

@@ -26,7 +26,7 @@ pub enum Kind {
 }
 
 impl Kind {
-    fn of(number: u32) -> Self {
+    pub(crate) fn of(number: u32) -> Self {
         match number {
             sys::DBUS_WIRE_TYPE_METHOD_CALL => Kind::MethodCall,
             sys::DBUS_WIRE_TYPE_METHOD_RETURN => Kind::MethodReturn,

@@ -11,8 +11,8 @@
 //!   `&mut` slice may be written, and overlap no other argument.
 //! * References to structs of this module: they are not null, aligned and initialized, and a `&mut`
 //!   one overlaps no other argument.
-//! * Of a [`dbus_wire_checker`], [`dbus_wire_rules`] or a [`dbus_wire_handshake`] one that only
-//!   calls have written since it was made with a null pointer.
+//! * Of a [`dbus_wire_checker`], [`dbus_wire_rules`], [`dbus_wire_handshake`] or
+//!   [`dbus_wire_connection`] one that only calls have written since it was made with a null pointer.
 //!
 //! That there is stack for a call is the one thing that nothing ensures: see the crate's
 //! documentation.
@@ -33,6 +33,7 @@ pub const DBUS_WIRE_NO_CHECKER: u32 = 7;
 pub const DBUS_WIRE_NO_RULE: u32 = 8;
 pub const DBUS_WIRE_NO_HANDSHAKE: u32 = 9;
 pub const DBUS_WIRE_WAITS: u32 = 11;
+pub const DBUS_WIRE_NO_CONNECTION: u32 = 12;
 
 pub const DBUS_WIRE_TYPE_METHOD_CALL: u32 = 1;
 pub const DBUS_WIRE_TYPE_METHOD_RETURN: u32 = 2;
@@ -129,6 +130,15 @@ pub const DBUS_WIRE_ADDRESS_REASON_GUID: u32 = 7;
 
 pub const DBUS_WIRE_EXTERNAL_AS_USER: u32 = 1;
 pub const DBUS_WIRE_EXTERNAL_AS_REPORTED: u32 = 2;
+
+pub const DBUS_WIRE_EVENT_WANTS: u32 = 0;
+pub const DBUS_WIRE_EVENT_UNSENT: u32 = 1;
+pub const DBUS_WIRE_EVENT_BEGUN: u32 = 2;
+pub const DBUS_WIRE_EVENT_MESSAGE: u32 = 3;
+pub const DBUS_WIRE_EVENT_REFUSED: u32 = 4;
+pub const DBUS_WIRE_EVENT_FAILED: u32 = 5;
+pub const DBUS_WIRE_EVENT_OVER: u32 = 6;
+pub const DBUS_WIRE_EVENT_PASSED: u32 = 7;
 
 pub const DBUS_WIRE_LINE_OTHER: u32 = 0;
 pub const DBUS_WIRE_LINE_AUTH: u32 = 1;
@@ -344,6 +354,30 @@ pub struct dbus_wire_handshake_step {
 }
 
 #[repr(C)]
+#[derive(Debug)]
+pub struct dbus_wire_connection {
+    pub inner: *mut c_void,
+}
+
+#[repr(C)]
+#[derive(Clone, Copy, Debug, Default)]
+pub struct dbus_wire_connection_step {
+    pub count: u64,
+    pub wanted: u64,
+    pub call: u64,
+    pub offset: u64,
+    pub event: u32,
+    pub is_reply: u32,
+    pub unix_fds: u32,
+    pub descriptors: u32,
+    pub reason: u32,
+    pub field: u32,
+    pub serial: u32,
+    pub kind: u16,
+    pub flags: u16,
+}
+
+#[repr(C)]
 #[derive(Clone, Copy, Debug, Default)]
 pub struct dbus_wire_watch {
     pub server: u32,
@@ -395,6 +429,8 @@ const _: () = assert!(size_of::<dbus_wire_rule_refused>() == 16);
 const _: () = assert!(size_of::<dbus_wire_mechanisms>() == 16);
 const _: () = assert!(size_of::<dbus_wire_handshake>() == 8);
 const _: () = assert!(size_of::<dbus_wire_handshake_step>() == 16);
+const _: () = assert!(size_of::<dbus_wire_connection>() == 8);
+const _: () = assert!(size_of::<dbus_wire_connection_step>() == 64);
 const _: () = assert!(size_of::<dbus_wire_watch>() == 16);
 const _: () = assert!(size_of::<dbus_wire_line>() == 72);
 const _: () = assert!(size_of::<dbus_wire_addresses>() == 24);
@@ -615,6 +651,30 @@ extern "C" {
     pub fn dbus_wire_handshake_guid(handshake: *const dbus_wire_handshake, out: *mut u8, room: usize) -> u32;
     pub fn dbus_wire_handshake_agreed(handshake: *const dbus_wire_handshake) -> u32;
     pub fn dbus_wire_handshake_free(handshake: *mut dbus_wire_handshake);
+    pub fn dbus_wire_connection_new(
+        handshake: *mut dbus_wire_handshake,
+        limits: *const dbus_wire_limits,
+        longest: u32,
+        calls: u32,
+        connection: *mut dbus_wire_connection,
+    ) -> u32;
+    pub fn dbus_wire_connection_take(
+        connection: *mut dbus_wire_connection,
+        bytes: *const u8,
+        length: usize,
+        out: *mut dbus_wire_connection_step,
+    ) -> u32;
+    pub fn dbus_wire_connection_unsent(connection: *mut dbus_wire_connection, out: *mut u8, room: usize, count: *mut u64) -> u32;
+    pub fn dbus_wire_connection_serial(connection: *mut dbus_wire_connection, serial: *mut u32) -> u32;
+    pub fn dbus_wire_connection_call(
+        connection: *mut dbus_wire_connection,
+        destination: *const u8,
+        length: usize,
+        call: u64,
+        serial: *mut u32,
+    ) -> u32;
+    pub fn dbus_wire_connection_give_up(connection: *mut dbus_wire_connection, serial: u32, call: *mut u64) -> u32;
+    pub fn dbus_wire_connection_free(connection: *mut dbus_wire_connection);
     pub fn dbus_wire_client_line(bytes: *const u8, length: usize, out: *mut dbus_wire_line) -> u32;
     pub fn dbus_wire_server_line(bytes: *const u8, length: usize, out: *mut dbus_wire_line) -> u32;
     pub fn dbus_wire_watch_client(watch: *mut dbus_wire_watch, bytes: *const u8, length: usize, out: *mut dbus_wire_line) -> u32;

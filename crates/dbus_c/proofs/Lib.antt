@@ -4,6 +4,7 @@ pub mod Telling
 pub mod Swapped
 pub mod RuleTelling
 pub mod EndsMade
+mod ConnectionsMade
 mod Built
 mod Rebuilt
 pub mod WatchTelling

@@ -16,3 +16,4 @@ pub mod JsonReasons
 pub mod LinesRead
 pub mod Written
 pub mod Addresses
+pub mod Connections

@@ -35,3 +35,6 @@ pub const NO_HANDSHAKE: u32 = 9;
 
 /// The line is not to be passed on yet: the server has lines to answer that came before it.
 pub const WAITS: u32 = 11;
+
+/// There is no connection: none was made, or it was freed.
+pub const NO_CONNECTION: u32 = 12;

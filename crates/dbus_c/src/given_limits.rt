@@ -60,7 +60,7 @@ pub(crate) fn given_limits(given: &WireLimits) -> Limits
 }
 
 /// The number, or `most` if it is above that.
-fn at_most(number: u32, most: u32) -> u32
+pub(crate) fn at_most(number: u32, most: u32) -> u32
     ensures { result ≡ min number most }
 {
     if number < most { number } else { most }

@@ -239,8 +239,8 @@ fn fault_at(at: usize, reason: u32) -> RuleRefused
     }
 }
 
-// The text, if it is a bus name.
-fn bus_name(text: &[u8]) -> Option<&str>
+/// The text, if it is a bus name.
+pub(crate) fn bus_name(text: &[u8]) -> Option<&str>
     ensures { MatchOption result (IsKind BusName text.now → ⊥) (λ name. IsKind BusName text.now × (name.now ≡ text.now)) }
 {
     let Ok(name) = str::from_utf8(text) else {

@@ -1,9 +1,10 @@
 //! A client's end that writes what it sends to room of its caller's.
 #![tactic(auto)]
 
-ghost use Rattle.std.specs.Prelude.{◌≡◌, ◌<◌, ◌≤◌, ℕ, IfOk, IfErr, OnErr, length, option_map, if◌then◌else◌};
+ghost use Rattle.std.specs.Prelude.{◌≡◌, ◌<◌, ◌≤◌, ℕ, IfOk, IfErr, OnErr, length, MatchOption, true, false, option_map, if◌then◌else◌};
 ghost use Rattle.dbus_auth.specs.Bounded.{within};
 ghost use Rattle.dbus_auth.specs.EndStepViews.{DidStep};
+ghost use Rattle.dbus_auth.specs.EndViews.{client_end_state};
 ghost use Rattle.dbus_auth.specs.Machines.{is_empty};
 ghost use Rattle.dbus_auth.specs.declared.end_step.Status.TheVariants as status;
 ghost use Rattle.dbus_c_auth.specs.declared.step.TheConstants.{REPLY_ROOM};
@@ -109,6 +110,15 @@ impl ClientSide {
         ensures { result ≡ self.now.machine.agreed }
     {
         self.end.agreed()
+    }
+
+    /// The end, if it has not started.
+    pub fn into_unstarted(self) -> Option<ClientEnd>
+        ensures { MatchOption result (self.started ≡ true) (λ end. (client_end_state end ≡ self) ×
+            ((client_end_state end).started ≡ false) × (self.started ≡ false)) }
+    {
+        let ClientSide { end, started } = self;
+        if started { None } else { Some(end) }
     }
 
     /// Starts the end, or hands it the piece.

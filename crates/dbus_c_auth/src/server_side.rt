@@ -3,6 +3,7 @@
 
 ghost use Rattle.std.specs.Prelude.{◌≡◌, ◌<◌, ◌≤◌, ℕ, IfOk, IfErr, OnErr, length};
 ghost use Rattle.dbus_auth.specs.Bounded.{within};
+ghost use Rattle.dbus_auth.specs.EndViews.{server_end_state};
 ghost use Rattle.dbus_auth.specs.Ends.{server_takes};
 ghost use Rattle.dbus_c_auth.specs.Handshakes.{server_of, Did, IsFault};
 
@@ -49,6 +50,13 @@ impl ServerSide {
         ServerSide {
             end: ServerEnd::new(alloc, server),
         }
+    }
+
+    /// The end, with nothing around it.
+    pub fn into_end(self) -> ServerEnd
+        ensures { server_end_state result ≡ self }
+    {
+        self.end
     }
 
     /// Bounds what the end sends from here on, as [`ServerEnd::set_bounds`] does.

@@ -1,3 +1,4 @@
 pub mod Handles
 pub mod Checkers
 pub mod Rules
+pub mod Connections

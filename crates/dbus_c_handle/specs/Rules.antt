@@ -53,10 +53,11 @@ pub record SetsOwner (name owner : List ℕ) (old new : Option Kept) : Type 0 wh
   pub rules : rules_of new ≡ rules_of old
   pub given : given_of new ≡ given_of old
 
--- what is kept that is no rules: a checker, or an end of a handshake
+-- what is kept that is no rules: a checker, an end of a handshake, or a side of a connection
 abbrev pub other_of : Option Kept → Option Kept
 other_of (Some (kept.Checker b)) = Some (kept.Checker b)
 other_of (Some (kept.Handshake h)) = Some (kept.Handshake h)
+other_of (Some (kept.Connection k)) = Some (kept.Connection k)
 other_of _ = None
 
 -- all that is kept stays

@@ -2,6 +2,7 @@
 #![tactic(auto)]
 
 use dbus_c_auth::Handshake;
+use dbus_c_connection::KeptConnection;
 use dbus_check::Checker;
 use dbus_rule_set::{Owners, RuleSet};
 use std::alloc::Global;
@@ -42,4 +43,6 @@ pub enum Kept {
     Rules(KeptRules),
     /// An end of a handshake.
     Handshake(Handshake),
+    /// One side of a connection.
+    Connection(KeptConnection),
 }

@@ -16,13 +16,13 @@ pub enum Event<'a> {
     Send(Vec<u8>),
     /// The handshake succeeded, and what follows are messages.
     Begun(Begun),
-    /// A message, in place: its bytes are those that were taken.
+    /// A message, in place: its bytes are the last of those that were taken.
     Message(Incoming<'a>),
     /// A message that is longer than those that are given begins. The next calls take its bytes,
     /// which need not be at hand at once, and tell nothing of them.
     Passed(Passed),
-    /// The bytes are no message within the limits. The place counts from the first of them. The
-    /// connection is closed.
+    /// The bytes are no message within the limits. The place counts from the first that was not
+    /// taken. The connection is closed.
     Refused(Fault),
     /// The handshake failed. The connection is closed.
     Failed,

@@ -11,6 +11,6 @@ mod sending;
 mod settings;
 
 pub use connection::Connection;
-pub use event::{Begun, Event, Incoming, Step};
+pub use event::{Begun, Event, Incoming, Passed, Step};
 pub use sending::{Asked, Outgoing, Unsent};
 pub use settings::Settings;

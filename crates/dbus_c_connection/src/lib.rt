@@ -1,0 +1,10 @@
+//! One side of a connection as C keeps it: what a call tells has no bytes in it, those to send are
+//! kept until they are asked for, and a call that waits is a number. D-Bus Specification,
+//! "Authentication Protocol" and "Message Protocol".
+#![tactic(auto)]
+
+mod came;
+mod kept_connection;
+
+pub use came::{Came, What};
+pub use kept_connection::{KeptConnection, NoCall};
