@@ -41,8 +41,9 @@ def clauses_of(item):
 
 
 def bodies_of(item):
-    """The functions that have the clauses of this one: of a trait's method also those of its impls."""
-    others = [it for it in functions(item.crate) if item.owner.startswith("trait ") and it.name == item.name and not it.clauses]
+    """The functions that have the clauses of this one: of a trait's method also those of its impls, in any crate."""
+    crates = read_crates() if item.owner.startswith("trait ") else []
+    others = [it for crate in crates for it in functions(crate) if it.name == item.name and not it.clauses]
     return [item, *(it for it in others if plain(impl_of(it.owner)[1]) == owner_of(item))]
 
 
@@ -61,7 +62,9 @@ def left_by(edit):
     # Of methods with one name in a file it is the one that the edit changes.
     before = [it for it in there if f"src/{it.file}" == file and it.line <= line]
     clause = re.search(r"-clause-(\w+)", goal)
-    return there[0] if len(there) == 1 else before[-1] if before else None, [clause[1], *edit.also.split(", ")] if clause else [ONLY]
+    # A goal without the name of a clause is of all of them, and the block says which its body breaks.
+    broken = [clause[1], *edit.also.split(", ")] if clause else [ONLY, *edit.clause.split(", ")]
+    return there[0] if len(there) == 1 else before[-1] if before else None, broken
 
 
 def lines_in(crate, words=("follows:", "holds:")):

@@ -2,20 +2,17 @@
 use borrow.Rule.Slice.PartMut.{put_mid}
 use Rattle.std.proofs.Common.{◌≡◌, ◌≤◌, ◌<◌, ◌+◌, ◌-◌, ℕ, zero, suc, true, false, cond, List, [], ◌∷◌, ◌++◌, length, take, Option, None, Some, Result, Ok, Err, MatchResult, inl, inr, ◌⊎◌, is_some, refl, sym, ap, subst, ◌∙◌, arith, append_assoc, append-nil, length-append}
 use Rattle.std.specs.Io.KnownBytes.{Consumes, Keeps, IsAtEnd, ReadConsumes, prepend_known}
-use Rattle.std.proofs.KnownBytes.{Consumes-nil}
+use Rattle.std.proofs.KnownBytes.{Consumes-nil, Keeps-refl}
 use Rattle.std.specs.List.{All}
 use Rattle.std.specs.List.{slice_range}
 use Rattle.std.proofs.lemmas.List.{length-take, take-append-le}
 use Rattle.std.proofs.Math.Seq.{take-append-add}
 use Rattle.std.proofs.lemmas.List.Elements.{All-cons, All-nil}
 use Rattle.dbus_device.specs.Device.{ReadCounts}
-use Rattle.dbus_device.specs.Calls.{joined, HasByte, ReadsPiece, ReadsPieces}
+use Rattle.dbus_device.specs.Calls.{joined, HasByte, ReadsPiece}
 use Rattle.dbus_device.specs.Packets.{Packets, PacketsAfter, AreOfPacket, ReadsOfPacket}
-use Rattle.dbus_device.specs.declared.device_fault.DeviceFault.{DeviceFault}
-use Rattle.dbus_device.specs.declared.packet.Packet.{Packet}
+use Rattle.dbus_capture.specs.Types.{DeviceFault, Packet, Stage, Scan}
 use Rattle.dbus_device.proofs.CallLaws.{pieces_consumed}
-use Rattle.dbus_capture.specs.declared.stage.Stage.{Stage}
-use Rattle.dbus_capture.specs.declared.scan.Scan.{Scan}
 use Rattle.dbus_capture.specs.declared.input.Input.{Input}
 use Rattle.dbus_capture.specs.Stages.{begun}
 use Rattle.dbus_capture.specs.Beginnings.{first_stage}
@@ -23,7 +20,7 @@ use Rattle.dbus_capture.specs.Captures.{source_of, scan_of, chosen_of, kept_of, 
 use Rattle.dbus_capture.specs.Packets.{last_packet}
 use Rattle.dbus_capture.proofs.Choices.{when_true, when_false}
 use Rattle.dbus_capture.proofs.FirstLaws.{first_front}
-use Rattle.dbus_capture.proofs.CaptureSteps.{consumes_by, keeps_from, rest_of, given_stopped, part_gives, part_fails}
+use Rattle.dbus_capture.proofs.CaptureSteps.{consumes_by, rest_of, given_stopped, part_gives, part_fails}
 use Rattle.dbus_capture.proofs.PacketSteps.{packets_rest, part_packets, of_none}
 
 -- ---- what is known of the rest of the file
@@ -47,58 +44,63 @@ opened_chosen s bytes e = when_true _ _ _ e
 opened_same : {R : Type 0} (s : Input R) (bytes more : List ℕ) → first_stage bytes ≡ first_stage more → opened s bytes ≡ opened s more
 opened_same s bytes more e = ap (λ (t : Stage). cond s.chosen s.scan (record s.scan { head = begun t })) e
 
-module _ {R : Type 0} (left : R → Option (List ℕ)) (calls failures : R → ℕ) where
-  pub fetched_file : (old new : Input R) → Fetches left calls old new → Consumes (file_of left old) (file_of left new) []
-  fetched_file old new f =
-      consumes_by (left (source_of old)) (left (source_of new)) (kept_of old) (joined f.pieces) [] (kept_of new) (pieces_consumed left calls (source_of old) (source_of new) f.pieces f.called) (sym f.kept)
+module _ {R : Type 0} (left : R → Option (List ℕ)) (calls failures : R → ℕ) (old new : Input R) where
+  pub fetched_file : Fetches left calls old new → Consumes (file_of left old) (file_of left new) []
+  fetched_file f = consumes_by (left (source_of old)) (left (source_of new)) (kept_of old) (joined f.pieces) [] (kept_of new)
+      (pieces_consumed left calls (source_of old) (source_of new) f.pieces f.called) (sym f.kept)
+
+  -- the same is known after it
+  known_after : (bytes : List ℕ) → Fetches left calls old new → file_of left old ≡ Some bytes → file_of left new ≡ Some bytes
+  known_after bytes f e = same_known (file_of left old) (file_of left new) bytes (fetched_file f) e
 
   -- what the rest says is what the bytes that are there say
-  told_by : (old mid : Input R) (bytes : List ℕ) → Begins left calls failures old mid → file_of left mid ≡ Some bytes → opened old bytes ≡ scan_of mid
-  told_by old mid bytes b e =
-      let f = front_rest (kept_of mid) (left (source_of mid)) bytes e in
+  told_by : (bytes : List ℕ) → Begins left calls failures old new → file_of left new ≡ Some bytes → opened old bytes ≡ scan_of new
+  told_by bytes b e =
+      let f = front_rest (kept_of new) (left (source_of new)) bytes e in
       elim b.enough [
-        | inl chosen ↦ opened_chosen old bytes chosen ∙ sym (opened_chosen old (kept_of mid) chosen) ∙ sym b.scan
+        | inl chosen ↦ opened_chosen old bytes chosen ∙ sym (opened_chosen old (kept_of new) chosen) ∙ sym b.scan
         | inr enough ↦ elim enough [
-          | inl four ↦ opened_same old bytes (kept_of mid) (ap first_stage f.2 ∙ first_front (kept_of mid) f.0 four) ∙ sym b.scan
-          | inr end ↦ ap (opened old) (f.2 ∙ ap (λ (l : List ℕ). kept_of mid ++ l) (at_end (left (source_of mid)) f.0 f.1 end) ∙ append-nil (kept_of mid)) ∙ sym b.scan
+          | inl four ↦ opened_same old bytes (kept_of new) (ap first_stage f.2 ∙ first_front (kept_of new) f.0 four) ∙ sym b.scan
+          | inr end ↦
+              let nothing = ap (λ (l : List ℕ). kept_of new ++ l) (at_end (left (source_of new)) f.0 f.1 end) in
+              ap (opened old) (f.2 ∙ nothing ∙ append-nil (kept_of new)) ∙ sym b.scan
         ]
       ]
 
-  pub opened_known : (old mid : Input R) (bytes : List ℕ) → Begins left calls failures old mid → file_of left old ≡ Some bytes → opened_of left old ≡ scan_of mid
-  opened_known old mid bytes b e =
-      let same = same_known (file_of left old) (file_of left mid) bytes (fetched_file old mid b.fetches) e in
-      ap (λ (o : Option (List ℕ)). opened old (known o)) e ∙ told_by old mid bytes b same
+  pub opened_known : (bytes : List ℕ) → Begins left calls failures old new → file_of left old ≡ Some bytes → opened_of left old ≡ scan_of new
+  opened_known bytes b e = ap (λ (o : Option (List ℕ)). opened old (known o)) e ∙ told_by bytes b (known_after bytes b.fetches e)
 
-  pub opened_waiting : (old new : Input R) (r : Result ℕ DeviceFault) (room : ℕ) (bytes : List ℕ) → Waits left calls failures old new r room → file_of left old ≡ Some bytes → opened_of left old ≡ opened_of left new
-  opened_waiting old new r room bytes w e =
-      let same = same_known (file_of left old) (file_of left new) bytes (fetched_file old new w.fetches) e in
+  pub opened_waiting : (r : Result ℕ DeviceFault) (room : ℕ) (bytes : List ℕ) → Waits left calls failures old new r room
+      → file_of left old ≡ Some bytes → opened_of left old ≡ opened_of left new
+  opened_waiting r room bytes w e =
+      let is : file_of left new ≡ Some bytes = known_after bytes w.fetches e in
       let scans : opened old bytes ≡ opened new bytes =
       when_false _ _ _ w.before ∙ ap (λ (v : Scan). record v { head = begun (first_stage bytes) }) (sym w.scan) ∙ sym (when_false _ _ _ w.after) in
-      ap (λ (o : Option (List ℕ)). opened old (known o)) e ∙ scans ∙ ap (λ (o : Option (List ℕ)). opened new (known o)) (sym same)
+      ap (λ (o : Option (List ℕ)). opened old (known o)) e ∙ scans ∙ ap (λ (o : Option (List ℕ)). opened new (known o)) (sym is)
 
-  pub waiting_fault : (old new : Input R) (r : Result ℕ DeviceFault) (room : ℕ) → Waits left calls failures old new r room → (opened_of left new).fault ≡ (scan_of new).fault
-  waiting_fault old new r room w = ap (λ (v : Scan). v.fault) (when_false _ _ _ w.after)
+  pub waiting_fault : (r : Result ℕ DeviceFault) (room : ℕ) → Waits left calls failures old new r room → (opened_of left new).fault ≡ (scan_of new).fault
+  waiting_fault r room w = ap (λ (v : Scan). v.fault) (when_false _ _ _ w.after)
 
   -- what is said of the rest, if it is known
   module _ {X : Type 0} (says : Scan → Option (List ℕ) → Option X) (none : (s : Scan) → says s None ≡ None) where
-    -- if the same is left in another state, and that is what the input is in then
-    said_from : (s : Input R) (v : Scan) (f : Option (List ℕ)) → Consumes (file_of left s) f [] → ((bytes : List ℕ) → file_of left s ≡ Some bytes → opened_of left s ≡ v) → (o : Option (List ℕ)) → file_of left s ≡ o
-        → (says (opened_of left s) (file_of left s) ≡ None) ⊎ (says (opened_of left s) (file_of left s) ≡ says v f)
-    said_from s v f same is None e = inl (ap (says (opened_of left s)) e ∙ none (opened_of left s))
-    said_from s v f same is (Some bytes) e =
-        inr (ap (λ (t : Scan). says t (file_of left s)) (is bytes e) ∙ ap (says v) (e ∙ sym (same_known (file_of left s) f bytes same e)))
+    abbrev said : Option X
+    said = says (opened_of left old) (file_of left old)
 
-    pub said_after : (old mid : Input R) → Begins left calls failures old mid
-        → (says (opened_of left old) (file_of left old) ≡ None) ⊎ (says (opened_of left old) (file_of left old) ≡ says (scan_of mid) (file_of left mid))
-    said_after old mid b = said_from old (scan_of mid) (file_of left mid) (fetched_file old mid b.fetches) (λ bytes e. opened_known old mid bytes b e) (file_of left old) refl
+    -- if the input is known to be in this state
+    said_from : (v : Scan) → Fetches left calls old new → ((bytes : List ℕ) → file_of left old ≡ Some bytes → opened_of left old ≡ v)
+        → (o : Option (List ℕ)) → file_of left old ≡ o → (said ≡ None) ⊎ (said ≡ says v (file_of left new))
+    said_from v f is None e = inl (ap (says (opened_of left old)) e ∙ none (opened_of left old))
+    said_from v f is (Some bytes) e = inr (ap (λ (t : Scan). says t (file_of left old)) (is bytes e) ∙ ap (says v) (e ∙ sym (known_after bytes f e)))
 
-    pub said_chosen : (s : Input R) → chosen_of s ≡ true → says (opened_of left s) (file_of left s) ≡ says (scan_of s) (file_of left s)
-    said_chosen s e = ap (λ (v : Scan). says v (file_of left s)) (opened_chosen s (known (file_of left s)) e)
+    pub said_after : Begins left calls failures old new → (said ≡ None) ⊎ (said ≡ says (scan_of new) (file_of left new))
+    said_after b = said_from (scan_of new) b.fetches (λ bytes e. opened_known bytes b e) (file_of left old) refl
 
-    pub said_waiting : (old new : Input R) (r : Result ℕ DeviceFault) (room : ℕ) → Waits left calls failures old new r room
-        → (says (opened_of left old) (file_of left old) ≡ None) ⊎ (says (opened_of left old) (file_of left old) ≡ says (opened_of left new) (file_of left new))
-    said_waiting old new r room w =
-        said_from old (opened_of left new) (file_of left new) (fetched_file old new w.fetches) (λ bytes e. opened_waiting old new r room bytes w e) (file_of left old) refl
+    pub said_chosen : chosen_of new ≡ true → says (opened_of left new) (file_of left new) ≡ says (scan_of new) (file_of left new)
+    said_chosen e = ap (λ (v : Scan). says v (file_of left new)) (opened_chosen new (known (file_of left new)) e)
+
+    pub said_waiting : (r : Result ℕ DeviceFault) (room : ℕ) → Waits left calls failures old new r room
+        → (said ≡ None) ⊎ (said ≡ says (opened_of left new) (file_of left new))
+    said_waiting r room w = said_from (opened_of left new) w.fetches (λ bytes e. opened_waiting r room bytes w e) (file_of left old) refl
 
 -- ---- a read
 
@@ -118,7 +120,7 @@ after_same (Some packets) = λ i. ap packets (let z : i ≡ 0 + i = omega arith 
 
 module _ {R : Type 0} (left : R → Option (List ℕ)) (calls failures : R → ℕ) (old new : Input R) (buffer : List ℕ) where
   waiting_reads : (r : Result ℕ DeviceFault) → Waits left calls failures old new r (length buffer) → ReadConsumes (left_of left new) (left_of left new) r buffer
-  waiting_reads (Err e) w = keeps_from (left_of left new) (left_of left new) (Consumes-nil (left_of left new))
+  waiting_reads (Err e) w = Keeps-refl (left_of left new)
   waiting_reads (Ok (suc n)) w = absurd (omega (arith, w.nothing.0))
   waiting_reads (Ok zero) w = (
     Consumes-nil (left_of left new),
@@ -136,20 +138,26 @@ module _ {R : Type 0} (left : R → Option (List ℕ)) (calls failures : R → �
 
   pub input_gives : (r : Result ℕ DeviceFault) → ReadsInput left calls failures old new r buffer → ReadConsumes (left_of left old) (left_of left new) r buffer
   input_gives r (inl i) =
-      reads_from (left_of left old) (rest_of left i.mid) (left_of left new) r buffer (said_after left calls failures given_of (λ s. refl) old i.mid i.begins)
-      (subst (λ (o : Option (List ℕ)). ReadConsumes (rest_of left i.mid) o r buffer) (sym (said_chosen left calls failures given_of (λ s. refl) new i.chosen)) (part_gives left failures i.mid new r buffer i.part))
-  input_gives r (inr w) = reads_from (left_of left old) (left_of left new) (left_of left new) r buffer (said_waiting left calls failures given_of (λ s. refl) old new r (length buffer) w) (waiting_reads r w)
+      let after = said_after left calls failures old i.mid given_of (λ s. refl) i.begins in
+      let chosen = sym (said_chosen left calls failures old new given_of (λ s. refl) i.chosen) in
+      reads_from (left_of left old) (rest_of left i.mid) (left_of left new) r buffer after
+      (subst (λ (o : Option (List ℕ)). ReadConsumes (rest_of left i.mid) o r buffer) chosen (part_gives left failures i.mid new r buffer i.part))
+  input_gives r (inr w) =
+      let after = said_waiting left calls failures old new given_of (λ s. refl) r (length buffer) w in
+      reads_from (left_of left old) (left_of left new) (left_of left new) r buffer after (waiting_reads r w)
 
-  pub input_packets : (r : Result ℕ DeviceFault) (before : Option Packet) → MatchResult r (λ n. n ≤ length buffer) (λ e. Unit {0}) → ReadsInput left calls failures old new r buffer
-      → ReadsOfPacket (packets_of left old) (packets_of left new) (last_packet r (scan_of new).packet before) r
+  pub input_packets : (r : Result ℕ DeviceFault) (before : Option Packet) → MatchResult r (λ n. n ≤ length buffer) (λ e. Unit {0})
+      → ReadsInput left calls failures old new r buffer → ReadsOfPacket (packets_of left old) (packets_of left new) (last_packet r (scan_of new).packet before) r
   input_packets r before b (inl i) =
-      packets_from (packets_of left old) (packets_rest left i.mid) (packets_of left new) (last_packet r (scan_of new).packet before) r
-      (said_after left calls failures packets_by (λ s. refl) old i.mid i.begins)
-      (subst (λ (o : Option Packets). ReadsOfPacket (packets_rest left i.mid) o (last_packet r (scan_of new).packet before) r) (sym (said_chosen left calls failures packets_by (λ s. refl) new i.chosen))
-      (part_packets left failures i.mid new r buffer before b i.part))
+      let last = last_packet r (scan_of new).packet before in
+      let after = said_after left calls failures old i.mid packets_by (λ s. refl) i.begins in
+      let chosen = sym (said_chosen left calls failures old new packets_by (λ s. refl) i.chosen) in
+      packets_from (packets_of left old) (packets_rest left i.mid) (packets_of left new) last r after
+      (subst (λ (o : Option Packets). ReadsOfPacket (packets_rest left i.mid) o last r) chosen (part_packets left failures i.mid new r buffer before b i.part))
   input_packets r before b (inr w) =
-      packets_from (packets_of left old) (packets_of left new) (packets_of left new) (last_packet r (scan_of new).packet before) r
-      (said_waiting left calls failures packets_by (λ s. refl) old new r (length buffer) w) (waiting_packets r (last_packet r (scan_of new).packet before) w)
+      let last = last_packet r (scan_of new).packet before in
+      let after = said_waiting left calls failures old new packets_by (λ s. refl) r (length buffer) w in
+      packets_from (packets_of left old) (packets_of left new) (packets_of left new) last r after (waiting_packets r last w)
 
   pub input_fails : (r : Result ℕ DeviceFault) → ReadsInput left calls failures old new r buffer → ReadCounts (failures_of failures old) (failures_of failures new) r
   input_fails r (inr w) = waiting_fails r w
@@ -164,26 +172,29 @@ module _ {R : Type 0} (left : R → Option (List ℕ)) (calls failures : R → �
 from_start : (bytes : List ℕ) (n : ℕ) → slice_range bytes 0 n ≡ take n bytes
 from_start bytes n = ap (λ (k : ℕ). take k bytes) (let z : n - 0 ≡ n = omega arith in z)
 
--- what was read behind what is kept
-pub kept_put : (bytes part : List ℕ) (start end m k : ℕ) → start ≡ 0 → end ≤ length bytes → k ≤ length part → slice_range (put_mid end m bytes part) start (end + k) ≡ slice_range bytes start end ++ take k part
-kept_put bytes part start end m k first fits within =
-    let long : length (take end bytes) ≡ end = omega (arith, length-take end bytes, fits) in
-    let front : take (end + k) (put_mid end m bytes part) ≡ take end bytes ++ take k part =
-    ap (λ (j : ℕ). take (j + k) (put_mid end m bytes part)) (sym long) ∙ (take-append-add (take end bytes) (part ++ _) k ∙ ap (λ (l : List ℕ). take end bytes ++ l) (take-append-le k part _ within)) in
-    ap (λ (n : ℕ). slice_range (put_mid end m bytes part) n (end + k)) first ∙ from_start (put_mid end m bytes part) (end + k) ∙ front
-    ∙ ap (λ (l : List ℕ). l ++ take k part) (sym (from_start bytes end)) ∙ ap (λ (n : ℕ). slice_range bytes n end ++ take k part) (sym first)
-
--- and if nothing was
-pub kept_none : (bytes part : List ℕ) (start end m : ℕ) → start ≡ 0 → end ≤ length bytes → slice_range (put_mid end m bytes part) start end ≡ slice_range bytes start end ++ []
-kept_none bytes part start end m first fits =
-    ap (slice_range (put_mid end m bytes part) start) (let z : end ≡ end + 0 = omega arith in z) ∙ kept_put bytes part start end m 0 first fits (omega arith)
-
 -- what is kept is there
-pub kept_there : (bytes : List ℕ) (start end : ℕ) → start ≡ 0 → length (slice_range bytes start end) ≡ end - start → end ≤ length bytes
+kept_there : (bytes : List ℕ) (start end : ℕ) → start ≡ 0 → length (slice_range bytes start end) ≡ end - start → end ≤ length bytes
 kept_there bytes start end first size =
     let whole : length (take end bytes) ≡ end =
     ap length (sym (from_start bytes end)) ∙ ap (λ (n : ℕ). length (slice_range bytes n end)) (sym first) ∙ size ∙ (let z : end - start ≡ end = omega (arith, first) in z) in
     omega (arith, whole, length-take end bytes)
+
+-- what was read behind it
+pub kept_put : (bytes part : List ℕ) (start end m k : ℕ) → start ≡ 0 → length (slice_range bytes start end) ≡ end - start → k ≤ length part
+    → slice_range (put_mid end m bytes part) start (end + k) ≡ slice_range bytes start end ++ take k part
+kept_put bytes part start end m k first size within =
+    let long : length (take end bytes) ≡ end = omega (arith, length-take end bytes, kept_there bytes start end first size) in
+    let put = put_mid end m bytes part in
+    let front : take (end + k) put ≡ take end bytes ++ take k part =
+    ap (λ (j : ℕ). take (j + k) put) (sym long) ∙ (take-append-add (take end bytes) (part ++ _) k ∙ ap (λ (l : List ℕ). take end bytes ++ l) (take-append-le k part _ within)) in
+    ap (λ (n : ℕ). slice_range put n (end + k)) first ∙ from_start put (end + k) ∙ front
+    ∙ ap (λ (l : List ℕ). l ++ take k part) (sym (from_start bytes end)) ∙ ap (λ (n : ℕ). slice_range bytes n end ++ take k part) (sym first)
+
+-- and if nothing was
+pub kept_none : (bytes part : List ℕ) (start end m : ℕ) → start ≡ 0 → length (slice_range bytes start end) ≡ end - start
+    → slice_range (put_mid end m bytes part) start end ≡ slice_range bytes start end ++ []
+kept_none bytes part start end m first size =
+    ap (slice_range (put_mid end m bytes part) start) (let z : end ≡ end + 0 = omega arith in z) ∙ kept_put bytes part start end m 0 first size (omega arith)
 
 -- in so many turns the source below gave a byte each, or more
 pub record Fetched {R : Type 0} (left : R → Option (List ℕ)) (calls failures : R → ℕ) (turns : ℕ) (old new : Input R) : Type 0 where
@@ -242,25 +253,6 @@ module _ {R : Type 0} (left : R → Option (List ℕ)) (calls failures : R → �
         chosen = chosen ∙ f.chosen;
         unfailed = source ∙ f.unfailed;
       }
-
-  -- it is known what the input is
-  pub begins_at : (old mid new : Input R) (bytes : List ℕ) → chosen_of old ≡ false → Fetches left calls old mid → (4 ≤ length (kept_of mid)) ⊎ IsAtEnd (left (source_of mid))
-      → failures (source_of mid) ≡ failures (source_of old) → source_of new ≡ source_of mid → kept_of new ≡ kept_of mid → gave_up_of new ≡ gave_up_of mid → scan_of mid ≡ scan_of old
-      → bytes ≡ kept_of mid → scan_of new ≡ record (scan_of mid) { head = begun (first_stage bytes) } → chosen_of new ≡ true → Begins left calls failures old new
-  begins_at old mid new bytes e f enough unfailed source kept gave_up scan same now chosen = record {
-    fetches = record {
-      pieces = f.pieces;
-      called = subst (ReadsPieces left calls (source_of old) f.pieces) (sym source) f.called;
-      first = f.first;
-      kept = kept ∙ f.kept;
-      gave_up = gave_up ∙ f.gave_up;
-    };
-    enough = inr (subst (λ (s : R). (4 ≤ length (kept_of new)) ⊎ IsAtEnd (left s)) (sym source) (subst (λ (l : List ℕ). (4 ≤ length l) ⊎ IsAtEnd (left (source_of mid))) (sym kept) enough));
-    scan = now ∙ ap (λ (v : Scan). record v { head = begun (first_stage bytes) }) scan
-        ∙ ap (λ (l : List ℕ). record (scan_of old) { head = begun (first_stage l) }) (same ∙ sym kept) ∙ sym (when_false _ _ _ e);
-    chosen = chosen;
-    unfailed = ap failures source ∙ unfailed;
-  }
 
   pub begins_still : (s : Input R) → chosen_of s ≡ true → Begins left calls failures s s
   begins_still s e = record { fetches = fetches_nothing s; enough = inl e; scan = sym (opened_chosen s (kept_of s) e); chosen = e; unfailed = refl }

@@ -1,25 +1,18 @@
 -- A block of a pcapng file that has a packet, or that is passed over, is read as it is spelled.
 use Rattle.std.proofs.Common.{◌≡◌, ◌≢◌, inl, inr, ℕ, ◌+◌, ◌-◌, ◌*◌, ◌<◌, ◌≤◌, ◌^◌, ◌%◌, Bool, true, false, List, [], ◌++◌, length, Option, None, Some, refl, sym, ap, subst, ◌∙◌, arith, append_assoc, append-nil, length-append}
 use Rattle.std.specs.Prelude.{◌==◌, nat_lt, slice_get}
-use Rattle.dbus_device.specs.declared.packet.Packet.{Packet}
-use Rattle.dbus_capture.specs.declared.byte_order.ByteOrder.{ByteOrder}
-use Rattle.dbus_capture.specs.declared.byte_order.ByteOrder.TheVariants.{Little, Big}
-use Rattle.dbus_capture.specs.declared.stage.Stage.{Stage}
+use Rattle.dbus_capture.specs.Types.{ByteOrder, Little, Big, Stage, Interface, Scan, PacketHead}
 use Rattle.dbus_capture.specs.declared.stage.Stage.TheVariants as stages
-use Rattle.dbus_capture.specs.declared.interface.Interface.{Interface}
-use Rattle.dbus_capture.specs.declared.scan.Scan.{Scan}
 use Rattle.dbus_capture.specs.Numbers.{u32_bytes, u32_at, u16_at}
 use Rattle.dbus_capture.specs.Stages.{begun, is_raw, want}
 use Rattle.dbus_capture.specs.Steps.{Leads}
 use Rattle.dbus_capture.specs.Scans.{place}
 use Rattle.dbus_capture.specs.Blocks.{padded, is_length, block_stage, block_by, time_of, block_packet, decoded_by}
 use Rattle.dbus_capture.specs.Packets.{FitsTime, head_time, block_front}
-use Rattle.dbus_capture.specs.BlockFiles.{FitsBody, framed_bytes, PacketBlock, PacketForm, EnhancedHead, ObsoleteHead, SimpleHead, head_kind, head_bytes, head_interface, FitsHead, block_bytes, block_body, IsCapturedBy, FitsBlock}
+use Rattle.dbus_capture.specs.BlockFiles.{FitsBody, framed_bytes, PacketBlock, PacketForm, EnhancedHead, ObsoleteHead, SimpleHead, head_kind, head_bytes, head_interface, FitsHead, block_bytes, block_body, IsCapturedBy, FitsBlock, packet_by, block_packets}
 use Rattle.dbus_capture.specs.Heads.{give_packet, pass_packet, packet_head}
-use Rattle.dbus_capture.specs.declared.packet.PacketHead.{PacketHead}
 use Rattle.dbus_capture.specs.CutPackets.{Captured}
-use Rattle.dbus_capture.specs.BlockPackets.{packet_by, block_packets}
-use Rattle.dbus_capture.proofs.Choices.{lt_false, le_true, eq_is, eq_not, eq_told, both_true, when, when_true, when_false}
+use Rattle.dbus_capture.proofs.Choices.{lt_false, le_true, eq_is, eq_not, eq_told, when, when_true, when_false}
 use Rattle.dbus_capture.proofs.NumberLaws.{u32_size, u32_again, u16_again}
 use Rattle.dbus_capture.proofs.StepLaws.{lead_then, lead_to, lead_of, lead_from}
 use Rattle.dbus_capture.proofs.Leads.{head_leads, bytes_lead, given_whole, packet_cases, Went, went_on, went_whole, went_cut, Begins}
@@ -29,7 +22,7 @@ abbrev pub at_blocks : ByteOrder → List Interface → Scan → Scan
 at_blocks o interfaces s = record s { head = begun stages.Block; give = 0; skip = 0; fault = None; order = o; interfaces = interfaces }
 
 pub length_ok : (least total : ℕ) → total % 4 ≡ 0 → least ≤ total → is_length least total ≡ true
-length_ok least total p q = both_true _ _ (eq_is (total % 4) 0 p) (le_true least total q)
+length_ok least total p q = simp (eq_is (total % 4) 0 p, le_true least total q)
 
 -- the length of a block
 pub framed_size : (order : ByteOrder) (kind : ℕ) (body : List ℕ) → length (framed_bytes order kind body) ≡ 12 + length body
@@ -43,22 +36,6 @@ pub one_told : (o : ByteOrder) (a : ℕ) → a < 2 ^ 32 → u32_at o 0 (u32_byte
 one_told Little a p = u32_again Little a p
 one_told Big a p = u32_again Big a p
 
--- the type and the length of a block that is no section's
-pub opens : (o : ByteOrder) (interfaces : List Interface) (s : Scan) (kind total : ℕ) → kind < 2 ^ 32 → total < 2 ^ 32 → kind ≢ 0x0a0d0d0a
-    → Leads (at_blocks o interfaces s) (u32_bytes o kind ++ u32_bytes o total) [] (block_by (at_blocks o interfaces s) total (block_stage kind))
-opens o interfaces s kind total p q other =
-    let e = two_told o kind total p q in
-    let t = at_blocks o interfaces s in
-    let h = u32_bytes o kind ++ u32_bytes o total in
-    lead_to (head_leads stages.Block t h refl (omega (arith, e.0)) e.0)
-    (when_false _ _ _ (eq_not _ _ (λ z. other (sym e.1 ∙ z))) ∙ ap (λ (m : ℕ). block_by t m (block_stage (u32_at o 0 h))) e.2 ∙ ap (λ (m : ℕ). block_by t total (block_stage m)) e.1)
-
--- a block whose type says what comes in it
-pub opens_as : (o : ByteOrder) (interfaces : List Interface) (s : Scan) (kind total least : ℕ) (stage : Stage) → block_stage kind ≡ Some (stage, least) → kind < 2 ^ 32 → total < 2 ^ 32 → total % 4 ≡ 0 → least ≤ total → kind ≢ 0x0a0d0d0a
-    → Leads (at_blocks o interfaces s) (u32_bytes o kind ++ u32_bytes o total) [] (record (at_blocks o interfaces s) { head = begun stage; next = place (s.next + 8); total = total; rest = total - 20 })
-opens_as o interfaces s kind total least stage e p q whole enough other =
-    lead_to (opens o interfaces s kind total p q other) (ap (block_by (at_blocks o interfaces s) total) e ∙ when_true _ _ _ (length_ok least total whole enough))
-
 -- the rest of a block: a packet's bytes, what is passed over, and the length
 pub ends : (o : ByteOrder) (t : Scan) (bytes rest : List ℕ) (give skip total : ℕ) → give ≡ length bytes → skip ≡ length rest → total < 2 ^ 32
     → Leads (record t { head = begun stages.Trailer; give = give; skip = skip; fault = None; order = o; total = total }) ((bytes ++ rest) ++ u32_bytes o total) (bytes ++ [])
@@ -66,40 +43,22 @@ pub ends : (o : ByteOrder) (t : Scan) (bytes rest : List ℕ) (give skip total :
 ends o t bytes rest give skip total g k low =
     let size = u32_size o total in
     lead_then (bytes_lead (record t { head = begun stages.Trailer; order = o; total = total }) bytes rest give skip refl g k)
-    (lead_to (head_leads stages.Trailer (record t { order = o; total = total }) (u32_bytes o total) refl (omega (arith, size)) size) (when_true _ _ _ (eq_is _ _ (one_told o total low))))
-
--- ---- a block of another type
-
-pub other_read : (o : ByteOrder) (interfaces : List Interface) (s : Scan) (kind : ℕ) (body : List ℕ) → kind < 2 ^ 32 → kind ≢ 1 → kind ≢ 2 → kind ≢ 3 → kind ≢ 6 → kind ≢ 0x0a0d0d0a → FitsBody body
-    → Went (at_blocks o interfaces) (at_blocks o interfaces s) (framed_bytes o kind body) []
-other_read o interfaces s kind body low a b c d no_section f =
-    let total = 12 + length body in
-    let size = framed_size o kind body in
-    let none : block_stage kind ≡ None = when_false _ _ _ (eq_not kind 1 a) ∙ when_false _ _ _ (eq_not kind 2 b) ∙ when_false _ _ _ (eq_not kind 3 c) ∙ when_false _ _ _ (eq_not kind 6 d) in
-    let t = at_blocks o interfaces s in
-    let m : Scan = record t { head = begun stages.Trailer; skip = total - 12; next = place (s.next + (total - 4)); total = total } in
-    let opened : block_by t total (block_stage kind) ≡ m = ap (block_by t total) none ∙ when_true _ _ _ (length_ok 12 total f.whole (omega arith)) in
-    went_on (at_blocks o interfaces) t (record m { next = place (m.next + 4) }) (framed_bytes o kind body)
-    (lead_then (lead_to (opens o interfaces s kind total low f.size no_section) opened) (ends o m [] body 0 (total - 12) total refl (omega arith) f.size)) refl (omega (arith, size)) refl refl
+    (lead_to (head_leads stages.Trailer (record t { order = o; total = total }) (u32_bytes o total) refl size) (when_true _ _ _ (eq_is _ _ (one_told o total low))))
 
 -- ---- the head of a packet's block
 
 -- how such a block is read
 record IsPacketBlock (o : ByteOrder) (interfaces : List Interface) (head : PacketForm) (i : Interface) (n original : ℕ) : Type 0 where
   stage : Stage
-  size : ℕ
   k : ℕ
   time : Option ℕ
   low : head_kind head < 2 ^ 32
-  no_section : head_kind head ≢ 0x0a0d0d0a
-  staged : block_stage (head_kind head) ≡ Some (stage, size + 12)
+  staged : block_stage (head_kind head) ≡ Some (stage, want stage + 12)
   filed : is_raw stage ≡ false
-  wanted : want stage ≡ size
-  long : length (head_bytes o head n original) ≡ size
-  some : 0 < size
+  long : length (head_bytes o head n original) ≡ want stage
   of : (m : Scan) → let t : Scan = record m { order = o; interfaces = interfaces } in
       decoded_by stage t (head_bytes o head n original)
-      ≡ block_packet t i.link_type (record { before = 8; size = size; captured_at = k; original_at = k; room = m.total - (size + 12); time = time; captured = n; original = original })
+      ≡ block_packet t i.link_type (record { before = 8; size = want stage; captured_at = k; original_at = k; room = m.total - (want stage + 12); time = time; captured = n; original = original })
   timed : FitsTime head → time ≡ head_time i head
 
 -- the numbers of one that begins with four bytes
@@ -130,16 +89,12 @@ packet_is o interfaces (EnhancedHead number high low) i n original found p q f =
     let e = enhanced_told o number high low n original f p q in
     record {
       stage = stages.Enhanced;
-      size = 20;
       k = 12;
       time = time_of i (u32_at o 4 h * 2 ^ 32 + u32_at o 8 h);
       low = omega arith;
-      no_section = λ z. absurd (omega (arith, z));
       staged = refl;
       filed = refl;
-      wanted = refl;
       long = e.0.long;
-      some = omega arith;
       of = λ m. simp (e.1, found, e.0.captured, e.0.had);
       timed = λ t. let z = e.0.times t.0 t.1 in simp (z.0, z.1);
     }
@@ -148,16 +103,12 @@ packet_is o interfaces (ObsoleteHead number drops high low) i n original found p
     let e = obsolete_told o number drops high low n original f p q in
     record {
       stage = stages.ObsoletePacket;
-      size = 20;
       k = 12;
       time = time_of i (u32_at o 4 h * 2 ^ 32 + u32_at o 8 h);
       low = omega arith;
-      no_section = λ z. absurd (omega (arith, z));
       staged = refl;
       filed = refl;
-      wanted = refl;
       long = e.0.long;
-      some = omega arith;
       of = λ m. simp (e.1, found, e.0.captured, e.0.had);
       timed = λ t. let z = e.0.times t.0 t.1 in simp (z.0, z.1);
     }
@@ -165,129 +116,169 @@ packet_is o interfaces SimpleHead i n original found p q f =
     let e = one_told o original q in
     record {
       stage = stages.Simple;
-      size = 4;
       k = 0;
       time = None;
       low = omega arith;
-      no_section = λ z. absurd (omega (arith, z));
       staged = refl;
       filed = refl;
-      wanted = refl;
       long = u32_size o original;
-      some = omega arith;
       of = λ m. simp (found, e, f);
       timed = λ t. refl;
     }
 
--- ---- a packet's block
+-- ---- a block
 
-module _ (o : ByteOrder) (interfaces : List Interface) (s : Scan) (form : PacketForm) (i : Interface) (original : ℕ) (bytes rest : List ℕ) (p : IsPacketBlock o interfaces form i (length bytes) original)
-    (b : FitsBody (block_body o (PacketBlock form original bytes rest))) (low_room : padded (length bytes) ≤ length bytes + length rest) where
-  abbrev kind : ℕ
-  kind = head_kind form
+module _ (o : ByteOrder) (interfaces : List Interface) (s : Scan) where
+  abbrev here : Scan
+  here = at_blocks o interfaces s
 
-  abbrev head : List ℕ
-  head = head_bytes o form (length bytes) original
+  -- the type and the length of a block that is no section's
+  pub opens : (kind total : ℕ) → kind < 2 ^ 32 → total < 2 ^ 32 → kind ≢ 0x0a0d0d0a
+      → Leads here (u32_bytes o kind ++ u32_bytes o total) [] (block_by here total (block_stage kind))
+  opens kind total p q other =
+      let e = two_told o kind total p q in
+      let stage = block_stage (u32_at o 0 (u32_bytes o kind ++ u32_bytes o total)) in
+      lead_to (head_leads stages.Block here (u32_bytes o kind ++ u32_bytes o total) refl e.0) (when_false _ _ _ (eq_not _ _ (λ z. other (sym e.1 ∙ z)))
+      ∙ ap (λ (m : ℕ). block_by here m stage) e.2 ∙ ap (λ (m : ℕ). block_by here total (block_stage m)) e.1)
 
-  abbrev total : ℕ
-  total = 12 + length (head ++ (bytes ++ rest))
+  -- a block whose type says what comes in it
+  pub opens_as : (kind total least : ℕ) (stage : Stage) → block_stage kind ≡ Some (stage, least) → kind < 2 ^ 32 → total < 2 ^ 32 → total % 4 ≡ 0
+      → least ≤ total → Leads here (u32_bytes o kind ++ u32_bytes o total) []
+      (record here { head = begun stage; next = place (s.next + 8); total = total; rest = total - 20 })
+  opens_as kind total least stage e p q whole enough =
+      let other : kind ≢ 0x0a0d0d0a =
+      λ z. absurd (let none : ◌≡◌ {A = Option (Stage × ℕ)} None (Some (stage, least)) = sym (ap block_stage z) ∙ e in cc) in
+      lead_to (opens kind total p q other) (ap (block_by here total) e ∙ when_true _ _ _ (length_ok least total whole enough))
 
-  abbrev room : ℕ
-  room = total - (p.size + 12)
+  -- a block of another type
+  pub other_read : (kind : ℕ) (body : List ℕ) → kind < 2 ^ 32 → kind ≢ 1 → kind ≢ 2 → kind ≢ 3 → kind ≢ 6 → kind ≢ 0x0a0d0d0a → FitsBody body
+      → Went (at_blocks o interfaces) here (framed_bytes o kind body) []
+  other_read kind body low a b c d no_section f =
+      let total = 12 + length body in
+      let size = framed_size o kind body in
+      let none : block_stage kind ≡ None =
+      when_false _ _ _ (eq_not kind 1 a) ∙ when_false _ _ _ (eq_not kind 2 b) ∙ when_false _ _ _ (eq_not kind 3 c) ∙ when_false _ _ _ (eq_not kind 6 d) in
+      let m : Scan = record here { head = begun stages.Trailer; skip = total - 12; next = place (s.next + (total - 4)); total = total } in
+      let opened : block_by here total (block_stage kind) ≡ m =
+      ap (block_by here total) none ∙ when_true _ _ _ (length_ok 12 total f.whole (omega arith)) in
+      let closed = ends o m [] body 0 (total - 12) total refl (omega arith) f.size in
+      went_on (at_blocks o interfaces) here (record m { next = place (m.next + 4) }) (framed_bytes o kind body)
+      (lead_then (lead_to (opens kind total low f.size no_section) opened) closed) refl (omega (arith, size)) refl refl
 
-  abbrev m : Scan
-  m = record (at_blocks o interfaces s) { head = begun p.stage; next = place (s.next + 8); total = total; rest = total - 20 }
+  -- ---- a packet's block
 
-  abbrev packet : PacketHead
-  packet = record { before = 8; size = p.size; captured_at = p.k; original_at = p.k; room = room; time = p.time; captured = length bytes; original = original }
+  module _ (form : PacketForm) (i : Interface) (original : ℕ) (bytes rest : List ℕ) (p : IsPacketBlock o interfaces form i (length bytes) original)
+      (b : FitsBody (block_body o (PacketBlock form original bytes rest))) (low_room : padded (length bytes) ≤ length bytes + length rest) where
+    abbrev head : List ℕ
+    head = head_bytes o form (length bytes) original
 
-  -- behind the head
-  abbrev t : Scan
-  t = record m { head = begun stages.Trailer }
+    abbrev total : ℕ
+    total = 12 + length (head ++ (bytes ++ rest))
 
-  room_is : room ≡ length bytes + length rest
-  room_is = let l = length-append head (bytes ++ rest) in let k = length-append bytes rest in let h = p.long in omega (arith, l, k, h)
+    abbrev front : List ℕ
+    front = (u32_bytes o (head_kind form) ++ u32_bytes o total) ++ head
 
-  roomy : ◌≡◌ {A = Bool} (nat_lt room (padded (length bytes))) false
-  roomy = lt_false room (padded (length bytes)) (omega (arith, room_is, low_room))
+    abbrev framed : List ℕ
+    framed = framed_bytes o (head_kind form) (head ++ (bytes ++ rest))
 
-  fronts : Leads (at_blocks o interfaces s) ((u32_bytes o kind ++ u32_bytes o total) ++ head) [] (block_packet m i.link_type packet)
-  fronts =
-      let l = length-append head (bytes ++ rest) in
-      lead_then (opens_as o interfaces s kind total (p.size + 12) p.stage p.staged p.low b.size b.whole (let h = p.long in omega (arith, l, h)) p.no_section)
-      (lead_to (head_leads p.stage m head p.filed (let h = p.long in let z = p.some in omega (arith, h, z)) (p.long ∙ sym p.wanted)) (p.of m))
+    abbrev room : ℕ
+    room = total - (want p.stage + 12)
 
-  spelled : framed_bytes o kind (head ++ (bytes ++ rest)) ≡ ((u32_bytes o kind ++ u32_bytes o total) ++ head) ++ ((bytes ++ rest) ++ u32_bytes o total)
-  spelled = simp append_assoc
+    abbrev m : Scan
+    m = record here { head = begun p.stage; next = place (s.next + 8); total = total; rest = total - 20 }
 
-  moved : place (place (place (s.next + 8) + (p.size + room)) + 4) ≡ place (s.next + length (framed_bytes o kind (head ++ (bytes ++ rest))))
-  moved = let f = framed_size o kind (head ++ (bytes ++ rest)) in let l = length-append head (bytes ++ rest) in let h = p.long in omega (arith, f, room_is, l, h)
+    abbrev packet : PacketHead
+    packet = record { before = 8; size = want p.stage; captured_at = p.k; original_at = p.k; room = room; time = p.time; captured = length bytes; original = original }
 
-  -- what follows the head
-  closes : (x : Scan) (given rest' : List ℕ) → given ++ rest' ≡ bytes ++ rest → block_packet m i.link_type packet ≡ x → (give skip : ℕ) → give ≡ length given → skip ≡ length rest'
-      → x ≡ record x { head = begun stages.Trailer; give = give; skip = skip; fault = None; order = o; total = total; interfaces = interfaces }
-      → Leads (at_blocks o interfaces s) (framed_bytes o kind (head ++ (bytes ++ rest))) (given ++ []) (at_blocks o interfaces (record x { total = total; next = place (x.next + 4) }))
-  closes x given rest' e f give skip g k is =
-      lead_of (spelled ∙ ap (λ l. ((u32_bytes o kind ++ u32_bytes o total) ++ head) ++ (l ++ u32_bytes o total)) (sym e))
-      (lead_then fronts (lead_from (f ∙ is) (ends o (record x { interfaces = interfaces }) given rest' give skip total g k b.size)))
+    -- behind the head
+    abbrev t : Scan
+    t = record m { head = begun stages.Trailer }
 
-  dbus : (i.link_type == 231) ≡ true → block_packet m i.link_type packet ≡ packet_head t packet
-  dbus same = when_false _ _ _ roomy ∙ when_true _ _ _ same
+    room_is : room ≡ length bytes + length rest
+    room_is = omega (arith, length-append head (bytes ++ rest), length-append bytes rest, p.long)
 
-  packet_read : (passes : Bool) → passes ≡ s.passes_cut → IsCapturedBy passes i original bytes
-      → Went (at_blocks o interfaces) (at_blocks o interfaces s) (framed_bytes o kind (head ++ (bytes ++ rest))) (packet_by original bytes (Some i))
-  packet_read passes pass whole =
-      let at = at_blocks o interfaces in
-      let one : Captured = record { original = original; bytes = bytes } in
-      let all_of : room ≡ length (bytes ++ rest) = let k = length-append bytes rest in omega (arith, room_is, k) in
-      let ends_at : Scan → Scan = λ (x : Scan). record x { next = place (x.next + 4) } in
-      when (Went at (at s) _) (i.link_type == 231) _ _
-      (λ same. elim (packet_cases t packet passes pass (whole (eq_told _ _ same))) [
-        | inl all ↦
-            let x = give_packet t packet in
-            let l = closes x bytes rest refl (dbus same ∙ all.1) (length bytes) (room - length bytes) refl (omega (arith, room_is)) refl in
-            went_whole at (at s) (ends_at x) _ one all.0 (record { ran = l.ran; gave = l.gave ∙ append-nil bytes }) refl moved refl refl
-        | inr cut ↦
-            let x : Scan = record (pass_packet t p.size room) { cut = place (s.cut + 1) } in
-            went_cut at (at s) (ends_at x) _ one cut.0 (closes x [] (bytes ++ rest) refl (dbus same ∙ cut.1) 0 room refl all_of refl) refl moved refl refl
-      ])
-      (λ other.
-      let x = pass_packet t p.size room in
-      went_on at (at s) (ends_at x) _ (closes x [] (bytes ++ rest) refl (when_false _ _ _ roomy ∙ when_false _ _ _ other) 0 room refl all_of refl) refl moved refl refl)
+    roomy : ◌≡◌ {A = Bool} (nat_lt room (padded (length bytes))) false
+    roomy = lt_false room (padded (length bytes)) (omega (arith, room_is, low_room))
 
-  packet_begins : i.link_type ≡ 231 → original ≡ length bytes → (told : Packet)
-      → told ≡ record { number = place (s.packets + 1); at = place (s.next + 8 + 2 ^ 64 - 8); time = p.time; length = length bytes }
-      → Begins (at_blocks o interfaces s) ((u32_bytes o kind ++ u32_bytes o total) ++ head) bytes told
-  packet_begins same all told is = record {
-    state = give_packet t packet;
-    leads = lead_to fronts (dbus (eq_is i.link_type 231 same) ∙ given_whole t packet all);
-    unfaulted = refl;
-    filed = refl;
-    gives = refl;
-    reported = ap (λ (v : Packet). Some v) (ap (λ (n : ℕ). record { number = place (s.packets + 1); at = n; time = p.time; length = length bytes })
-        (let z : place (place (s.next + 8) + 2 ^ 64 - 8) ≡ place (s.next + 8 + 2 ^ 64 - 8) = omega arith in z) ∙ sym is);
-  }
+    fronts : Leads here front [] (block_packet m i.link_type packet)
+    fronts =
+        let least : want p.stage + 12 ≤ total = omega (arith, length-append head (bytes ++ rest), p.long) in
+        lead_then (opens_as (head_kind form) total (want p.stage + 12) p.stage p.staged p.low b.size b.whole least)
+        (lead_to (head_leads p.stage m head p.filed p.long) (p.of m))
 
--- ---- a block that has a packet
+    spelled : framed ≡ front ++ ((bytes ++ rest) ++ u32_bytes o total)
+    spelled = simp append_assoc
 
-module _ (passes : Bool) (o : ByteOrder) (interfaces : List Interface) (s : Scan) where
+    moved : place (place (place (s.next + 8) + (want p.stage + room)) + 4) ≡ place (s.next + length framed)
+    moved = omega (arith, framed_size o (head_kind form) (head ++ (bytes ++ rest)), room_is, length-append head (bytes ++ rest), p.long)
+
+    -- what follows the head
+    closes : (x : Scan) (given rest' : List ℕ) → given ++ rest' ≡ bytes ++ rest → block_packet m i.link_type packet ≡ x
+        → (give skip : ℕ) → give ≡ length given → skip ≡ length rest'
+        → x ≡ record x { head = begun stages.Trailer; give = give; skip = skip; fault = None; order = o; total = total; interfaces = interfaces }
+        → Leads here framed (given ++ []) (at_blocks o interfaces (record x { total = total; next = place (x.next + 4) }))
+    closes x given rest' e f give skip g k is =
+        lead_of (spelled ∙ ap (λ l. front ++ (l ++ u32_bytes o total)) (sym e))
+        (lead_then fronts (lead_from (f ∙ is) (ends o (record x { interfaces = interfaces }) given rest' give skip total g k b.size)))
+
+    dbus : (i.link_type == 231) ≡ true → block_packet m i.link_type packet ≡ packet_head t packet
+    dbus same = when_false _ _ _ roomy ∙ when_true _ _ _ same
+
+    packet_read : (passes : Bool) → passes ≡ s.passes_cut → IsCapturedBy passes i original bytes
+        → Went (at_blocks o interfaces) here framed (packet_by original bytes (Some i))
+    packet_read passes pass whole =
+        let at = at_blocks o interfaces in
+        let one : Captured = record { original = original; bytes = bytes } in
+        let all_of : room ≡ length (bytes ++ rest) = omega (arith, room_is, length-append bytes rest) in
+        let ends_at : Scan → Scan = λ (x : Scan). record x { next = place (x.next + 4) } in
+        when (Went at here _) (i.link_type == 231) _ _
+        (λ same. elim (packet_cases t packet passes pass (whole (eq_told _ _ same))) [
+          | inl all ↦
+              let x = give_packet t packet in
+              let l = closes x bytes rest refl (dbus same ∙ all.1) (length bytes) (room - length bytes) refl (omega (arith, room_is)) refl in
+              went_whole at here (ends_at x) _ one all.0 (record { ran = l.ran; gave = l.gave ∙ append-nil bytes }) refl moved refl refl
+          | inr cut ↦
+              let x : Scan = record (pass_packet t (want p.stage) room) { cut = place (s.cut + 1) } in
+              let l = closes x [] (bytes ++ rest) refl (dbus same ∙ cut.1) 0 room refl all_of refl in
+              went_cut at here (ends_at x) _ one cut.0 l refl moved refl refl
+        ])
+        (λ other.
+        let x = pass_packet t (want p.stage) room in
+        let l = closes x [] (bytes ++ rest) refl (when_false _ _ _ roomy ∙ when_false _ _ _ other) 0 room refl all_of refl in
+        went_on at here (ends_at x) _ l refl moved refl refl)
+
+    packet_begins : i.link_type ≡ 231 → original ≡ length bytes → FitsTime form → Begins here front bytes (head_time i form)
+    packet_begins same all timed = record {
+      state = give_packet t packet;
+      leads = lead_to fronts (dbus (eq_is i.link_type 231 same) ∙ given_whole t packet all);
+      unfaulted = refl;
+      filed = refl;
+      gives = refl;
+      reported = ap (λ (n : ℕ). Some (record { number = place (s.packets + 1); at = n; time = p.time; length = length bytes }))
+          (let z : place (place (s.next + 8) + 2 ^ 64 - 8) ≡ place s.next = omega arith in z)
+          ∙ ap (λ (v : Option ℕ). Some (record { number = place (s.packets + 1); at = place s.next; time = v; length = length bytes })) (p.timed timed);
+    }
+
   low_in : (a b c : List ℕ) → 12 + length (a ++ (b ++ c)) < 2 ^ 32 → length b < 2 ^ 32
-  low_in a b c h = let l = length-append a (b ++ c) in let k = length-append b c in omega (arith, h, l, k)
+  low_in a b c h = omega (arith, h, length-append a (b ++ c), length-append b c)
 
-  pub block_read : (head : PacketForm) (original : ℕ) (bytes rest : List ℕ) → let block = PacketBlock head original bytes rest in FitsBlock passes interfaces block → FitsBody (block_body o block) → passes ≡ s.passes_cut
-      → Went (at_blocks o interfaces) (at_blocks o interfaces s) (block_bytes o block) (block_packets interfaces block)
-  block_read head original bytes rest f b pass =
-      let p = packet_is o interfaces head f.2.0 (length bytes) original f.2.1 (low_in (head_bytes o head (length bytes) original) bytes rest b.size) f.0 f.2.2.0 in
-      subst (λ (v : Option Interface). Went (at_blocks o interfaces) (at_blocks o interfaces s) (block_bytes o (PacketBlock head original bytes rest)) (packet_by original bytes v)) (sym f.2.1)
-      (packet_read o interfaces s head f.2.0 original bytes rest p b f.1 passes pass f.2.2.1)
+  pub block_read : (passes : Bool) (form : PacketForm) (original : ℕ) (bytes rest : List ℕ) → let block = PacketBlock form original bytes rest in
+      FitsBlock passes interfaces block → FitsBody (block_body o block) → passes ≡ s.passes_cut
+      → Went (at_blocks o interfaces) here (block_bytes o block) (block_packets interfaces block)
+  block_read passes form original bytes rest f b pass =
+      let low = low_in (head_bytes o form (length bytes) original) bytes rest b.size in
+      let p = packet_is o interfaces form f.2.0 (length bytes) original f.2.1 low f.0 f.2.2.0 in
+      let all = block_bytes o (PacketBlock form original bytes rest) in
+      subst (λ (v : Option Interface). Went (at_blocks o interfaces) here all (packet_by original bytes v)) (sym f.2.1)
+      (packet_read form f.2.0 original bytes rest p b f.1 passes pass f.2.2.1)
 
-  -- this is reported of it, if all of it was captured
-  pub block_begins : (i : Interface) (form : PacketForm) (bytes rest : List ℕ) (packet : Packet) → let block = PacketBlock form (length bytes) bytes rest in FitsBlock passes interfaces block → FitsBody (block_body o block)
-      → FitsTime form → slice_get interfaces (head_interface form) ≡ Some i → i.link_type ≡ 231 → packet ≡ record { number = place (s.packets + 1); at = place (s.next + 8 + 2 ^ 64 - 8); time = head_time i form; length = length bytes }
-      → Begins (at_blocks o interfaces s) (block_front o form bytes rest) bytes packet
-  block_begins i form bytes rest packet f b t found same is =
+  -- its bytes come after its head, if all of it was captured
+  pub block_begins : (passes : Bool) (i : Interface) (form : PacketForm) (bytes rest : List ℕ) → let block = PacketBlock form (length bytes) bytes rest in
+      FitsBlock passes interfaces block → FitsBody (block_body o block) → FitsTime form → slice_get interfaces (head_interface form) ≡ Some i
+      → i.link_type ≡ 231 → Begins here (block_front o form bytes rest) bytes (head_time i form)
+  block_begins passes i form bytes rest f b timed found same =
       let one : f.2.0 ≡ i = let x = f.2.1 in cc (x, found) in
       let n = length bytes in
-      let p = packet_is o interfaces form i n n found (low_in (head_bytes o form n n) bytes rest b.size) f.0 (subst (λ (v : Interface). FitsHead form v n n) one f.2.2.0) in
-      packet_begins o interfaces s form i n bytes rest p b f.1 same refl packet
-      (is ∙ ap (λ (v : Option ℕ). record { number = place (s.packets + 1); at = place (s.next + 8 + 2 ^ 64 - 8); time = v; length = n }) (sym (p.timed t)))
+      let fits = subst (λ (v : Interface). FitsHead form v n n) one f.2.2.0 in
+      let p = packet_is o interfaces form i n n found (low_in (head_bytes o form n n) bytes rest b.size) f.0 fits in
+      packet_begins form i n bytes rest p b f.1 same refl timed

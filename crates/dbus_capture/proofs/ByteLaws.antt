@@ -3,8 +3,7 @@ use Rattle.std.proofs.Common.{◌≡◌, ℕ, zero, suc, ◌+◌, ◌-◌, ◌<�
 use Rattle.std.proofs.Common.{◌∙◌, arith, append-nil, take-append-drop}
 use Rattle.std.proofs.lemmas.List.{length-take-le, length-drop, drop-drop, drop_all}
 use Rattle.std.proofs.lemmas.Nat.{le_bytes_2, be_bytes_2, le_bytes_4, be_bytes_4}
-use Rattle.dbus_capture.specs.declared.byte_order.ByteOrder.{ByteOrder}
-use Rattle.dbus_capture.specs.declared.byte_order.ByteOrder.TheVariants.{Little, Big}
+use Rattle.dbus_capture.specs.Types.{ByteOrder, Little, Big}
 use Rattle.dbus_capture.specs.Numbers.{u32_of, u16_of, u32_bytes, u16_bytes, u32_at, u16_at}
 use Rattle.dbus_capture.specs.Outcomes.{AreBytes}
 

@@ -2,7 +2,7 @@
 use Rattle.std.proofs.Common.{◌⊎◌, ◌≡◌, ◌≢◌, ◌≤◌, ◌<◌, ◌+◌, ◌^◌, ◌-◌, ℕ, zero, suc, true, false, List, [], ◌∷◌, ◌++◌, length, take, drop, Option, None, Some}
 use Rattle.std.proofs.Common.{Result, Ok, Err, IfOk, MatchResult, is_some, inl, inr, refl, sym, ap, ◌∙◌, subst, arith, append_assoc, append-nil, length-append, take-append-drop}
 use Rattle.std.specs.Io.KnownBytes.{Consumes, Keeps, IsAtEnd, ReadConsumes, prepend_known}
-use Rattle.std.proofs.KnownBytes.{Consumes-nil}
+use Rattle.std.proofs.KnownBytes.{Consumes-nil, Consumes-kept}
 use Rattle.std.specs.List.{slice_range}
 use Rattle.std.proofs.lemmas.List.{drop-take, drop-drop, length-take, length-take-le}
 use Rattle.std.proofs.Math.Nat.{min-le_left}
@@ -10,9 +10,8 @@ use Rattle.std.specs.List.{All}
 use Rattle.std.proofs.lemmas.List.Elements.{All-cons, All-nil}
 use Rattle.dbus_device.specs.Device.{one_more, ReadCounts}
 use Rattle.dbus_device.specs.Calls.{joined, HasByte, ReadsPieces}
-use Rattle.dbus_device.specs.declared.device_fault.DeviceFault.{DeviceFault}
+use Rattle.dbus_capture.specs.Types.{DeviceFault, Scan}
 use Rattle.dbus_device.proofs.CallLaws.{pieces_consumed}
-use Rattle.dbus_capture.specs.declared.scan.Scan.{Scan}
 use Rattle.dbus_capture.specs.declared.input.Input.{Input}
 use Rattle.dbus_capture.specs.Steps.{Turn, turn_of, may_end, run, told, given, ended, IsPart, Leads}
 use Rattle.dbus_capture.specs.Captures.{given_of, source_of, scan_of, kept_of, file_of, gave_up_of, failures_of, Fills, HandsOn, Reads, GivesPart, Ends, IsUnfailed, GivesUp, ReadsPart, AreNeeded, Asks}
@@ -84,16 +83,14 @@ module _ {R : Type 0} (left : R → Option (List ℕ)) (calls : R → ℕ) where
     unfailed = record { source = refl; gave_up = refl };
   }
 
-  reads_nothing : (s : Input R) → Reads left s s []
-  reads_nothing s = record { used = []; consumed = Consumes-nil (file_of left s); leads = lead_nothing (scan_of s) }
-
   -- nothing is read
-  pub still_part : (failures : R → ℕ) (s : Input R) (buffer : List ℕ) → (0 < length buffer → is_some (scan_of s).fault ≡ true) → ReadsPart left failures s s (Ok 0) buffer
-  still_part failures s buffer stopped =
-      (record { source = refl; gave_up = refl }, inl (record { reads = reads_nothing s; one = λ some. absurd (omega (arith, some)) }, λ zero room. stopped room))
-
-  pub still_asks : (s : Input R) (r : Result ℕ DeviceFault) → Asks left calls s s r
-  still_asks s r = record { pieces = []; called = refl; needed = tt; found = inl (All-nil HasByte) }
+  pub still : (failures : R → ℕ) (s : Input R) (buffer : List ℕ) → (0 < length buffer → is_some (scan_of s).fault ≡ true)
+      → ReadsPart left failures s s (Ok 0) buffer × Asks left calls s s (Ok 0)
+  still failures s buffer stopped =
+      let none : Reads left s s [] = record { used = []; consumed = Consumes-nil (file_of left s); leads = lead_nothing (scan_of s) } in (
+        (record { source = refl; gave_up = refl }, inl (record { reads = none; one = λ some. absurd (omega (arith, some)) }, λ zero room. stopped room)),
+        record { pieces = []; called = refl; needed = tt; found = inl (All-nil HasByte) },
+      )
 
   module _ {turns : ℕ} {old mid : Input R} (g : Goes left calls turns old mid) where
     -- the source below is called if nothing is kept
@@ -253,11 +250,6 @@ none_given : {R : Type 0} (s : Input R) → kept_of s ≡ [] → given (scan_of 
 unfolding given told
 none_given s none = ap (λ l. given (scan_of s) (l ++ [])) none
 
-pub consumes_kept : (a b : Option (List ℕ)) → Keeps a b → Consumes a b []
-consumes_kept None b k = tt
-consumes_kept (Some x) None k = absurd k
-consumes_kept (Some x) (Some y) k = sym k
-
 -- it may end anywhere
 ended_raw : (s : Scan) → is_some s.fault ≡ false → is_raw s.head.stage ≡ true → ended s ≡ s
 ended_raw s p q =
@@ -310,23 +302,9 @@ module _ {R : Type 0} (left : R → Option (List ℕ)) (failures : R → ℕ) wh
     };
   }
 
-  -- what the source below gives is given
-  pub raw_part : (old new : Input R) (r : Result ℕ DeviceFault) (buffer : List ℕ) → PassesOn old new → MatchResult r (λ n. n ≤ length buffer) (λ e. Unit {0})
-      → ReadConsumes (left (source_of old)) (left (source_of new)) r buffer → ReadCounts (failures (source_of old)) (failures (source_of new)) r
-      → ReadsPart left failures old new r buffer
-  raw_part old new (Err e) buffer p b c f =
-      inl (record { reads = raw_reads old new [] p (consumes_kept (left (source_of old)) (left (source_of new)) c); source = f; gave_up = p.gave_up; nothing = p.empty })
-  raw_part old new (Ok (suc n)) buffer p b c f =
-      (record { source = f; gave_up = p.gave_up }, inl (raw_gives old new (suc n) buffer b p c.0, λ zero room. absurd (omega (arith, zero))))
-  raw_part old new (Ok zero) [] p b c f =
-      (record { source = f; gave_up = p.gave_up }, inl (raw_gives old new 0 [] b p c.0, λ zero room. absurd (omega (arith, room))))
-  raw_part old new (Ok zero) (x ∷ xs) p b c f =
-      (record { source = f; gave_up = p.gave_up }, inr (refl, raw_ends old new p c.0 (c.1 refl (omega arith))))
-
-  -- and it is asked once
-  module _ (asked : R → ℕ) (old new : Input R) (p : PassesOn old new) (counted : asked (source_of new) ≡ one_more (asked (source_of old))) where
-    asks_once : (r : Result ℕ DeviceFault) (piece : List ℕ) → Consumes (left (source_of old)) (left (source_of new)) piece → All HasByte (piece ∷ []) ⊎ IfOk r (λ n. (n ≡ 0) × Ends left old new)
-        → Asks left asked old new r
+  module _ (old new : Input R) (p : PassesOn old new) (asked : R → ℕ) (counted : asked (source_of new) ≡ one_more (asked (source_of old))) where
+    asks_once : (r : Result ℕ DeviceFault) (piece : List ℕ) → Consumes (left (source_of old)) (left (source_of new)) piece
+        → All HasByte (piece ∷ []) ⊎ IfOk r (λ n. (n ≡ 0) × Ends left old new) → Asks left asked old new r
     asks_once r piece c found = record {
       pieces = piece ∷ [];
       called = (source_of old, refl, record { gave = c; counted = counted });
@@ -334,9 +312,18 @@ module _ {R : Type 0} (left : R → Option (List ℕ)) (failures : R → ℕ) wh
       found = found;
     }
 
-    pub raw_asks : (r : Result ℕ DeviceFault) (buffer : List ℕ) → 0 < length buffer → MatchResult r (λ n. n ≤ length buffer) (λ e. Unit {0}) → ReadConsumes (left (source_of old)) (left (source_of new)) r buffer
-        → Asks left asked old new r
-    raw_asks (Err e) buffer room b c = asks_once (Err e) [] (consumes_kept (left (source_of old)) (left (source_of new)) c) (inr tt)
-    raw_asks (Ok (suc n)) buffer room b c =
-        asks_once (Ok (suc n)) (take (suc n) buffer) c.0 (inl (All-cons HasByte (take (suc n) buffer) [] (let size = length-take-le (suc n) buffer b in omega (arith, size)) (All-nil HasByte)))
-    raw_asks (Ok zero) buffer room b c = asks_once (Ok zero) [] c.0 (inr (refl, raw_ends old new p c.0 (c.1 refl room)))
+    -- what the source below gives is given, and it is asked once
+    pub raw_part : (r : Result ℕ DeviceFault) (buffer : List ℕ) → 0 < length buffer → MatchResult r (λ n. n ≤ length buffer) (λ e. Unit {0})
+        → ReadConsumes (left (source_of old)) (left (source_of new)) r buffer → ReadCounts (failures (source_of old)) (failures (source_of new)) r
+        → ReadsPart left failures old new r buffer × Asks left asked old new r
+    raw_part (Err e) buffer room b c f =
+        let none = Consumes-kept (left (source_of old)) (left (source_of old)) (left (source_of new)) [] (Consumes-nil (left (source_of old))) c in
+        (inl (record { reads = raw_reads old new [] p none; source = f; gave_up = p.gave_up; nothing = p.empty }), asks_once (Err e) [] none (inr tt))
+    raw_part (Ok (suc n)) buffer room b c f =
+        let some : 0 < length (take (suc n) buffer) = omega (arith, length-take-le (suc n) buffer b) in (
+          (record { source = f; gave_up = p.gave_up }, inl (raw_gives old new (suc n) buffer b p c.0, λ zero room. absurd (omega (arith, zero)))),
+          asks_once (Ok (suc n)) (take (suc n) buffer) c.0 (inl (All-cons HasByte (take (suc n) buffer) [] some (All-nil HasByte))),
+        )
+    raw_part (Ok zero) buffer room b c f =
+        let ends = raw_ends old new p c.0 (c.1 refl room) in
+        ((record { source = f; gave_up = p.gave_up }, inr (refl, ends)), asks_once (Ok zero) [] c.0 (inr (refl, ends)))

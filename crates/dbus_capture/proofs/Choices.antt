@@ -1,11 +1,8 @@
 -- Tests of numbers, and what is chosen by them.
 use Rattle.std.proofs.Common.{◌≡◌, ◌≢◌, inl, inr, ℕ, ◌<◌, ◌≤◌, Bool, true, false, cond, nat_lt, nat_eq, refl, sym, ap, ◌∙◌, arith}
-use Rattle.std.specs.Prelude.{◌&&◌, nat_le}
+use Rattle.std.specs.Prelude.{nat_le}
 use Rattle.std.proofs.lemmas.Bool.{cases_lt}
 use Rattle.std.proofs.lemmas.Bool.Decides.{nat_tests}
-
-pub lt_true : (a b : ℕ) → a < b → nat_lt a b ≡ true
-lt_true a b h = grind (arith, h)
 
 pub lt_false : (a b : ℕ) → b ≤ a → nat_lt a b ≡ false
 lt_false a b h = grind (arith, h)
@@ -18,11 +15,6 @@ eq_is a b e = grind (arith, e)
 
 pub eq_not : (a b : ℕ) → a ≢ b → nat_eq a b ≡ false
 eq_not a b n = elim (cases_lt a b) [ inl h ↦ grind (arith, h) | inr h ↦ elim (cases_lt b a) [ inl k ↦ grind (arith, k) | inr k ↦ absurd (n (omega (arith, h, k))) ] ]
-
-pub both_true : (a b : Bool) → a ≡ true → b ≡ true → (a && b) ≡ true
-both_true true true p q = refl
-both_true true false p q = q
-both_true false b p q = p
 
 pub when_true : {A : Type 0} (b : Bool) (x y : A) → b ≡ true → cond b x y ≡ x
 when_true {A} b x y e = ap (λ (v : Bool). cond {A = A} v x y) e

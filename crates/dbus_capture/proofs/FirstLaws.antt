@@ -1,9 +1,7 @@
 -- What the first four bytes of an input say of it, whatever follows them.
 use Rattle.std.proofs.Common.{◌≡◌, ◌≢◌, ◌≤◌, ◌<◌, ℕ, Bool, true, false, cond, List, [], ◌∷◌, ◌++◌, length, length-append, Option, None, is_some, refl, sym, ap, ◌∙◌, arith}
 use Rattle.std.specs.Prelude.{◌==◌}
-use Rattle.dbus_capture.specs.declared.byte_order.ByteOrder.{ByteOrder}
-use Rattle.dbus_capture.specs.declared.byte_order.ByteOrder.TheVariants.{Little, Big}
-use Rattle.dbus_capture.specs.declared.stage.Stage.TheVariants.{Raw, FileHeader, Section}
+use Rattle.dbus_capture.specs.Types.{ByteOrder, Little, Big, Raw, FileHeader, Section}
 use Rattle.dbus_capture.specs.Numbers.{u32_at, u32_bytes}
 use Rattle.dbus_capture.specs.Heads.{magic}
 use Rattle.dbus_capture.specs.Beginnings.{stage_by, first_stage, IsFirstOfStream}

@@ -3,14 +3,8 @@
 -- that was read.
 use Rattle.std.proofs.Common.{◌≡◌, ℕ, zero, suc, ◌+◌, ◌-◌, ◌<◌, ◌≤◌, ◌%◌, ◌^◌, Bool, true, false, cond, nat_eq, List, [], ◌∷◌, ◌++◌, length}
 use Rattle.std.proofs.Common.{Option, None, Some, refl, sym, ap, subst, ◌∙◌, arith, append_assoc, length-append}
-use Rattle.dbus_capture.specs.declared.byte_order.ByteOrder.{ByteOrder}
-use Rattle.dbus_capture.specs.declared.stage.Stage.{Stage}
-use Rattle.dbus_capture.specs.declared.stage.Stage.TheVariants.{Raw, FileHeader, Record, Section, Block, InterfaceHead, OptionHead}
-use Rattle.dbus_capture.specs.declared.stage.Stage.TheVariants.{Resolution, InterfaceTrailer, Enhanced, ObsoletePacket, Simple, Trailer}
-use Rattle.dbus_capture.specs.declared.fault.CaptureFault.{CaptureFault}
-use Rattle.dbus_capture.specs.declared.fault.CaptureReason.TheVariants.{Truncated}
-use Rattle.dbus_capture.specs.declared.interface.Interface.{Interface}
-use Rattle.dbus_capture.specs.declared.scan.Scan.{Scan}
+use Rattle.dbus_capture.specs.Types.{ByteOrder, Stage, Raw, FileHeader, Record, Section, Block, InterfaceHead, OptionHead, Resolution}
+use Rattle.dbus_capture.specs.Types.{InterfaceTrailer, Enhanced, ObsoletePacket, Simple, Trailer, CaptureFault, Truncated, Interface, Scan}
 use Rattle.dbus_capture.specs.Numbers.{u32_bytes}
 use Rattle.dbus_capture.specs.Stages.{want, is_raw, begun}
 use Rattle.dbus_capture.specs.Scans.{place}

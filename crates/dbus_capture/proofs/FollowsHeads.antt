@@ -6,22 +6,16 @@ use Rattle.std.specs.Prelude.{◌&&◌, ◌||◌, ◌==◌, nat_le, slice_get, s
 use Rattle.std.proofs.lemmas.Bool.{and_parts, or_cases}
 use Rattle.std.proofs.lemmas.Bool.Decides.{nat_tests}
 use Rattle.std.proofs.lemmas.List.{length-take-le, length-drop, drop-drop}
-use Rattle.dbus_capture.specs.declared.byte_order.ByteOrder.{ByteOrder}
-use Rattle.dbus_capture.specs.declared.byte_order.ByteOrder.TheVariants.{Little, Big}
-use Rattle.dbus_capture.specs.declared.stage.Stage.{Stage}
+use Rattle.dbus_capture.specs.Types.{ByteOrder, Little, Big, Stage, CaptureReason, Interface, Scan, PacketHead}
 use Rattle.dbus_capture.specs.declared.stage.Stage.TheVariants as stages
-use Rattle.dbus_capture.specs.declared.fault.CaptureReason.{CaptureReason}
 use Rattle.dbus_capture.specs.declared.fault.CaptureReason.TheVariants as reasons
-use Rattle.dbus_capture.specs.declared.interface.Interface.{Interface}
-use Rattle.dbus_capture.specs.declared.scan.Scan.{Scan}
 use Rattle.dbus_capture.specs.Numbers.{u32_bytes, u16_bytes, u32_at, u16_at}
 use Rattle.dbus_capture.specs.Stages.{is_raw, begun, want}
 use Rattle.dbus_capture.specs.Scans.{place, refused}
-use Rattle.dbus_capture.specs.Heads.{file_header, file_header_by, file_header_in, record_head, packet_head}
-use Rattle.dbus_capture.specs.declared.packet.PacketHead.{PacketHead}
-use Rattle.dbus_capture.specs.Blocks.{padded, is_length, section_in, section_by, section_head, block_by, block_head, trailer, after_option}
-use Rattle.dbus_capture.specs.Blocks.{interface_head, option_head, pass_option, resolution_head, interface_trailer, block_packet, time_of}
-use Rattle.dbus_capture.specs.Blocks.{enhanced_by, enhanced_head, obsolete_head, captured_length, simple_by, simple_head, decoded, decoded_by}
+use Rattle.dbus_capture.specs.Heads.{file_header_by, file_header_in, packet_head}
+use Rattle.dbus_capture.specs.Blocks.{padded, is_length, section_in, section_by, block_by, after_option}
+use Rattle.dbus_capture.specs.Blocks.{pass_option, block_packet, time_of}
+use Rattle.dbus_capture.specs.Blocks.{enhanced_by, captured_length, simple_by, decoded, decoded_by}
 use Rattle.dbus_capture.specs.CutPackets.{IsCaptured}
 use Rattle.dbus_capture.specs.Outcomes.{AreBytes, PcapngFile}
 use Rattle.dbus_capture.specs.PcapFiles.{magic_number}
@@ -138,17 +132,6 @@ module _ (p w : ℕ) (s : Scan) (h : List ℕ) (clean : s.fault ≡ None) (none 
       (λ other. refuse stages.FileHeader 20 reasons.LinkType refl tt (omega (arith, size))))
       (λ other. refuse stages.FileHeader 4 reasons.Version refl tt (omega (arith, size)))
 
-  file_goes : length h ≡ 24 → G stages.FileHeader (file_header (at stages.FileHeader) h)
-  file_goes size =
-      let m = u32_at Little 0 h in
-      let P : Option (ByteOrder × Bool) → Type 0 = λ (v : Option (ByteOrder × Bool)). G stages.FileHeader
-      (file_header_by (at stages.FileHeader) h v) in
-      when P (m == 0xa1b2c3d4) _ _ (λ e. file_in Little false size (ap (u32_bytes Little) (eq_told _ _ e)))
-      (λ _. when P (m == 0xa1b23c4d) _ _ (λ e. file_in Little true size (ap (u32_bytes Little) (eq_told _ _ e)))
-      (λ _. when P (m == 0xd4c3b2a1) _ _ (λ e. file_in Big false size (ap (u32_bytes Little) (eq_told _ _ e)))
-      (λ _. when P (m == 0x4d3cb2a1) _ _ (λ e. file_in Big true size (ap (u32_bytes Little) (eq_told _ _ e)))
-      (λ _. refuse stages.FileHeader 0 reasons.Magic refl tt (omega arith)))))
-
   packet_first : length h ≡ 16 → IsCaptured s.passes_cut (u32_at s.order 12 h) (u32_at s.order 8 h) → (more fill after : List ℕ)
       → length fill ≡ u32_at s.order 8 h → more ≡ fill ++ after → Packets s.passes_cut s.order after
       → Packets s.passes_cut s.order (h ++ more)
@@ -163,11 +146,6 @@ module _ (p w : ℕ) (s : Scan) (h : List ℕ) (clean : s.fault ≡ None) (none 
         joined = cat _ _ _ _ (u32_as o h are 0 refl (omega (arith, size)) (u32_as o h are 4 refl (omega (arith, size))
             (u32_as o h are 8 (ap (u32_bytes o) (sym long)) (omega (arith, size)) (u32_ends o h are 12 refl size)))) (m ∙ ap (λ l. fill ++ l) q.joined);
       }
-
-  record_goes : length h ≡ 16 → G stages.Record (record_head (at stages.Record) h)
-  record_goes size =
-      packet_head_goes stages.Record stages.Record _ refl tt (omega (arith, size)) (omega (arith, size)) (sym size) (omega arith)
-      (λ more fill after joined long whole q. packet_first size whole more fill after long joined q)
 
   -- ---- the first block of a section
 
@@ -209,17 +187,6 @@ module _ (p w : ℕ) (s : Scan) (h : List ℕ) (clean : s.fault ≡ None) (none 
       (λ other. refuse stages.Section 4 reasons.BlockLength refl tt (omega (arith, size))))
       (λ other. refuse stages.Section 12 reasons.Version refl tt (omega (arith, size)))
 
-  section_goes : length h ≡ 24 → G stages.Section (section_head (at stages.Section) h)
-  section_goes size =
-      let m = u32_at Little 8 h in
-      let P : Option ByteOrder → Type 0 = λ (v : Option ByteOrder). G stages.Section (section_by (at stages.Section) h v) in
-      when (G stages.Section) (u32_at Little 0 h == 0x0a0d0d0a) _ _
-      (λ k. let kind = ap (u32_bytes Little) (eq_told _ _ k) in
-      when P (m == 0x1a2b3c4d) _ _ (λ e. section_goes_in Little size kind (ap (u32_bytes Little) (eq_told _ _ e)))
-      (λ _. when P (m == 0x4d3c2b1a) _ _ (λ e. section_goes_in Big size kind (ap (u32_bytes Little) (eq_told _ _ e)))
-      (λ _. refuse stages.Section 8 reasons.OrderMark refl tt (omega (arith, size)))))
-      (λ other. refuse stages.Section 0 reasons.Magic refl tt (omega arith))
-
   -- ---- the beginning and the end of a block
 
   block_whole : (bytes : List ℕ) (kind : ℕ) → length h ≡ 8 → u32_at s.order 0 h ≡ kind → u32_at s.order 4 h % 4 ≡ 0
@@ -240,87 +207,20 @@ module _ (p w : ℕ) (s : Scan) (h : List ℕ) (clean : s.fault ≡ None) (none 
             ∙ simp append_assoc;
       }
 
-  block_goes : length h ≡ 8 → G stages.Block (block_head (at stages.Block) h)
-  block_goes size =
-      let kind = u32_at s.order 0 h in
-      let total = u32_at s.order 4 h in
-      let P : Option (Stage × ℕ) → Type 0 = λ (v : Option (Stage × ℕ)). G stages.Block (block_by (at stages.Block) total v) in
-      when (G stages.Block) (kind == 0x0a0d0d0a) _ _
-      (λ e. go stages.Block _ 0 refl tt are clean (omega (arith, next_is)) (omega (arith, none, no_skip)) (λ more f.
-      let q : PcapngFile s.passes_cut (h ++ more) = unfilled _ more none no_skip f in
-      record { blocks = []; sections = q.first ∷ q.sections; fit = tt; fits = (q.fits, q.fit); joined = q.joined }))
-      (λ no_section. when P (kind == 1) _ _ (λ e. reads stages.InterfaceHead 20 1 refl (λ whole least. (least, refl, whole))
-      (λ bytes f. f) (eq_told _ _ e))
-      (λ a. when P (kind == 2) _ _ (λ e. reads stages.ObsoletePacket 32 2 refl (λ whole least. least) (λ bytes f. f) (eq_told _ _ e))
-      (λ b. when P (kind == 3) _ _ (λ e. reads stages.Simple 16 3 refl (λ whole least. least) (λ bytes f. f) (eq_told _ _ e))
-      (λ c. when P (kind == 6) _ _ (λ e. reads stages.Enhanced 32 6 refl (λ whole least. least) (λ bytes f. f) (eq_told _ _ e))
-      (λ d. when (G stages.Block) (is_length 12 total) _ _
-      (λ fits. let whole = length_told 12 total fits in let least = whole.1 in
-      go stages.Block _ (total - 4) refl tt tt clean refl (omega (arith, size, none, least)) (λ more f.
-      block_whole more kind size refl whole.0 (record {
-        block = OtherBlock kind f.fill;
-        tail = f.more;
-        kind_is = refl;
-        size = omega (arith, f.size, none, least);
-        fits = (u32_low s.order h are 0, eq_untold _ _ a, eq_untold _ _ b, eq_untold _ _ c, eq_untold _ _ d, eq_untold _ _ no_section);
-        joined = f.joined;
-        closing = f.rest;
-      })))
-      (λ other. refuse stages.Block 4 reasons.BlockLength refl tt (omega (arith, size))))))))
-    where
-      reads : (stage : Stage) (least kind : ℕ) → is_raw stage ≡ false
-          → (u32_at s.order 4 h % 4 ≡ 0 → least ≤ u32_at s.order 4 h → IsSound stage (u32_at s.order 4 h) (u32_at s.order 4 h - 20))
-          → let c : Context = record { passes = s.passes_cut; order = s.order; total = u32_at s.order 4 h; interfaces = s.interfaces } in
-          ((bytes : List ℕ) → FollowsHead stage c (u32_at s.order 4 h - 20) s.interface bytes → Body c kind bytes)
-          → u32_at s.order 0 h ≡ kind → G stages.Block (block_by (at stages.Block) (u32_at s.order 4 h) (Some (stage, least)))
-      reads stage least kind filed sound taken type =
-          when (G stages.Block) (is_length least (u32_at s.order 4 h)) _ _
-          (λ fits. let whole = length_told least _ fits in
-          go stages.Block _ 8 filed (sound whole.0 whole.1) tt clean refl (omega (arith, size, none, no_skip))
-          (λ more f. block_whole more kind size type whole.0 (taken more (unfilled _ more none no_skip f))))
-          (λ other. refuse stages.Block 4 reasons.BlockLength refl tt (omega (arith, size)))
-
-  trailer_goes : length h ≡ 4 → G stages.Trailer (trailer (at stages.Trailer) h)
-  trailer_goes size =
-      when (G stages.Trailer) (u32_at s.order 0 h == s.total) _ _
-      (λ e. go stages.Trailer _ 4 refl tt tt clean refl (omega (arith, size, none, no_skip))
-      (λ more f. record { tail = more; joined = ap (λ l. l ++ more) (u32_ends s.order h are 0 (ap (u32_bytes s.order) (eq_told _ _ e)) size); blocks = unfilled _ more none no_skip f }))
-      (λ other. refuse stages.Trailer 0 reasons.BlockLengths refl tt (omega arith))
+  -- a block whose head is read
+  block_reads : length h ≡ 8 → (stage : Stage) (least kind : ℕ) → is_raw stage ≡ false
+      → (u32_at s.order 4 h % 4 ≡ 0 → least ≤ u32_at s.order 4 h → IsSound stage (u32_at s.order 4 h) (u32_at s.order 4 h - 20))
+      → let c : Context = record { passes = s.passes_cut; order = s.order; total = u32_at s.order 4 h; interfaces = s.interfaces } in
+      ((bytes : List ℕ) → FollowsHead stage c (u32_at s.order 4 h - 20) s.interface bytes → Body c kind bytes)
+      → u32_at s.order 0 h ≡ kind → G stages.Block (block_by (at stages.Block) (u32_at s.order 4 h) (Some (stage, least)))
+  block_reads size stage least kind filed sound taken type =
+      when (G stages.Block) (is_length least (u32_at s.order 4 h)) _ _
+      (λ fits. let whole = length_told least _ fits in
+      go stages.Block _ 8 filed (sound whole.0 whole.1) tt clean refl (omega (arith, size, none, no_skip))
+      (λ more f. block_whole more kind size type whole.0 (taken more (unfilled _ more none no_skip f))))
+      (λ other. refuse stages.Block 4 reasons.BlockLength refl tt (omega (arith, size)))
 
   -- ---- an interface
-
-  interface_ends : length h ≡ 4 → G stages.InterfaceTrailer (interface_trailer (at stages.InterfaceTrailer) h)
-  interface_ends size =
-      when (G stages.InterfaceTrailer) (u32_at s.order 0 h == s.total) _ _
-      (λ e. when (G stages.InterfaceTrailer) (nat_le 64 (length s.interfaces)) _ _
-      (λ many. refuse stages.InterfaceTrailer 0 reasons.TooManyInterfaces refl tt (omega arith))
-      (λ few. go stages.InterfaceTrailer _ 4 refl tt tt clean refl (omega (arith, size, none, no_skip)) (λ more f. (
-        le_untold 64 (length s.interfaces) few,
-        record { tail = more; joined = ap (λ l. l ++ more) (u32_ends s.order h are 0 (ap (u32_bytes s.order) (eq_told _ _ e)) size); blocks = unfilled _ more none no_skip f },
-      ))))
-      (λ other. refuse stages.InterfaceTrailer 0 reasons.BlockLengths refl tt (omega arith))
-
-  interface_goes : length h ≡ 8 → IsSound stages.InterfaceHead s.total s.rest → G stages.InterfaceHead
-      (interface_head (at stages.InterfaceHead) h)
-  interface_goes size sound =
-      let o = s.order in
-      let i : Interface = record { link_type = u16_at o 0 h; snap_length = u32_at o 4 h; resolution = 6; has_offset = false } in
-      go stages.InterfaceHead _ 8 (after_filed s.rest) (after_sound s.total s.rest (omega (arith, sound.2, sound.1, sound.0))) tt clean refl
-      (omega (arith, size, none, no_skip)) (λ more f.
-      let q = options_after (context s) s.rest i more (unfilled _ more none no_skip f) in
-      let options = options_bytes o q.options ++ end_bytes o q.end in
-      let front = u16_bytes o (u16_at o 0 h) ++ (u16_bytes o (u16_at o 2 h) ++ u32_bytes o (u32_at o 4 h)) in
-      let h_is : h ≡ front = u16_as o h are 0 refl (omega (arith, size)) (u16_as o h are 2 refl (omega (arith, size)) (u32_ends o h are 4 refl size)) in
-      let eight : length front ≡ 8 = sym (ap length h_is) ∙ size in
-      record {
-        block = InterfaceBlock (u16_at o 0 h) (u16_at o 2 h) (u32_at o 4 h) q.options q.end;
-        tail = q.tail;
-        kind_is = refl;
-        size = omega (arith, length-append front options, eight, q.size, sound.1, sound.0);
-        fits = (u16_low o h are 0, u32_low o h are 4, q.fit, q.ends, q.few);
-        joined = cat _ _ _ _ h_is q.joined ∙ sym (append_assoc front options q.tail);
-        closing = q.closing;
-      })
 
   -- an option, and then others
   option_first : (bytes after : List ℕ) (o : InterfaceOption) (i : Interface) (rest : ℕ) → length h ≡ 4 → u16_at s.order 0 h ≡ o.code
@@ -346,86 +246,33 @@ module _ (p w : ℕ) (s : Scan) (h : List ℕ) (clean : s.fault ≡ None) (none 
             (sym says) q.closing;
       }
 
-  option_goes : length h ≡ 4 → IsSound stages.OptionHead s.total s.rest → G stages.OptionHead (option_head (at stages.OptionHead) h)
-  option_goes size sound =
-      let o = s.order in
-      let code = u16_at o 0 h in
-      let n = u16_at o 2 h in
-      let four : 4 ≤ s.rest = omega (arith, sound.0, sound.1) in
-      let h_is : h ≡ u16_bytes o code ++ u16_bytes o n = u16_as o h are 0 refl (omega (arith, size)) (u16_ends o h are 2 refl size) in
-      when (G stages.OptionHead) (code == 0) _ _
-      (λ e. go stages.OptionHead _ s.rest refl tt tt clean refl (omega (arith, size, none, four)) (λ more f.
-      let q : (length s.interfaces < 64) × Closing s.passes_cut o s.total (s.interfaces ++ s.interface ∷ []) f.more = f.rest in
-      record {
-        options = [];
-        end = Some (u16_bytes o n ++ f.fill);
-        tail = f.more;
-        fit = tt;
-        ends = grind (arith, length-append, u16_size);
-        size = grind (arith, length-append, u16_size, f.size, none, four);
-        joined = cat _ _ _ _ (h_is ∙ ap (λ (v : ℕ). u16_bytes o v ++ u16_bytes o n) (eq_told code 0 e)) f.joined
-            ∙ simp append_assoc;
-        few = q.0;
-        closing = q.1;
-      }))
-      (λ e. when (G stages.OptionHead) (nat_lt (s.rest - 4) (padded n)) _ _
-      (λ long. refuse stages.OptionHead 2 reasons.OptionLength refl sound (omega (arith, size)))
-      (λ enough. let room = lt_untold (s.rest - 4) (padded n) enough in when (G stages.OptionHead) (code == 9) _ _
-      (λ nine. when (G stages.OptionHead) (n == 1) _ _
-      (λ one. go stages.OptionHead _ 4 refl (let whole = sound.0 in omega (arith, whole)) tt clean refl
-      (omega (arith, size, none, no_skip)) (λ more f.
-      let q : TimeUnit (context s) (s.rest - 8) s.interface more = unfilled _ more none no_skip f in
-      let x : InterfaceOption = record { code = 9; value = q.value ∷ []; filler = q.filler } in
-      let is_one = eq_told n 1 one in
-      option_first more q.more x _ (s.rest - 8) size (eq_told code 9 nine) is_one
-      (record { code = omega arith; no_end = λ z. absurd (omega (arith, z)); size = omega arith; filled = omega (arith, q.filled); resolution = λ z. refl })
-      refl (omega (arith, room, is_one)) q.joined q.options))
-      (λ other. refuse stages.OptionHead 2 reasons.OptionLength refl sound (omega (arith, size))))
-      (λ not_nine. when (G stages.OptionHead) (code == 14) _ _
-      (λ offset. passed size sound (record s.interface { has_offset = true }) (eq_untold code 0 e) (eq_untold code 9 not_nine) room
-      (λ v. when_false _ _ _ not_nine ∙ when_true _ _ _ offset))
-      (λ no_offset. passed size sound s.interface (eq_untold code 0 e) (eq_untold code 9 not_nine) room
-      (λ v. when_false _ _ _ not_nine ∙ when_false _ _ _ no_offset)))))
-    where
-      passed : length h ≡ 4 → IsSound stages.OptionHead s.total s.rest → (i : Interface) → let code = u16_at s.order 0 h in
-          let n = u16_at s.order 2 h in code ≢ 0 → code ≢ 9 → padded n ≤ s.rest - 4
-          → ((v : List ℕ) → cond (code == 9) (record s.interface { resolution = slice_index v 0 })
-          (cond (code == 14) (record s.interface { has_offset = true }) s.interface) ≡ i)
-          → G stages.OptionHead (pass_option (at stages.OptionHead) (padded n) i)
-      passed size sound i no_end no_unit room says =
-          let code = u16_at s.order 0 h in
-          let n = u16_at s.order 2 h in
-          let rest = s.rest - 4 - padded n in
-          go stages.OptionHead _ (4 + padded n) (after_filed rest) (after_sound s.total rest (omega (arith, sound.0, room))) tt clean refl
-          (omega (arith, size, none)) (λ more f.
-          let fits : n ≤ length f.fill = omega (arith, f.size, none) in
-          let value = take n f.fill in
-          let filler = drop n f.fill in
-          let value_size : length value ≡ n = length-take-le n f.fill fits in
-          let x : InterfaceOption = record { code = code; value = value; filler = filler } in
-          option_first more f.more x i rest size refl (sym value_size)
-          (record {
-            code = u16_low s.order h are 0;
-            no_end = no_end;
-            size = omega (arith, value_size, u16_low s.order h are 2);
-            filled = omega (arith, value_size, length-drop n f.fill, f.size, none);
-            resolution = λ z. absurd (no_unit z);
-          })
-          (says value) (omega (arith, value_size, room)) (f.joined ∙ ap (λ l. l ++ f.more) (sym (take-append-drop n f.fill)))
-          (options_after (context s) rest i f.more f.rest))
-
-  resolution_goes : length h ≡ 4 → IsSound stages.Resolution s.total s.rest → G stages.Resolution (resolution_head (at stages.Resolution) h)
-  resolution_goes size sound =
-      go stages.Resolution _ 4 (after_filed s.rest) (after_sound s.total s.rest sound) tt clean refl (omega (arith, size, none, no_skip))
-      (λ more f.
-      record {
-        value = slice_index h 0;
-        filler = drop 1 h;
-        more = more;
-        filled = omega (arith, length-drop 1 h, size);
-        joined = ap (λ l. l ++ more) (first_is h (omega (arith, size)));
-        options = options_after (context s) s.rest _ more (unfilled _ more none no_skip f);
+  -- an option that is passed over
+  option_passed : length h ≡ 4 → IsSound stages.OptionHead s.total s.rest → (i : Interface) → let code = u16_at s.order 0 h in
+      let n = u16_at s.order 2 h in code ≢ 0 → code ≢ 9 → padded n ≤ s.rest - 4
+      → ((v : List ℕ) → cond (code == 9) (record s.interface { resolution = slice_index v 0 })
+      (cond (code == 14) (record s.interface { has_offset = true }) s.interface) ≡ i)
+      → G stages.OptionHead (pass_option (at stages.OptionHead) (padded n) i)
+  option_passed size sound i no_end no_unit room says =
+      let code = u16_at s.order 0 h in
+      let n = u16_at s.order 2 h in
+      let rest = s.rest - 4 - padded n in
+      go stages.OptionHead _ (4 + padded n) (after_filed rest) (after_sound s.total rest (omega (arith, sound.0, room))) tt clean refl
+      (omega (arith, size, none)) (λ more f.
+      let fits : n ≤ length f.fill = omega (arith, f.size, none) in
+      let value = take n f.fill in
+      let filler = drop n f.fill in
+      let value_size : length value ≡ n = length-take-le n f.fill fits in
+      let x : InterfaceOption = record { code = code; value = value; filler = filler } in
+      option_first more f.more x i rest size refl (sym value_size)
+      (record {
+        code = u16_low s.order h are 0;
+        no_end = no_end;
+        size = omega (arith, value_size, u16_low s.order h are 2);
+        filled = omega (arith, value_size, length-drop n f.fill, f.size, none);
+        resolution = λ z. absurd (no_unit z);
       })
+      (says value) (omega (arith, value_size, room)) (f.joined ∙ ap (λ l. l ++ f.more) (sym (take-append-drop n f.fill)))
+      (options_after (context s) rest i f.more f.rest))
 
   -- ---- a packet
 
@@ -480,26 +327,6 @@ module _ (p w : ℕ) (s : Scan) (h : List ℕ) (clean : s.fault ≡ None) (none 
   four_words o size n e = u32_as o h are 4 refl (omega (arith, size)) (u32_as o h are 8 refl (omega (arith, size))
       (u32_as o h are 12 (ap (u32_bytes o) e) (omega (arith, size)) (u32_ends o h are 16 refl size)))
 
-  enhanced_goes : length h ≡ 20 → 32 ≤ s.total → G stages.Enhanced (enhanced_head (at stages.Enhanced) h)
-  enhanced_goes size least =
-      let o = s.order in
-      let number = u32_at o 0 h in
-      enhanced_by_goes stages.Enhanced (EnhancedHead number (u32_at o 4 h) (u32_at o 8 h)) refl least least size
-      (λ i n e. (u32_as o h are 0 refl (omega (arith, size)) (four_words o size n e), u32_low o h are 0))
-      (λ bytes b. b) (slice_get s.interfaces number) refl
-
-  obsolete_goes : length h ≡ 20 → 32 ≤ s.total → G stages.ObsoletePacket (obsolete_head (at stages.ObsoletePacket) h)
-  obsolete_goes size least =
-      let o = s.order in
-      let number = u16_at o 0 h in
-      let drops = u16_at o 2 h in
-      enhanced_by_goes stages.ObsoletePacket (ObsoleteHead number drops (u32_at o 4 h) (u32_at o 8 h)) refl least least size
-      (λ i n e. (
-        u16_as o h are 0 refl (omega (arith, size)) (u16_as o h are 2 refl (omega (arith, size)) (four_words o size n e)) ∙ sym (append_assoc (u16_bytes o number) (u16_bytes o drops) _),
-        u16_low o h are 0,
-      ))
-      (λ bytes b. b) (slice_get s.interfaces number) refl
-
   simple_goes_by : length h ≡ 4 → 16 ≤ s.total → (o : Option Interface) → slice_get s.interfaces 0 ≡ o → G stages.Simple (simple_by (at stages.Simple) h o)
   simple_goes_by size least None e = refuse stages.Simple 0 reasons.NoInterface refl least (omega arith)
   simple_goes_by size least (Some i) e =
@@ -509,23 +336,158 @@ module _ (p w : ℕ) (s : Scan) (h : List ℕ) (clean : s.fault ≡ None) (none 
       (packet_goes stages.Simple 0 SimpleHead i None n original refl least (omega arith) (omega (arith, size)) (omega (arith, size, least)) e (u32_low s.order h are 0)
       (λ m same. (u32_ends s.order h are 0 refl size, same)) (λ bytes b. b))
 
-  simple_goes : length h ≡ 4 → 16 ≤ s.total → G stages.Simple (simple_head (at stages.Simple) h)
-  simple_goes size least = simple_goes_by size least (slice_get s.interfaces 0) refl
+  -- ---- all
 
   goes : (stage : Stage) → is_raw stage ≡ false → IsSound stage s.total s.rest → length h ≡ want stage → G stage (decoded_by stage (at stage) h)
   goes stages.Raw filed sound size = absurd (let no : ◌≡◌ {A = Bool} true false = filed in cc)
-  goes stages.FileHeader filed sound size = file_goes size
-  goes stages.Record filed sound size = record_goes size
-  goes stages.Section filed sound size = section_goes size
-  goes stages.Block filed sound size = block_goes size
-  goes stages.InterfaceHead filed sound size = interface_goes size sound
-  goes stages.OptionHead filed sound size = option_goes size sound
-  goes stages.Resolution filed sound size = resolution_goes size sound
-  goes stages.InterfaceTrailer filed sound size = interface_ends size
-  goes stages.Enhanced filed sound size = enhanced_goes size sound
-  goes stages.ObsoletePacket filed sound size = obsolete_goes size sound
-  goes stages.Simple filed sound size = simple_goes size sound
-  goes stages.Trailer filed sound size = trailer_goes size
+  goes stages.FileHeader filed sound size =
+      let m = u32_at Little 0 h in
+      let P : Option (ByteOrder × Bool) → Type 0 = λ (v : Option (ByteOrder × Bool)). G stages.FileHeader
+      (file_header_by (at stages.FileHeader) h v) in
+      when P (m == 0xa1b2c3d4) _ _ (λ e. file_in Little false size (ap (u32_bytes Little) (eq_told _ _ e)))
+      (λ _. when P (m == 0xa1b23c4d) _ _ (λ e. file_in Little true size (ap (u32_bytes Little) (eq_told _ _ e)))
+      (λ _. when P (m == 0xd4c3b2a1) _ _ (λ e. file_in Big false size (ap (u32_bytes Little) (eq_told _ _ e)))
+      (λ _. when P (m == 0x4d3cb2a1) _ _ (λ e. file_in Big true size (ap (u32_bytes Little) (eq_told _ _ e)))
+      (λ _. refuse stages.FileHeader 0 reasons.Magic refl tt (omega arith)))))
+  goes stages.Record filed sound size =
+      packet_head_goes stages.Record stages.Record _ refl tt (omega (arith, size)) (omega (arith, size)) (sym size) (omega arith)
+      (λ more fill after joined long whole q. packet_first size whole more fill after long joined q)
+  goes stages.Section filed sound size =
+      let m = u32_at Little 8 h in
+      let P : Option ByteOrder → Type 0 = λ (v : Option ByteOrder). G stages.Section (section_by (at stages.Section) h v) in
+      when (G stages.Section) (u32_at Little 0 h == 0x0a0d0d0a) _ _
+      (λ k. let kind = ap (u32_bytes Little) (eq_told _ _ k) in
+      when P (m == 0x1a2b3c4d) _ _ (λ e. section_goes_in Little size kind (ap (u32_bytes Little) (eq_told _ _ e)))
+      (λ _. when P (m == 0x4d3c2b1a) _ _ (λ e. section_goes_in Big size kind (ap (u32_bytes Little) (eq_told _ _ e)))
+      (λ _. refuse stages.Section 8 reasons.OrderMark refl tt (omega (arith, size)))))
+      (λ other. refuse stages.Section 0 reasons.Magic refl tt (omega arith))
+  goes stages.Block filed sound size =
+      let kind = u32_at s.order 0 h in
+      let total = u32_at s.order 4 h in
+      let P : Option (Stage × ℕ) → Type 0 = λ (v : Option (Stage × ℕ)). G stages.Block (block_by (at stages.Block) total v) in
+      when (G stages.Block) (kind == 0x0a0d0d0a) _ _
+      (λ e. go stages.Block _ 0 refl tt are clean (omega (arith, next_is)) (omega (arith, none, no_skip)) (λ more f.
+      let q : PcapngFile s.passes_cut (h ++ more) = unfilled _ more none no_skip f in
+      record { blocks = []; sections = q.first ∷ q.sections; fit = tt; fits = (q.fits, q.fit); joined = q.joined }))
+      (λ no_section. when P (kind == 1) _ _ (λ e. block_reads size stages.InterfaceHead 20 1 refl (λ whole least. (least, refl, whole))
+      (λ bytes f. f) (eq_told _ _ e))
+      (λ a. when P (kind == 2) _ _ (λ e. block_reads size stages.ObsoletePacket 32 2 refl (λ whole least. least) (λ bytes f. f) (eq_told _ _ e))
+      (λ b. when P (kind == 3) _ _ (λ e. block_reads size stages.Simple 16 3 refl (λ whole least. least) (λ bytes f. f) (eq_told _ _ e))
+      (λ c. when P (kind == 6) _ _ (λ e. block_reads size stages.Enhanced 32 6 refl (λ whole least. least) (λ bytes f. f) (eq_told _ _ e))
+      (λ d. when (G stages.Block) (is_length 12 total) _ _
+      (λ fits. let whole = length_told 12 total fits in let least = whole.1 in
+      go stages.Block _ (total - 4) refl tt tt clean refl (omega (arith, size, none, least)) (λ more f.
+      block_whole more kind size refl whole.0 (record {
+        block = OtherBlock kind f.fill;
+        tail = f.more;
+        kind_is = refl;
+        size = omega (arith, f.size, none, least);
+        fits = (u32_low s.order h are 0, eq_untold _ _ a, eq_untold _ _ b, eq_untold _ _ c, eq_untold _ _ d, eq_untold _ _ no_section);
+        joined = f.joined;
+        closing = f.rest;
+      })))
+      (λ other. refuse stages.Block 4 reasons.BlockLength refl tt (omega (arith, size))))))))
+  goes stages.Trailer filed sound size =
+      when (G stages.Trailer) (u32_at s.order 0 h == s.total) _ _
+      (λ e. go stages.Trailer _ 4 refl tt tt clean refl (omega (arith, size, none, no_skip))
+      (λ more f. record { tail = more; joined = ap (λ l. l ++ more) (u32_ends s.order h are 0 (ap (u32_bytes s.order) (eq_told _ _ e)) size); blocks = unfilled _ more none no_skip f }))
+      (λ other. refuse stages.Trailer 0 reasons.BlockLengths refl tt (omega arith))
+  goes stages.InterfaceHead filed sound size =
+      let o = s.order in
+      let i : Interface = record { link_type = u16_at o 0 h; snap_length = u32_at o 4 h; resolution = 6; has_offset = false } in
+      go stages.InterfaceHead _ 8 (after_filed s.rest) (after_sound s.total s.rest (omega (arith, sound.2, sound.1, sound.0))) tt clean refl
+      (omega (arith, size, none, no_skip)) (λ more f.
+      let q = options_after (context s) s.rest i more (unfilled _ more none no_skip f) in
+      let options = options_bytes o q.options ++ end_bytes o q.end in
+      let front = u16_bytes o (u16_at o 0 h) ++ (u16_bytes o (u16_at o 2 h) ++ u32_bytes o (u32_at o 4 h)) in
+      let h_is : h ≡ front = u16_as o h are 0 refl (omega (arith, size)) (u16_as o h are 2 refl (omega (arith, size)) (u32_ends o h are 4 refl size)) in
+      let eight : length front ≡ 8 = sym (ap length h_is) ∙ size in
+      record {
+        block = InterfaceBlock (u16_at o 0 h) (u16_at o 2 h) (u32_at o 4 h) q.options q.end;
+        tail = q.tail;
+        kind_is = refl;
+        size = omega (arith, length-append front options, eight, q.size, sound.1, sound.0);
+        fits = (u16_low o h are 0, u32_low o h are 4, q.fit, q.ends, q.few);
+        joined = cat _ _ _ _ h_is q.joined ∙ sym (append_assoc front options q.tail);
+        closing = q.closing;
+      })
+  goes stages.OptionHead filed sound size =
+      let o = s.order in
+      let code = u16_at o 0 h in
+      let n = u16_at o 2 h in
+      let four : 4 ≤ s.rest = omega (arith, sound.0, sound.1) in
+      let h_is : h ≡ u16_bytes o code ++ u16_bytes o n = u16_as o h are 0 refl (omega (arith, size)) (u16_ends o h are 2 refl size) in
+      when (G stages.OptionHead) (code == 0) _ _
+      (λ e. go stages.OptionHead _ s.rest refl tt tt clean refl (omega (arith, size, none, four)) (λ more f.
+      let q : (length s.interfaces < 64) × Closing s.passes_cut o s.total (s.interfaces ++ s.interface ∷ []) f.more = f.rest in
+      record {
+        options = [];
+        end = Some (u16_bytes o n ++ f.fill);
+        tail = f.more;
+        fit = tt;
+        ends = grind (arith, length-append, u16_size);
+        size = grind (arith, length-append, u16_size, f.size, none, four);
+        joined = cat _ _ _ _ (h_is ∙ ap (λ (v : ℕ). u16_bytes o v ++ u16_bytes o n) (eq_told code 0 e)) f.joined
+            ∙ simp append_assoc;
+        few = q.0;
+        closing = q.1;
+      }))
+      (λ e. when (G stages.OptionHead) (nat_lt (s.rest - 4) (padded n)) _ _
+      (λ long. refuse stages.OptionHead 2 reasons.OptionLength refl sound (omega (arith, size)))
+      (λ enough. let room = lt_untold (s.rest - 4) (padded n) enough in when (G stages.OptionHead) (code == 9) _ _
+      (λ nine. when (G stages.OptionHead) (n == 1) _ _
+      (λ one. go stages.OptionHead _ 4 refl (let whole = sound.0 in omega (arith, whole)) tt clean refl
+      (omega (arith, size, none, no_skip)) (λ more f.
+      let q : TimeUnit (context s) (s.rest - 8) s.interface more = unfilled _ more none no_skip f in
+      let x : InterfaceOption = record { code = 9; value = q.value ∷ []; filler = q.filler } in
+      let is_one = eq_told n 1 one in
+      option_first more q.more x _ (s.rest - 8) size (eq_told code 9 nine) is_one
+      (record { code = omega arith; no_end = λ z. absurd (omega (arith, z)); size = omega arith; filled = omega (arith, q.filled); resolution = λ z. refl })
+      refl (omega (arith, room, is_one)) q.joined q.options))
+      (λ other. refuse stages.OptionHead 2 reasons.OptionLength refl sound (omega (arith, size))))
+      (λ not_nine. when (G stages.OptionHead) (code == 14) _ _
+      (λ offset. option_passed size sound (record s.interface { has_offset = true }) (eq_untold code 0 e) (eq_untold code 9 not_nine) room
+      (λ v. when_false _ _ _ not_nine ∙ when_true _ _ _ offset))
+      (λ no_offset. option_passed size sound s.interface (eq_untold code 0 e) (eq_untold code 9 not_nine) room
+      (λ v. when_false _ _ _ not_nine ∙ when_false _ _ _ no_offset)))))
+  goes stages.Resolution filed sound size =
+      go stages.Resolution _ 4 (after_filed s.rest) (after_sound s.total s.rest sound) tt clean refl (omega (arith, size, none, no_skip))
+      (λ more f.
+      record {
+        value = slice_index h 0;
+        filler = drop 1 h;
+        more = more;
+        filled = omega (arith, length-drop 1 h, size);
+        joined = ap (λ l. l ++ more) (first_is h (omega (arith, size)));
+        options = options_after (context s) s.rest _ more (unfilled _ more none no_skip f);
+      })
+  goes stages.InterfaceTrailer filed sound size =
+      when (G stages.InterfaceTrailer) (u32_at s.order 0 h == s.total) _ _
+      (λ e. when (G stages.InterfaceTrailer) (nat_le 64 (length s.interfaces)) _ _
+      (λ many. refuse stages.InterfaceTrailer 0 reasons.TooManyInterfaces refl tt (omega arith))
+      (λ few. go stages.InterfaceTrailer _ 4 refl tt tt clean refl (omega (arith, size, none, no_skip)) (λ more f. (
+        le_untold 64 (length s.interfaces) few,
+        record { tail = more; joined = ap (λ l. l ++ more) (u32_ends s.order h are 0 (ap (u32_bytes s.order) (eq_told _ _ e)) size); blocks = unfilled _ more none no_skip f },
+      ))))
+      (λ other. refuse stages.InterfaceTrailer 0 reasons.BlockLengths refl tt (omega arith))
+  goes stages.Enhanced filed sound size =
+      let o = s.order in
+      let number = u32_at o 0 h in
+      enhanced_by_goes stages.Enhanced (EnhancedHead number (u32_at o 4 h) (u32_at o 8 h)) refl sound sound size
+      (λ i n e. (u32_as o h are 0 refl (omega (arith, size)) (four_words o size n e), u32_low o h are 0))
+      (λ bytes b. b) (slice_get s.interfaces number) refl
+  goes stages.ObsoletePacket filed sound size =
+      let o = s.order in
+      let number = u16_at o 0 h in
+      let drops = u16_at o 2 h in
+      enhanced_by_goes stages.ObsoletePacket (ObsoleteHead number drops (u32_at o 4 h) (u32_at o 8 h)) refl sound sound size
+      (λ i n e. (
+        u16_as o h are 0 refl (omega (arith, size)) (u16_as o h are 2 refl (omega (arith, size)) (four_words o size n e)) ∙ sym (append_assoc (u16_bytes o number) (u16_bytes o drops) _),
+        u16_low o h are 0,
+      ))
+      (λ bytes b. b) (slice_get s.interfaces number) refl
+  goes stages.Simple filed sound size =
+      simple_goes_by size sound (slice_get s.interfaces 0) refl
 
 pub heads_go : HeadsGo
 unfolding decoded

@@ -2,12 +2,8 @@
 use Rattle.std.proofs.Common.{◌≡◌, ◌≢◌, ℕ, ◌+◌, ◌-◌, ◌<◌, ◌≤◌, ◌^◌, Bool, true, false, cond, List, [], ◌∷◌, ◌++◌, length, take, drop, Option, None, Some, refl, sym, ap, ◌∙◌, arith, append_assoc, length-append, take-append-drop}
 use Rattle.std.specs.Prelude.{◌==◌, nat_le, slice_index}
 use Rattle.std.proofs.lemmas.List.{length-take-le, length-drop}
-use Rattle.dbus_capture.specs.declared.byte_order.ByteOrder.{ByteOrder}
-use Rattle.dbus_capture.specs.declared.byte_order.ByteOrder.TheVariants.{Little, Big}
-use Rattle.dbus_capture.specs.declared.stage.Stage.{Stage}
+use Rattle.dbus_capture.specs.Types.{ByteOrder, Little, Big, Stage, Interface, Scan}
 use Rattle.dbus_capture.specs.declared.stage.Stage.TheVariants as stages
-use Rattle.dbus_capture.specs.declared.interface.Interface.{Interface}
-use Rattle.dbus_capture.specs.declared.scan.Scan.{Scan}
 use Rattle.dbus_capture.specs.Numbers.{u32_bytes, u16_bytes, u32_at, u16_at}
 use Rattle.dbus_capture.specs.Stages.{is_raw, begun}
 use Rattle.dbus_capture.specs.Scans.{place, refused}
@@ -57,7 +53,7 @@ module _ (o : ByteOrder) (interfaces : List Interface) (total : ℕ) (t : Scan) 
       let e = two_told o code size p q in
       let s = at left i k in
       let here : s ≡ record s { head = begun stages.OptionHead } = ap (λ (v : Stage). record s { head = begun v }) (when_false _ _ _ (eq_not left 0 (λ z. absurd (omega (arith, some, z))))) in
-      lead_to (lead_from here (head_leads stages.OptionHead s (u16_bytes o code ++ u16_bytes o size) refl (omega (arith, e.0)) e.0))
+      lead_to (lead_from here (head_leads stages.OptionHead s (u16_bytes o code ++ u16_bytes o size) refl e.0))
       (ap (λ (v : Scan). option_in v (u16_at o 0 (u16_bytes o code ++ u16_bytes o size)) (u16_at o 2 (u16_bytes o code ++ u16_bytes o size))) (sym here)
       ∙ ap (λ (n : ℕ). option_in s n (u16_at o 2 (u16_bytes o code ++ u16_bytes o size))) e.1 ∙ ap (λ (n : ℕ). option_in s code n) e.2 ∙ when_false _ _ _ (eq_not code 0 no_end) ∙ when_false _ _ _ (lt_false (left - 4) (padded size) room))
 
@@ -72,7 +68,7 @@ module _ (o : ByteOrder) (interfaces : List Interface) (total : ℕ) (t : Scan) 
   resolved left more i k [] filler e v f = absurd (omega (arith, v))
   resolved left more i k (x ∷ xs) filler e v f =
       let four : length ((x ∷ xs) ++ filler) ≡ 4 = let l = length-append (x ∷ xs) filler in omega (arith, l, v, f) in
-      lead_to (head_leads stages.Resolution (record (at left i k) { next = place (k + 4); rest = left - 8 }) ((x ∷ xs) ++ filler) refl (omega (arith, four)) four)
+      lead_to (head_leads stages.Resolution (record (at left i k) { next = place (k + 4); rest = left - 8 }) ((x ∷ xs) ++ filler) refl four)
       (at_same (let z : left - 8 ≡ more = omega (arith, e) in z) refl (let z : place (place (k + 4) + 4) ≡ place (k + 8) = omega arith in z))
 
   option_taken : (more : ℕ) (i : Interface) (n : ℕ) (x : InterfaceOption) → FitsOption x → let one = length (option_bytes o x) in
@@ -126,14 +122,14 @@ module _ (o : ByteOrder) (interfaces : List Interface) (total : ℕ) (t : Scan) 
       let here : s ≡ record s { head = begun stages.OptionHead } = ap (λ (v : Stage). record s { head = begun v }) (when_false _ _ _ (eq_not (length bytes) 0 (λ z. absurd (omega (arith, left, z))))) in
       let m : Scan = record s { head = begun stages.InterfaceTrailer; next = place (place n + length bytes); rest = 0 } in
       lead_of (ap (λ (v : List ℕ). u16_bytes o 0 ++ v) (sym (take-append-drop 2 more)) ∙ sym (append_assoc (u16_bytes o 0) two (drop 2 more)))
-      (lead_to (lead_then (lead_to (lead_from here (head_leads stages.OptionHead s head refl (omega (arith, four)) four)) (when_true _ _ _ (eq_is _ 0 (end_told o two))))
+      (lead_to (lead_then (lead_to (lead_from here (head_leads stages.OptionHead s head refl four)) (when_true _ _ _ (eq_is _ 0 (end_told o two))))
       (bytes_lead m [] (drop 2 more) 0 (length bytes - 4) refl refl (omega (arith, left)))) (at_same refl refl (let z : place (place n + length bytes) ≡ place (n + length bytes) = omega arith in z)))
 
   -- the length at the end of the block
   closes : (i : Interface) (k : ℕ) → total < 2 ^ 32 → length interfaces < 64 → Leads (at 0 i k) (u32_bytes o total) [] (at_blocks o (interfaces ++ i ∷ []) (record (at 0 i k) { next = place (k + 4) }))
   closes i k low few =
       let size = u32_size o total in
-      lead_to (head_leads stages.InterfaceTrailer (at 0 i k) (u32_bytes o total) refl (omega (arith, size)) size) (when_true _ _ _ (eq_is _ _ (one_told o total low)) ∙ when_false _ _ _ (le_false 64 (length interfaces) few))
+      lead_to (head_leads stages.InterfaceTrailer (at 0 i k) (u32_bytes o total) refl size) (when_true _ _ _ (eq_is _ _ (one_told o total low)) ∙ when_false _ _ _ (le_false 64 (length interfaces) few))
 
 pub interface_read : (passes : Bool) (o : ByteOrder) (interfaces : List Interface) (s : Scan) (link_type reserved snap : ℕ) (options : List InterfaceOption) (end : Option (List ℕ)) → let block = InterfaceBlock link_type reserved snap options end in
     FitsBlock passes interfaces block → FitsBody (block_body o block) → Went (at_blocks o (interfaces_after interfaces block)) (at_blocks o interfaces s) (block_bytes o block) []
@@ -148,10 +144,10 @@ interface_read passes o interfaces s link_type reserved snap options end f b =
     let left : total - 20 ≡ length spelled + length ending = let l = length-append h (spelled ++ ending) in let k = length-append spelled ending in omega (arith, l, k, e.0) in
     let i : Interface = record { link_type = link_type; snap_length = snap; resolution = 6; has_offset = false } in
     let m : Scan = record (at_blocks o interfaces s) { head = begun stages.InterfaceHead; next = place (s.next + 8); total = total; rest = total - 20 } in
-    let opened = opens_as o interfaces s 1 total 20 stages.InterfaceHead refl (omega arith) b.size b.whole (let l = length-append h (spelled ++ ending) in omega (arith, l, e.0)) (λ z. absurd (omega (arith, z))) in
+    let opened = opens_as o interfaces s 1 total 20 stages.InterfaceHead refl (omega arith) b.size b.whole (let l = length-append h (spelled ++ ending) in omega (arith, l, e.0)) in
     let described : Interface = record { link_type = u16_at o 0 h; snap_length = u32_at o 4 h; resolution = 6; has_offset = false } in
     let is : described ≡ i = simp (e.1, e.2) in
-    let headed = lead_to (head_leads stages.InterfaceHead m h refl (omega (arith, e.0)) e.0)
+    let headed = lead_to (head_leads stages.InterfaceHead m h refl e.0)
     (at_same o interfaces total m left is (let z : place (place (s.next + 8) + 8) ≡ place (s.next + 16) = omega arith in z)) in
     let n = s.next + 16 + length spelled + length ending in
     let closed = closes o interfaces total m (with_options i options) (place n) b.size f.4 in

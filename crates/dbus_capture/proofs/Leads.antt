@@ -1,8 +1,6 @@
 -- From a state the bytes of a file lead to another, and some of them are handed on.
-use Rattle.std.proofs.Common.{◌≤◌, ◌≡◌, ◌⊎◌, inl, inr, ℕ, ◌+◌, ◌-◌, ◌<◌, Bool, true, false, cond, List, [], ◌∷◌, ◌++◌, length, Option, None, Some, refl, sym, ap, ◌∙◌, arith, append_assoc, append-nil, length-append}
-use Rattle.dbus_device.specs.declared.packet.Packet.{Packet}
-use Rattle.dbus_capture.specs.declared.stage.Stage.{Stage}
-use Rattle.dbus_capture.specs.declared.scan.Scan.{Scan}
+use Rattle.std.proofs.Common.{◌≤◌, ◌≡◌, ◌⊎◌, inl, inr, ℕ, ◌+◌, ◌-◌, ◌<◌, Bool, true, false, cond, nat_lt, List, [], ◌∷◌, ◌++◌, length, Option, None, Some, refl, sym, ap, ◌∙◌, arith, append_assoc, append-nil, length-append}
+use Rattle.dbus_capture.specs.Types.{Packet, Stage, Raw, Scan, PacketHead}
 use Rattle.dbus_capture.specs.Stages.{want, is_raw, begun}
 use Rattle.dbus_capture.specs.Scans.{place, fresh}
 use Rattle.dbus_capture.specs.Beginnings.{first_stage, first_scan}
@@ -10,9 +8,8 @@ use Rattle.dbus_capture.specs.Blocks.{decoded, decoded_by}
 use Rattle.dbus_capture.specs.Steps.{run, given, packet_given, ended, Leads}
 use Rattle.dbus_capture.specs.Reading.{IsReadOf}
 use Rattle.dbus_capture.specs.CutPackets.{Captured, IsCaptured, is_cut, whole_payload, whole_count, cut_count}
-use Rattle.dbus_capture.proofs.Choices.{lt_true, lt_false, eq_is, eq_not, when_true, when_false}
+use Rattle.dbus_capture.proofs.Choices.{lt_false, eq_is, eq_not, when_true, when_false}
 use Rattle.std.proofs.lemmas.Bool.{cases_lt}
-use Rattle.dbus_capture.specs.declared.packet.PacketHead.{PacketHead}
 use Rattle.dbus_capture.specs.Heads.{give_packet, pass_packet, packet_head}
 use Rattle.dbus_capture.proofs.StepLaws.{run-append, lead_nothing, lead_then, lead_to, run_gives, run_skips, run_head}
 use Rattle.dbus_capture.proofs.PacketSteps.{packet_after}
@@ -21,11 +18,15 @@ use Rattle.dbus_capture.proofs.PacketSteps.{packet_after}
 abbrev pub ready : Stage → Scan → Scan
 ready stage t = record t { head = begun stage; give = 0; skip = 0; fault = None }
 
-pub head_leads : (stage : Stage) (t : Scan) (h : List ℕ) → is_raw stage ≡ false → 0 < length h → length h ≡ want stage
+want_some : (stage : Stage) → 0 < want stage
+want_some Raw = omega arith
+want_some _ = omega arith
+
+pub head_leads : (stage : Stage) (t : Scan) (h : List ℕ) → is_raw stage ≡ false → length h ≡ want stage
     → Leads (ready stage t) h [] (decoded_by stage (ready stage t) h)
 unfolding decoded
-head_leads stage t h filed some size =
-    run_head (ready stage t) h refl filed refl refl some (omega (arith, size))
+head_leads stage t h filed size =
+    run_head (ready stage t) h refl filed refl refl (omega (arith, size, want_some stage)) (omega (arith, size))
 
 -- the bytes of a packet, and those that are passed over
 pub gives_lead : (t : Scan) (bytes : List ℕ) → is_raw t.head.stage ≡ false
@@ -117,7 +118,7 @@ went_whole at s t bytes p all l same next packets cut =
 pub went_cut : (at : Scan → Scan) (s t : Scan) (bytes : List ℕ) (p : Captured) → length p.bytes < p.original → Leads s bytes [] (at t) → (at t).passes_cut ≡ s.passes_cut → (at t).next ≡ place (s.next + length bytes)
     → (at t).packets ≡ s.packets → (at t).cut ≡ place (s.cut + 1) → Went at s bytes (p ∷ [])
 went_cut at s t bytes p short l same next packets cut =
-    let part : is_cut p ≡ true = lt_true (length p.bytes) p.original short in
+    let part : nat_lt (length p.bytes) p.original ≡ true = grind (arith, short) in
     record {
       final = t;
       leads = record { ran = l.ran; gave = l.gave ∙ sym (ap (λ (v : Bool). cond v [] p.bytes ++ []) part) };
@@ -153,31 +154,38 @@ read_whole at stage passes bytes packets ends first w = record {
   counted = ap (λ (v : Stage). (run (fresh passes v) bytes).cut) first ∙ ap (λ (v : Scan). v.cut) w.leads.ran ∙ w.cut refl ∙ ap place (let z : 0 + cut_count packets ≡ cut_count packets = omega arith in z);
 }
 
-pub same_packet : {n m a b : ℕ} (time : Option ℕ) (l : ℕ) → n ≡ m → a ≡ b → ◌≡◌ {A = Packet} (record { number = n; at = a; time = time; length = l }) (record { number = m; at = b; time = time; length = l })
-same_packet {n} {m} {a} {b} time l e f = ap (λ (v : ℕ). record { number = v; at = a; time = time; length = l }) e ∙ ap (λ (v : ℕ). record { number = m; at = v; time = time; length = l }) f
-
--- the bytes of a packet come after a head, and this is reported of it
-pub record Begins (s : Scan) (head bytes : List ℕ) (packet : Packet) : Type 0 where
+-- the bytes of a packet of this time come after a head
+pub record Begins (s : Scan) (head bytes : List ℕ) (time : Option ℕ) : Type 0 where
   pub state : Scan
   pub leads : Leads s head [] state
   pub unfaulted : state.fault ≡ None
   pub filed : is_raw state.head.stage ≡ false
   pub gives : state.give ≡ length bytes
-  pub reported : state.packet ≡ Some packet
+  pub reported : state.packet ≡ Some (record { number = place (s.packets + 1); at = place s.next; time = time; length = length bytes })
 
-module _ {at : Scan → Scan} {stage : Stage} {passes : Bool} {before head bytes : List ℕ} {packets : List Captured} {packet : Packet} (first : (more : List ℕ) → first_stage (before ++ more) ≡ stage)
-    (w : Went at (fresh passes stage) before packets) (b : Begins (at w.final) head bytes packet) where
+module _ {at : Scan → Scan} {stage : Stage} {passes : Bool} {before head bytes : List ℕ} {packets : List Captured} {time : Option ℕ}
+    (first : (more : List ℕ) → first_stage (before ++ more) ≡ stage) (w : Went at (fresh passes stage) before packets) (b : Begins (at w.final) head bytes time) where
   abbrev out : List ℕ
   out = whole_payload packets
 
+  abbrev packet : Packet
+  packet = record { number = place (whole_count packets + 1); at = place (length before); time = time; length = length bytes }
+
   begun_at : Leads (fresh passes stage) (before ++ head) (out ++ []) b.state
   begun_at = lead_then w.leads b.leads
+
+  is_told : b.state.packet ≡ Some packet
+  is_told =
+      let number : place ((at w.final).packets + 1) ≡ place (whole_count packets + 1) = let e = w.packets_is in omega (arith, e) in
+      let next : place (at w.final).next ≡ place (length before) = let e = w.next refl in omega (arith, e) in
+      b.reported ∙ ap (λ (n : ℕ). Some (record { number = n; at = place (at w.final).next; time = time; length = length bytes })) number
+      ∙ ap (λ (n : ℕ). Some (record packet { at = n })) next
 
   hands : (front back : List ℕ) → bytes ≡ front ++ back → ((run b.state front).packet ≡ Some packet) × (given b.state front ≡ front)
   hands front back e =
       let size = ap length e ∙ length-append front back in
       let law = run_gives b.state front b.unfaulted b.filed (omega (arith, size, b.gives)) in
-      (ap (λ (v : Scan). v.packet) law.ran ∙ b.reported, law.gave)
+      (ap (λ (v : Scan). v.packet) law.ran ∙ is_told, law.gave)
 
   pub reported_from : (front back : List ℕ) → bytes ≡ front ++ back → (run (first_scan passes (before ++ (head ++ front))) (before ++ (head ++ front))).packet ≡ Some packet
   reported_from front back e =
@@ -191,4 +199,4 @@ module _ {at : Scan → Scan} {stage : Stage} {passes : Bool} {before head bytes
       ap (λ (v : Stage). packet_given (fresh passes v) all (length out + i)) (ap first_stage (append_assoc before head (bytes ++ more)) ∙ first (head ++ (bytes ++ more)))
       ∙ packet_after (fresh passes stage) (before ++ head) bytes more (length out) i (ap length (begun_at.gave ∙ append-nil out))
       (ap (λ (v : Scan). given v bytes) begun_at.ran ∙ (hands bytes [] (sym (append-nil bytes))).1) low
-      ∙ ap (λ (v : Scan). v.packet) begun_at.ran ∙ b.reported
+      ∙ ap (λ (v : Scan). v.packet) begun_at.ran ∙ is_told

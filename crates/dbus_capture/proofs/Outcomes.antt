@@ -1,9 +1,6 @@
 -- Bytes that begin as a file does are one, or are refused behind what is whole of them.
 use Rattle.std.proofs.Common.{◌≡◌, ℕ, Bool, false, List, [], ◌∷◌, ◌++◌, length, Option, None, Some, refl, sym, ap, subst, ◌∙◌, arith}
-use Rattle.dbus_capture.specs.declared.stage.Stage.{Stage}
-use Rattle.dbus_capture.specs.declared.stage.Stage.TheVariants.{FileHeader, Section}
-use Rattle.dbus_capture.specs.declared.fault.CaptureFault.{CaptureFault}
-use Rattle.dbus_capture.specs.declared.scan.Scan.{Scan}
+use Rattle.dbus_capture.specs.Types.{Stage, FileHeader, Section, CaptureFault, Scan}
 use Rattle.dbus_capture.specs.Stages.{is_raw}
 use Rattle.dbus_capture.specs.Scans.{place, fresh}
 use Rattle.dbus_capture.specs.Beginnings.{first_stage, first_scan}
@@ -48,8 +45,10 @@ module _ (passes : Bool) (first : Stage) (filed : is_raw first ≡ false) (sound
       (are_rest front rest bytes joined are)).within f (sym (ap (λ (v : Scan). (ended v).fault) runs) ∙ e) in
       record { within = k.0; at = k.1; there = omega (arith, k.2); more = given (run s front) rest; gives = gives }
 
-  outcome : (FollowsFrom first s bytes → IsFile bytes (given s bytes)) → IsOutcome IsFile bytes (given s bytes) (ended (run s bytes)).fault
-  outcome spelled = by (ended (run s bytes)).fault refl
+  outcome : first_stage bytes ≡ first → (FollowsFrom first s bytes → IsFile bytes (given s bytes))
+      → IsOutcome IsFile bytes (given (first_scan passes bytes) bytes) (ended (run (first_scan passes bytes) bytes)).fault
+  outcome is spelled =
+      subst (λ (v : Stage). IsOutcome IsFile bytes (given (fresh passes v) bytes) (ended (run (fresh passes v) bytes)).fault) (sym is) (by (ended (run s bytes)).fault refl)
     where
       by : (o : Option CaptureFault) → (ended (run s bytes)).fault ≡ o → IsOutcome IsFile bytes (given s bytes) o
       by None e = spelled (unfilled s bytes refl refl ((reaches heads_go 0 0 s bytes begins are).spelled e))
@@ -82,13 +81,11 @@ pcapng_fronted passes front payload (f, gives) =
 pub pcap_outcome : (passes : Bool) (bytes : List ℕ) → AreBytes bytes → first_stage bytes ≡ FileHeader
     → IsOutcome (IsPcap passes) bytes (given (first_scan passes bytes) bytes) (ended (run (first_scan passes bytes) bytes)).fault
 pcap_outcome passes bytes are first =
-    subst (λ (v : Stage). IsOutcome (IsPcap passes) bytes (given (fresh passes v) bytes) (ended (run (fresh passes v) bytes)).fault)
-    (sym first)
-    (outcome passes FileHeader refl tt (IsPcap passes) (pcap_fronted passes) bytes are (λ f. (f, ap (given (fresh passes FileHeader)) f.joined ∙ (pcap_file passes f.head f.fits f.packets f.fit).leads.gave)))
+    outcome passes FileHeader refl tt (IsPcap passes) (pcap_fronted passes) bytes are first
+    (λ f. (f, ap (given (fresh passes FileHeader)) f.joined ∙ (pcap_file passes f.head f.fits f.packets f.fit).leads.gave))
 
 pub pcapng_outcome : (passes : Bool) (bytes : List ℕ) → AreBytes bytes → first_stage bytes ≡ Section
     → IsOutcome (IsPcapng passes) bytes (given (first_scan passes bytes) bytes) (ended (run (first_scan passes bytes) bytes)).fault
 pcapng_outcome passes bytes are first =
-    subst (λ (v : Stage). IsOutcome (IsPcapng passes) bytes (given (fresh passes v) bytes) (ended (run (fresh passes v) bytes)).fault)
-    (sym first)
-    (outcome passes Section refl tt (IsPcapng passes) (pcapng_fronted passes) bytes are (λ f. (f, ap (given (fresh passes Section)) f.joined ∙ (pcapng_file passes f.first f.sections f.fits f.fit).leads.gave)))
+    outcome passes Section refl tt (IsPcapng passes) (pcapng_fronted passes) bytes are first
+    (λ f. (f, ap (given (fresh passes Section)) f.joined ∙ (pcapng_file passes f.first f.sections f.fits f.fit).leads.gave))

@@ -2,11 +2,8 @@
 use Rattle.std.proofs.Common.{◌<◌, ◌≡◌, ◌≤◌, ◌+◌, ℕ, zero, suc, Bool, List, [], ◌∷◌, ◌++◌, length, take, get_or, replicate, Option, None, Some, Result, Ok, Err, MatchResult, inl, inr, refl, sym, ap, ◌∙◌, subst, arith}
 use Rattle.std.specs.Io.KnownBytes.{Consumes, IsAtEnd, prepend_known}
 use Rattle.std.proofs.lemmas.List.{length-take-le, get_or_append_left, get_or-append-add, get_or-replicate}
-use Rattle.dbus_device.specs.declared.device_fault.DeviceFault.{DeviceFault}
-use Rattle.dbus_device.specs.declared.packet.Packet.{Packet}
+use Rattle.dbus_capture.specs.Types.{DeviceFault, Packet, Raw, Scan}
 use Rattle.dbus_device.specs.Packets.{Packets, PacketsAfter, AreOfPacket, ReadsOfPacket}
-use Rattle.dbus_capture.specs.declared.stage.Stage.TheVariants.{Raw}
-use Rattle.dbus_capture.specs.declared.scan.Scan.{Scan}
 use Rattle.dbus_capture.specs.declared.input.Input.{Input}
 use Rattle.dbus_capture.specs.Stages.{is_raw}
 use Rattle.dbus_capture.specs.Beginnings.{first_stage, first_scan}

@@ -1,11 +1,8 @@
 -- A pcapng file is read as it is spelled.
 use Rattle.std.proofs.Common.{◌≡◌, ◌⊎◌, inl, inr, ℕ, ◌+◌, ◌-◌, ◌<◌, ◌≤◌, ◌^◌, Bool, true, cond, List, [], ◌∷◌, ◌++◌, length, None, Some, refl, sym, ap, ◌∙◌, arith, append_assoc, append-nil, length-append}
-use Rattle.std.specs.Prelude.{◌||◌, ◌==◌, slice_get}
-use Rattle.dbus_capture.specs.declared.byte_order.ByteOrder.{ByteOrder}
-use Rattle.dbus_capture.specs.declared.byte_order.ByteOrder.TheVariants.{Little, Big}
+use Rattle.std.specs.Prelude.{◌||◌, ◌==◌}
+use Rattle.dbus_capture.specs.Types.{ByteOrder, Little, Big, Interface, Scan}
 use Rattle.dbus_capture.specs.declared.stage.Stage.TheVariants as stages
-use Rattle.dbus_capture.specs.declared.interface.Interface.{Interface}
-use Rattle.dbus_capture.specs.declared.scan.Scan.{Scan}
 use Rattle.dbus_capture.specs.Numbers.{u32_bytes, u16_bytes, u32_at, u16_at}
 use Rattle.dbus_capture.specs.Stages.{begun}
 use Rattle.dbus_capture.specs.Beginnings.{first_stage}
@@ -13,14 +10,12 @@ use Rattle.dbus_capture.specs.Steps.{Leads}
 use Rattle.dbus_capture.specs.Scans.{place, fresh}
 use Rattle.dbus_capture.specs.Blocks.{block_by, block_stage, order_mark, section_head, decoded}
 use Rattle.dbus_capture.specs.Reading.{IsReadOf}
-use Rattle.dbus_capture.specs.BlockFiles.{FitsBody, framed_bytes, PacketForm, head_interface, FileBlock, InterfaceBlock, PacketBlock, OtherBlock, block_bytes, block_body, blocks_bytes, interfaces_after, FitsBlock, AllFitBlocks, FileSection, section_body, FitsSection, sections_bytes, AllFitSections, interfaces_all, last_section}
-use Rattle.dbus_capture.specs.BlockPackets.{block_packets, blocks_packets, sections_packets}
-use Rattle.dbus_capture.specs.Packets.{FitsTime, block_front, pcapng_packet_reported}
+use Rattle.dbus_capture.specs.BlockFiles.{FitsBody, framed_bytes, FileBlock, InterfaceBlock, PacketBlock, OtherBlock, block_bytes, block_body, blocks_bytes, interfaces_after, FitsBlock, AllFitBlocks, FileSection, section_body, FitsSection, sections_bytes, AllFitSections, interfaces_all, last_section, block_packets, blocks_packets, sections_packets}
 use Rattle.dbus_capture.proofs.NumberLaws.{u32_again, u16_again}
 use Rattle.dbus_capture.proofs.FirstLaws.{begins_section}
 use Rattle.dbus_capture.proofs.StepLaws.{lead_then, lead_to, lead_of, run_head}
-use Rattle.dbus_capture.proofs.Leads.{head_leads, Went, went_nothing, went_then, went_on, read_whole, Begins, same_packet}
-use Rattle.dbus_capture.proofs.BlockReads.{at_blocks, length_ok, framed_size, ends, other_read, block_read as packet_read, block_begins}
+use Rattle.dbus_capture.proofs.Leads.{head_leads, Went, went_nothing, went_then, went_on, read_whole}
+use Rattle.dbus_capture.proofs.BlockReads.{at_blocks, length_ok, framed_size, ends, other_read, block_read as packet_read}
 use Rattle.dbus_capture.proofs.InterfaceReads.{interface_read}
 
 -- ---- the blocks of a section
@@ -29,7 +24,7 @@ module _ (passes : Bool) (o : ByteOrder) where
   block_read : (interfaces : List Interface) (s : Scan) (block : FileBlock) → passes ≡ s.passes_cut → FitsBlock passes interfaces block → FitsBody (block_body o block)
       → Went (at_blocks o (interfaces_after interfaces block)) (at_blocks o interfaces s) (block_bytes o block) (block_packets interfaces block)
   block_read interfaces s (InterfaceBlock link_type reserved snap options end) e f b = interface_read passes o interfaces s link_type reserved snap options end f b
-  block_read interfaces s (PacketBlock head original bytes rest) e f b = packet_read passes o interfaces s head original bytes rest f b e
+  block_read interfaces s (PacketBlock head original bytes rest) e f b = packet_read o interfaces s passes head original bytes rest f b e
   block_read interfaces s (OtherBlock kind body) e f b = other_read o interfaces s kind body f.0 f.1 f.2 f.3 f.4 f.5 b
 
   blocks_read : (interfaces : List Interface) (s : Scan) (blocks : List FileBlock) → passes ≡ s.passes_cut → AllFitBlocks passes o interfaces blocks
@@ -48,13 +43,9 @@ same_type Little Big rest = refl
 same_type Big Little rest = refl
 same_type Big Big rest = refl
 
-pub minor_ok : (n : ℕ) → (n ≡ 0) ⊎ (n ≡ 2) → ((n == 0) || (n == 2)) ≡ true
-minor_ok n (inl e) = ap (λ (m : ℕ). (m == 0) || (m == 2)) e
-minor_ok n (inr e) = ap (λ (m : ℕ). (m == 0) || (m == 2)) e
-
-minor_fits : (n : ℕ) → (n ≡ 0) ⊎ (n ≡ 2) → n < 2 ^ 16
-minor_fits n (inl e) = omega (arith, e)
-minor_fits n (inr e) = omega (arith, e)
+minor_is : (n : ℕ) → (n ≡ 0) ⊎ (n ≡ 2) → (((n == 0) || (n == 2)) ≡ true) × (n < 2 ^ 16)
+minor_is n (inl e) = (ap (λ (m : ℕ). (m == 0) || (m == 2)) e, omega (arith, e))
+minor_is n (inr e) = (ap (λ (m : ℕ). (m == 0) || (m == 2)) e, omega (arith, e))
 
 abbrev front_bytes : ByteOrder → ℕ → List ℕ
 front_bytes o total = u32_bytes o 0x0a0d0d0a ++ u32_bytes o total
@@ -74,11 +65,11 @@ section_read : (passes : Bool) (x : FileSection) → FitsSection passes x → (s
 section_read passes x f s t same next packets cut leads =
     let o = x.order in
     let total = 12 + length (section_body x) in
-    let e = section_told o total x.minor x.size f.body.size (minor_fits x.minor f.minor) f.size in
+    let e = section_told o total x.minor x.size f.body.size (minor_is x.minor f.minor).1 f.size in
     let long = length-append (front_bytes o total) (rest_bytes o x.minor x.size) in
     let body = length-append (rest_bytes o x.minor x.size) x.options in
     let z : Scan = record t { give = 0; fault = None } in
-    let minor = minor_ok x.minor f.minor in
+    let minor = (minor_is x.minor f.minor).0 in
     let least : 28 ≤ total = omega (arith, body, e.6) in
     let fits = length_ok 28 total f.body.whole least in
     let m : Scan = record z { head = begun stages.Trailer; skip = total - 28; next = place (t.next + (total - 4)); order = o; total = total; interfaces = [] } in
@@ -91,12 +82,7 @@ section_read passes x f s t same next packets cut leads =
     regroup : (front h options w : List ℕ) → front ++ ((h ++ options) ++ w) ≡ (front ++ h) ++ (options ++ w)
     regroup front h options w = simp append_assoc
 
--- the first section, and one after another
-first_section : (passes : Bool) (x : FileSection) → FitsSection passes x → Went (at_blocks x.order []) (fresh passes stages.Section) (framed_bytes x.order 0x0a0d0d0a (section_body x)) []
-first_section passes x f =
-    let s = fresh passes stages.Section in
-    section_read passes x f s s refl refl refl refl (λ long. head_leads stages.Section s _ refl (omega (arith, long)) long)
-
+-- one after another
 rest_leads : (t : Scan) (front more : List ℕ) → length front + length more ≡ 24 → 0 < length more
     → Leads (record t { head = record { stage = stages.Section; bytes = front }; give = 0; skip = 0; fault = None }) more [] (section_head (record t { head = begun stages.Section; give = 0; skip = 0; fault = None }) (front ++ more))
 unfolding decoded
@@ -109,9 +95,9 @@ next_section passes o interfaces s x f =
     let total = 12 + length (section_body x) in
     let front = front_bytes x.order total in
     let more = rest_bytes x.order x.minor x.size in
-    let e = section_told x.order total x.minor x.size f.body.size (minor_fits x.minor f.minor) f.size in
+    let e = section_told x.order total x.minor x.size f.body.size (minor_is x.minor f.minor).1 f.size in
     section_read passes x f t (record t { head = begun stages.Section }) refl refl refl refl (λ long. lead_then
-    (lead_to (head_leads stages.Block t front refl (omega (arith, e.5)) e.5) (ap (λ (n : ℕ). cond (n == 0x0a0d0d0a) (record t { head = record { stage = stages.Section; bytes = front } }) (block_by t (u32_at o 4 front) (block_stage n))) (same_type x.order o (u32_bytes x.order total))))
+    (lead_to (head_leads stages.Block t front refl e.5) (ap (λ (n : ℕ). cond (n == 0x0a0d0d0a) (record t { head = record { stage = stages.Section; bytes = front } }) (block_by t (u32_at o 4 front) (block_stage n))) (same_type x.order o (u32_bytes x.order total))))
     (rest_leads t front more (omega (arith, e.5, e.6)) (omega (arith, e.6))))
 
 -- ---- the file
@@ -130,7 +116,9 @@ module _ (passes : Bool) where
 
   pub file_read : (x : FileSection) (sections : List FileSection) → FitsSection passes x → AllFitSections passes sections → let last = last_section x sections in
       Went (at_blocks last.order (interfaces_all [] last.blocks)) (fresh passes stages.Section) (sections_bytes (x ∷ sections)) (sections_packets (x ∷ sections))
-  file_read x sections f g = sections_read (fresh passes stages.Section) x sections refl f g (first_section passes x f)
+  file_read x sections f g =
+      let s = fresh passes stages.Section in
+      sections_read s x sections refl f g (section_read passes x f s s refl refl refl refl (λ long. head_leads stages.Section s _ refl long))
 
 -- a file, and what follows it, begin as a file
 pub first_of_sections : (x : FileSection) (sections : List FileSection) (more : List ℕ) → first_stage (sections_bytes (x ∷ sections) ++ more) ≡ stages.Section
@@ -146,16 +134,3 @@ pcapng_read passes x sections f g =
     let last = last_section x sections in
     let bytes = sections_bytes (x ∷ sections) in
     read_whole (at_blocks last.order (interfaces_all [] last.blocks)) stages.Section passes bytes (sections_packets (x ∷ sections)) (λ t. refl) (ap first_stage (sym (append-nil bytes)) ∙ first_of_sections x sections []) (file_read passes x sections f g)
-
--- a packet that follows is reported
-pub packet_follows : (passes : Bool) (x : FileSection) (sections : List FileSection) (i : Interface) (form : PacketForm) (bytes rest : List ℕ) (f : FitsSection passes x) (g : AllFitSections passes sections)
-    → let last = last_section x sections in let interfaces = interfaces_all [] last.blocks in let block = PacketBlock form (length bytes) bytes rest in
-    FitsBlock passes interfaces block → FitsBody (block_body last.order block) → FitsTime form → slice_get interfaces (head_interface form) ≡ Some i → i.link_type ≡ 231
-    → Begins (at_blocks last.order interfaces (file_read passes x sections f g).final) (block_front last.order form bytes rest) bytes (pcapng_packet_reported (x ∷ sections) i form bytes)
-packet_follows passes x sections i form bytes rest f g fits body timed found same =
-    let last = last_section x sections in
-    let w = file_read passes x sections f g in
-    let told = pcapng_packet_reported (x ∷ sections) i form bytes in
-    let next : place (w.final.next + 8 + 2 ^ 64 - 8) ≡ told.at = omega (arith, w.next refl) in
-    let number : place (w.final.packets + 1) ≡ told.number = omega (arith, w.packets_is) in
-    block_begins passes last.order (interfaces_all [] last.blocks) w.final i form bytes rest told fits body timed found same (sym (same_packet _ _ number next))

@@ -1,14 +1,12 @@
 -- How many bytes at once are read as they are one by one.
 use Rattle.std.proofs.Common.{◌≡◌, ℕ, suc, ◌+◌, ◌-◌, ◌≤◌, ◌^◌, Bool, true, false, cond, List, [], ◌∷◌, ◌++◌, length, Option, Some, None}
 use Rattle.std.proofs.Common.{is_some, refl, sym, ap, ◌∙◌, arith, ◌<◌, append_assoc, append-nil, length-append}
-use Rattle.dbus_capture.specs.declared.fault.CaptureFault.{CaptureFault}
+use Rattle.dbus_capture.specs.Types.{CaptureFault, Scan, Truncated}
 use Rattle.dbus_capture.specs.Stages.{want, is_raw, begun}
-use Rattle.dbus_capture.specs.declared.scan.Scan.{Scan}
 use Rattle.dbus_capture.specs.Steps.{Turn, Stays, Passes, Gives, Skips, Gathers, counted_turn, turn_by, turn_of, stepped, gathered, with_byte, step}
 use Rattle.dbus_capture.specs.Steps.{run, told, given, Leads, may_end, ended}
 use Rattle.dbus_capture.specs.Scans.{place}
 use Rattle.dbus_capture.specs.Blocks.{decoded}
-use Rattle.dbus_capture.specs.declared.fault.CaptureReason.TheVariants.{Truncated}
 use Rattle.dbus_capture.proofs.Choices.{eq_is, eq_not, when_true, when_false}
 
 -- ---- any pieces

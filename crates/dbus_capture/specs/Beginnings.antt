@@ -2,10 +2,7 @@
 -- around them. "PCAP Capture File Format", "File Header", and "PCAP Now Generic (pcapng) Capture
 -- File Format", "Section Header Block".
 use Rattle.std.specs.Prelude.{◌≡◌, ℕ, ◌==◌, nat_lt, Bool, if◌then◌else◌, List, ◌∷◌, length, is_some, Any, codes}
-use Rattle.dbus_capture.specs.declared.byte_order.ByteOrder.TheVariants.{Little}
-use Rattle.dbus_capture.specs.declared.stage.Stage.{Stage}
-use Rattle.dbus_capture.specs.declared.stage.Stage.TheVariants.{Raw, FileHeader, Section}
-use Rattle.dbus_capture.specs.declared.scan.Scan.{Scan}
+use Rattle.dbus_capture.specs.Types.{Little, Stage, Raw, FileHeader, Section, Scan}
 use Rattle.dbus_capture.specs.Heads.{magic}
 use Rattle.dbus_capture.specs.Numbers.{u32_at}
 use Rattle.dbus_capture.specs.Scans.{fresh}

@@ -1,11 +1,10 @@
 -- Which bytes are a pcapng file, and which D-Bus packets it has. "PCAP Now Generic (pcapng) Capture
 -- File Format", "General File Structure", "Options" and "Block Definition".
 use Rattle.std.specs.Prelude.{◌≡◌, ◌≢◌, ℕ, ◌+◌, ◌<◌, ◌≤◌, ◌^◌, ◌%◌, ◌⊎◌, ◌==◌, if◌then◌else◌, Bool, true, false, List, [], ◌∷◌, ◌++◌, length, slice_get, slice_index, Option, Some, None}
-use Rattle.dbus_capture.specs.declared.byte_order.ByteOrder.{ByteOrder}
-use Rattle.dbus_capture.specs.declared.interface.Interface.{Interface}
+use Rattle.dbus_capture.specs.Types.{ByteOrder, Interface}
 use Rattle.dbus_capture.specs.Numbers.{u32_bytes, u16_bytes}
 use Rattle.dbus_capture.specs.Blocks.{padded, captured_length}
-use Rattle.dbus_capture.specs.CutPackets.{IsCaptured}
+use Rattle.dbus_capture.specs.CutPackets.{Captured, IsCaptured}
 
 -- a block of a type and a body, whose length is at both of its ends
 abbrev pub framed_bytes : ByteOrder → ℕ → List ℕ → List ℕ
@@ -188,3 +187,25 @@ interfaces_all interfaces (block ∷ blocks) = interfaces_all (interfaces_after 
 abbrev pub last_section : FileSection → List FileSection → FileSection
 last_section x [] = x
 last_section x (y ∷ sections) = last_section y sections
+
+-- ---- its packets
+
+-- a packet, if its link type is 231, D-Bus
+abbrev pub packet_by : (original : ℕ) → List ℕ → Option Interface → List Captured
+packet_by original bytes None = []
+packet_by original bytes (Some i) = if i.link_type == 231 then record { original = original; bytes = bytes } ∷ [] else []
+
+-- the D-Bus packet of a block
+abbrev pub block_packets : List Interface → FileBlock → List Captured
+block_packets interfaces (PacketBlock head original bytes rest) = packet_by original bytes (slice_get interfaces (head_interface head))
+block_packets interfaces block = []
+
+-- those of blocks
+abbrev pub blocks_packets : List Interface → List FileBlock → List Captured
+blocks_packets interfaces [] = []
+blocks_packets interfaces (block ∷ blocks) = block_packets interfaces block ++ blocks_packets (interfaces_after interfaces block) blocks
+
+-- those of sections
+abbrev pub sections_packets : List FileSection → List Captured
+sections_packets [] = []
+sections_packets (s ∷ sections) = blocks_packets [] s.blocks ++ sections_packets sections

@@ -1,14 +1,10 @@
 -- What the heads of a pcapng file say. "PCAP Now Generic (pcapng) Capture File Format", "General
 -- File Structure" and "Block Definition".
 use Rattle.std.specs.Prelude.{ℕ, ◌+◌, ◌-◌, ◌*◌, ◌/◌, ◌^◌, ◌%◌, ◌&&◌, ◌||◌, ◌==◌, nat_lt, nat_le, Bool, true, false, if◌then◌else◌, List, [], ◌∷◌, ◌++◌, length, slice_get, slice_index, Option, Some, None}
-use Rattle.dbus_capture.specs.declared.stage.Stage.{Stage}
-use Rattle.dbus_capture.specs.declared.stage.Stage.TheVariants.{Raw, FileHeader, Record, Section, Block, InterfaceHead, OptionHead, Resolution, InterfaceTrailer, Enhanced, ObsoletePacket, Simple, Trailer}
-use Rattle.dbus_capture.specs.declared.byte_order.ByteOrder.{ByteOrder}
-use Rattle.dbus_capture.specs.declared.byte_order.ByteOrder.TheVariants.{Little, Big}
-use Rattle.dbus_capture.specs.declared.fault.CaptureReason.TheVariants.{Magic, Version, Lengths, BlockLength, BlockLengths, OrderMark, OptionLength, TooManyInterfaces, NoInterface}
-use Rattle.dbus_capture.specs.declared.interface.Interface.{Interface}
-use Rattle.dbus_capture.specs.declared.packet.PacketHead.{PacketHead}
-use Rattle.dbus_capture.specs.declared.scan.Scan.{Scan}
+use Rattle.dbus_capture.specs.Types.{Stage, Raw, FileHeader, Record, Section, Block, InterfaceHead, OptionHead, Resolution}
+use Rattle.dbus_capture.specs.Types.{InterfaceTrailer, Enhanced, ObsoletePacket, Simple, Trailer, ByteOrder, Little, Big, Magic, Version}
+use Rattle.dbus_capture.specs.Types.{Lengths, BlockLength, BlockLengths, OrderMark, OptionLength, TooManyInterfaces, NoInterface, Interface}
+use Rattle.dbus_capture.specs.Types.{PacketHead, Scan}
 use Rattle.dbus_capture.specs.Stages.{begun}
 use Rattle.dbus_capture.specs.Scans.{place, refused}
 use Rattle.dbus_capture.specs.Heads.{file_header, record_head, pass_packet, packet_head}

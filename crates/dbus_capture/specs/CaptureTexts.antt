@@ -1,7 +1,6 @@
 -- The texts of the fault of a capture and of its reason.
 use Rattle.std.specs.Prelude.{ℕ, List, ◌++◌, codes, decimal}
-use Rattle.dbus_capture.specs.declared.fault.CaptureFault.{CaptureFault}
-use Rattle.dbus_capture.specs.declared.fault.CaptureReason.{CaptureReason}
+use Rattle.dbus_capture.specs.Types.{CaptureFault, CaptureReason}
 use Rattle.dbus_capture.specs.declared.fault.CaptureReason.TheVariants as reason
 
 -- the name of a reason

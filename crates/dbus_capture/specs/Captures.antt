@@ -4,13 +4,11 @@ use Rattle.std.specs.Io.KnownBytes.{Consumes, IsAtEnd, prepend_known}
 use Rattle.std.specs.List.{All}
 use Rattle.dbus_device.specs.Device.{one_more, ReadCounts}
 use Rattle.dbus_device.specs.Calls.{joined, HasByte, ReadsPiece, ReadsPieces}
-use Rattle.dbus_device.specs.declared.device_fault.DeviceFault.{DeviceFault}
-use Rattle.dbus_device.specs.declared.packet.Packet.{Packet}
+use Rattle.dbus_capture.specs.Types.{DeviceFault, Packet, Scan}
 use Rattle.dbus_device.specs.Packets.{Packets}
 use Rattle.dbus_capture.specs.Stages.{begun}
 use Rattle.dbus_capture.specs.Beginnings.{first_stage}
 use Rattle.dbus_capture.specs.Steps.{IsPart, IsOfOnePacket, Leads, run, given, packet_given, ended}
-use Rattle.dbus_capture.specs.declared.scan.Scan.{Scan}
 use Rattle.dbus_capture.specs.declared.capture.Capture.{Capture}
 use Rattle.dbus_capture.specs.declared.input.Input.{Input}
 

@@ -1,11 +1,6 @@
 -- What the heads of a pcap file say. "PCAP Capture File Format", "File Header" and "Packet Record".
 use Rattle.std.specs.Prelude.{ℕ, ◌+◌, ◌-◌, ◌*◌, ◌^◌, ◌&&◌, ◌==◌, nat_lt, Bool, true, false, if◌then◌else◌, List, Option, Some, None}
-use Rattle.dbus_capture.specs.declared.stage.Stage.TheVariants.{Record}
-use Rattle.dbus_capture.specs.declared.byte_order.ByteOrder.{ByteOrder}
-use Rattle.dbus_capture.specs.declared.byte_order.ByteOrder.TheVariants.{Little, Big}
-use Rattle.dbus_capture.specs.declared.fault.CaptureReason.TheVariants.{Magic, Version, LinkType, Lengths, PacketCut}
-use Rattle.dbus_capture.specs.declared.packet.PacketHead.{PacketHead}
-use Rattle.dbus_capture.specs.declared.scan.Scan.{Scan}
+use Rattle.dbus_capture.specs.Types.{Record, ByteOrder, Little, Big, Magic, Version, LinkType, Lengths, PacketCut, PacketHead, Scan}
 use Rattle.dbus_capture.specs.Stages.{begun}
 use Rattle.dbus_capture.specs.Scans.{place, refused}
 use Rattle.dbus_capture.specs.Numbers.{u32_at, u16_at}

@@ -1,3 +1,4 @@
+pub mod Types
 pub mod Numbers
 pub mod Stages
 pub mod Scans
@@ -10,7 +11,6 @@ pub mod CaptureTexts
 pub mod PcapFiles
 pub mod CutPackets
 pub mod BlockFiles
-pub mod BlockPackets
 pub mod Outcomes
 pub mod Packets
 pub mod Reading

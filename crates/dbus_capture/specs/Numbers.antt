@@ -1,8 +1,7 @@
 -- The numbers of a capture, in its byte order.
 use Rattle.std.specs.Prelude.{ℕ, ◌+◌, List, slice_range}
 use Rattle.std.specs.Int.{w16, w32, from_le_bytes, from_be_bytes, to_le_bytes, to_be_bytes}
-use Rattle.dbus_capture.specs.declared.byte_order.ByteOrder.{ByteOrder}
-use Rattle.dbus_capture.specs.declared.byte_order.ByteOrder.TheVariants.{Little, Big}
+use Rattle.dbus_capture.specs.Types.{ByteOrder, Little, Big}
 
 -- the number that four bytes are
 abbrev pub u32_of : ByteOrder → List ℕ → ℕ

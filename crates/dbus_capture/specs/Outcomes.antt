@@ -2,12 +2,11 @@
 -- "PCAP Capture File Format", "General File Structure", and "PCAP Now Generic (pcapng) Capture File
 -- Format", "General File Structure".
 use Rattle.std.specs.Prelude.{◌≡◌, ℕ, ◌+◌, ◌<◌, ◌≤◌, Bool, List, [], ◌∷◌, ◌++◌, length, Option, Some, None}
-use Rattle.dbus_capture.specs.declared.fault.CaptureFault.{CaptureFault}
+use Rattle.dbus_capture.specs.Types.{CaptureFault}
 use Rattle.dbus_capture.specs.Scans.{place}
 use Rattle.dbus_capture.specs.CutPackets.{whole_payload}
 use Rattle.dbus_capture.specs.PcapFiles.{PcapHeader, PcapPacket, FitsHeader, AllFitPackets, pcap_bytes, captures}
-use Rattle.dbus_capture.specs.BlockFiles.{FileSection, sections_bytes, FitsSection, AllFitSections}
-use Rattle.dbus_capture.specs.BlockPackets.{sections_packets}
+use Rattle.dbus_capture.specs.BlockFiles.{FileSection, sections_bytes, FitsSection, AllFitSections, sections_packets}
 
 -- they are bytes
 abbrev pub AreBytes : List ℕ → Type 0

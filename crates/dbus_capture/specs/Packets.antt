@@ -1,18 +1,13 @@
 -- What is reported of a packet.
 use Rattle.std.specs.Prelude.{◌≡◌, ◌+◌, ◌*◌, ◌^◌, ◌<◌, ℕ, zero, suc, List, ◌++◌, length, Option, Some, None, Result, Ok, Err}
-use Rattle.dbus_device.specs.declared.packet.Packet.{Packet}
-use Rattle.dbus_device.specs.declared.device_fault.DeviceFault.{DeviceFault}
+use Rattle.dbus_capture.specs.Types.{Packet, DeviceFault, ByteOrder, Interface, Scan}
 use Rattle.dbus_capture.specs.Scans.{place}
 use Rattle.dbus_capture.specs.Heads.{record_time}
 use Rattle.dbus_capture.specs.CutPackets.{whole_count}
 use Rattle.dbus_capture.specs.PcapFiles.{PcapHeader, PcapPacket, pcap_bytes, captures}
-use Rattle.dbus_capture.specs.declared.byte_order.ByteOrder.{ByteOrder}
-use Rattle.dbus_capture.specs.declared.interface.Interface.{Interface}
-use Rattle.dbus_capture.specs.declared.scan.Scan.{Scan}
 use Rattle.dbus_capture.specs.Numbers.{u32_bytes}
 use Rattle.dbus_capture.specs.Blocks.{time_of}
-use Rattle.dbus_capture.specs.BlockFiles.{PacketForm, EnhancedHead, ObsoleteHead, SimpleHead, head_kind, head_bytes, FileSection, sections_bytes}
-use Rattle.dbus_capture.specs.BlockPackets.{sections_packets}
+use Rattle.dbus_capture.specs.BlockFiles.{PacketForm, EnhancedHead, ObsoleteHead, SimpleHead, head_kind, head_bytes, FileSection, sections_bytes, sections_packets}
 
 -- The packet of the bytes that were handed on last, after a read: the one that began last, if the
 -- read gave any, and the one before it otherwise.

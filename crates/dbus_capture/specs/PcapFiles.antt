@@ -1,7 +1,7 @@
 -- Which bytes are a pcap file of D-Bus packets. "PCAP Capture File Format", "File Header" and
 -- "Packet Record".
 use Rattle.std.specs.Prelude.{◌≡◌, ℕ, ◌<◌, ◌^◌, Bool, true, false, List, [], ◌∷◌, ◌++◌, length}
-use Rattle.dbus_capture.specs.declared.byte_order.ByteOrder.{ByteOrder}
+use Rattle.dbus_capture.specs.Types.{ByteOrder}
 use Rattle.dbus_capture.specs.Numbers.{u32_bytes, u16_bytes}
 use Rattle.dbus_capture.specs.CutPackets.{Captured, IsCaptured}
 

@@ -1,9 +1,6 @@
 -- What is kept between the bytes of a file that were taken and those that come.
 use Rattle.std.specs.Prelude.{ℕ, ◌+◌, ◌^◌, ◌%◌, Bool, false, [], Some, None}
-use Rattle.dbus_capture.specs.declared.stage.Stage.{Stage}
-use Rattle.dbus_capture.specs.declared.byte_order.ByteOrder.TheVariants.{Little}
-use Rattle.dbus_capture.specs.declared.fault.CaptureReason.{CaptureReason}
-use Rattle.dbus_capture.specs.declared.scan.Scan.{Scan}
+use Rattle.dbus_capture.specs.Types.{Stage, Little, CaptureReason, Scan}
 use Rattle.dbus_capture.specs.Stages.{begun}
 
 -- a place in a file, modulo 2^64

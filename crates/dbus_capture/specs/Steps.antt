@@ -1,12 +1,7 @@
 -- How a file is read, byte by byte. The code takes many bytes at once, and gives what this gives.
 use Rattle.std.specs.Prelude.{◌≡◌, ◌≤◌, ◌⊎◌, ℕ, zero, suc, ◌+◌, ◌-◌, ◌^◌, nat_eq, Bool, true, false, if◌then◌else◌, List, [], ◌∷◌, ◌++◌, length, get_or, Option, Some, None}
-use Rattle.dbus_device.specs.declared.packet.Packet.{Packet}
+use Rattle.dbus_capture.specs.Types.{Packet, Stage, Record, Block, CaptureFault, Truncated, Scan}
 use Rattle.dbus_device.specs.Packets.{Packets}
-use Rattle.dbus_capture.specs.declared.stage.Stage.{Stage}
-use Rattle.dbus_capture.specs.declared.stage.Stage.TheVariants.{Record, Block}
-use Rattle.dbus_capture.specs.declared.fault.CaptureFault.{CaptureFault}
-use Rattle.dbus_capture.specs.declared.fault.CaptureReason.TheVariants.{Truncated}
-use Rattle.dbus_capture.specs.declared.scan.Scan.{Scan}
 use Rattle.dbus_capture.specs.Stages.{begun, want, is_raw}
 use Rattle.dbus_capture.specs.Scans.{place}
 use Rattle.dbus_capture.specs.Blocks.{decoded}

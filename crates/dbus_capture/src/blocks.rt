@@ -86,13 +86,6 @@ fn unit(resolution: u8) -> u64
     }
 }
 
-// A product, if it is below 2^64.
-fn fitting(left: u64, right: u64) -> Option<u64>
-    ensures { result ≡ fitting (left * right) }
-{
-    left.checked_mul(right)
-}
-
 // The nanoseconds since 1970 of a packet's time in units of its interface, if the file says them
 // and they are below 2^64.
 fn time_of(interface: Interface, units: u64) -> Option<u64>
@@ -101,7 +94,7 @@ fn time_of(interface: Interface, units: u64) -> Option<u64>
     if interface.has_offset || interface.resolution > 9 {
         return None;
     }
-    fitting(units, unit(interface.resolution))
+    units.checked_mul(unit(interface.resolution))
 }
 
 // How many bytes of a packet an interface captures.
@@ -122,8 +115,7 @@ impl Scan {
         ensures { self.new ≡ section_head self.old head.now }
     {
         if ByteOrder::Little.u32_at(0, head) != 0x0a0d_0d0a {
-            self.refuse(0, CaptureReason::Magic);
-            return;
+            return self.refuse(0, CaptureReason::Magic);
         }
         match order_mark(ByteOrder::Little.u32_at(8, head)) {
             None => self.refuse(8, CaptureReason::OrderMark),
@@ -138,13 +130,11 @@ impl Scan {
     {
         let minor = order.u16_at(14, head);
         if order.u16_at(12, head) != 1 || (minor != 0 && minor != 2) {
-            self.refuse(12, CaptureReason::Version);
-            return;
+            return self.refuse(12, CaptureReason::Version);
         }
         let total = order.u32_at(4, head);
         if !is_length(28, total) {
-            self.refuse(4, CaptureReason::BlockLength);
-            return;
+            return self.refuse(4, CaptureReason::BlockLength);
         }
         self.head = Head::new(Stage::Trailer);
         self.skip = total as usize - 28;
@@ -177,8 +167,7 @@ impl Scan {
         match stage {
             None => {
                 if !is_length(12, total) {
-                    self.refuse(4, CaptureReason::BlockLength);
-                    return;
+                    return self.refuse(4, CaptureReason::BlockLength);
                 }
                 self.head = Head::new(Stage::Trailer);
                 self.skip = total as usize - 12;
@@ -187,8 +176,7 @@ impl Scan {
             }
             Some((stage, least)) => {
                 if !is_length(least, total) {
-                    self.refuse(4, CaptureReason::BlockLength);
-                    return;
+                    return self.refuse(4, CaptureReason::BlockLength);
                 }
                 self.head = Head::new(stage);
                 self.next = self.next.wrapping_add(8);
@@ -204,8 +192,7 @@ impl Scan {
         ensures { self.new ≡ trailer self.old head.now }
     {
         if self.order.u32_at(0, head) != self.total {
-            self.refuse(0, CaptureReason::BlockLengths);
-            return;
+            return self.refuse(0, CaptureReason::BlockLengths);
         }
         self.head = Head::new(Stage::Block);
         self.next = self.next.wrapping_add(4);
@@ -249,13 +236,11 @@ impl Scan {
             return;
         }
         if (left as u64) < padded(size as u32) {
-            self.refuse(2, CaptureReason::OptionLength);
-            return;
+            return self.refuse(2, CaptureReason::OptionLength);
         }
         if code == 9 {
             if size != 1 {
-                self.refuse(2, CaptureReason::OptionLength);
-                return;
+                return self.refuse(2, CaptureReason::OptionLength);
             }
             self.head = Head::new(Stage::Resolution);
             self.next = self.next.wrapping_add(4);
@@ -296,24 +281,15 @@ impl Scan {
         ensures { self.new ≡ interface_trailer self.old head.now }
     {
         if self.order.u32_at(0, head) != self.total {
-            self.refuse(0, CaptureReason::BlockLengths);
-            return;
+            return self.refuse(0, CaptureReason::BlockLengths);
         }
         if self.interfaces.is_full() {
-            self.refuse(0, CaptureReason::TooManyInterfaces);
-            return;
+            return self.refuse(0, CaptureReason::TooManyInterfaces);
         }
         self.head = Head::new(Stage::Block);
         self.next = self.next.wrapping_add(4);
         let interface = self.interface;
         self.interfaces.push(interface);
-    }
-
-    // The interface of this number, if the section has it.
-    fn interface_of(&self, number: u32) -> Option<Interface>
-        ensures { result ≡ slice_get self.now.interfaces number }
-    {
-        self.interfaces.get(number)
     }
 
     // Follows what an enhanced packet block says of its packet.
@@ -322,7 +298,7 @@ impl Scan {
         ensures { self.new ≡ enhanced_head self.old head.now }
     {
         let number = self.order.u32_at(0, head);
-        let interface = self.interface_of(number);
+        let interface = self.interfaces.get(number);
         self.enhanced_by(head, interface);
     }
 
@@ -333,7 +309,7 @@ impl Scan {
         ensures { self.new ≡ obsolete_head self.old head.now }
     {
         let number = self.order.u16_at(0, head);
-        let interface = self.interface_of(number as u32);
+        let interface = self.interfaces.get(number as u32);
         self.enhanced_by(head, interface);
     }
 
@@ -343,8 +319,7 @@ impl Scan {
         ensures { self.new ≡ enhanced_by self.old head.now interface }
     {
         let Some(interface) = interface else {
-            self.refuse(0, CaptureReason::NoInterface);
-            return;
+            return self.refuse(0, CaptureReason::NoInterface);
         };
         let high = self.order.u32_at(4, head) as u64;
         let low = self.order.u32_at(8, head) as u64;
@@ -366,7 +341,7 @@ impl Scan {
         requires { length head.now ≡ 4 }
         ensures { self.new ≡ simple_head self.old head.now }
     {
-        let interface = self.interface_of(0);
+        let interface = self.interfaces.get(0);
         self.simple_by(head, interface);
     }
 
@@ -376,8 +351,7 @@ impl Scan {
         ensures { self.new ≡ simple_by self.old head.now interface }
     {
         let Some(interface) = interface else {
-            self.refuse(0, CaptureReason::NoInterface);
-            return;
+            return self.refuse(0, CaptureReason::NoInterface);
         };
         let original = self.order.u32_at(0, head);
         let packet = PacketHead {
@@ -399,8 +373,7 @@ impl Scan {
         ensures { self.new ≡ block_packet self.old link_type packet }
     {
         if (packet.room as u64) < padded(packet.captured) {
-            self.refuse(packet.captured_at, CaptureReason::Lengths);
-            return;
+            return self.refuse(packet.captured_at, CaptureReason::Lengths);
         }
         self.head = Head::new(Stage::Trailer);
         if link_type == 231 {

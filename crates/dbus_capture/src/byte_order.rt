@@ -1,6 +1,6 @@
 //! The numbers of a capture, in its byte order.
 ghost use Rattle.std.specs.Prelude.{◌≡◌, ◌≤◌, ◌+◌, length};
-ghost use Rattle.dbus_capture.specs.Numbers.{u32_of, u16_of, u32_at, u16_at};
+ghost use Rattle.dbus_capture.specs.Numbers.{u32_at, u16_at};
 
 /// The byte order of the numbers of a file or a section: that of the machine that wrote it.
 #[derive(Clone, Copy)]
@@ -17,22 +17,7 @@ impl ByteOrder {
         requires { place + 4 ≤ length head.now }
         ensures { result ≡ u32_at self place head.now }
     {
-        self.u32_of(&head[place..place + 4])
-    }
-
-    // The number of the two bytes at a place of a head.
-    pub(crate) fn u16_at(self, place: usize, head: &[u8]) -> u16
-        requires { place + 2 ≤ length head.now }
-        ensures { result ≡ u16_at self place head.now }
-    {
-        self.u16_of(&head[place..place + 2])
-    }
-
-    // The number of four bytes.
-    fn u32_of(self, bytes: &[u8]) -> u32
-        requires { length bytes.now ≡ 4 }
-        ensures { result ≡ u32_of self bytes.now }
-    {
+        let bytes = &head[place..place + 4];
         let four = [bytes[0], bytes[1], bytes[2], bytes[3]];
         match self {
             ByteOrder::Little => u32::from_le_bytes(four),
@@ -40,11 +25,12 @@ impl ByteOrder {
         }
     }
 
-    // The number of two bytes.
-    fn u16_of(self, bytes: &[u8]) -> u16
-        requires { length bytes.now ≡ 2 }
-        ensures { result ≡ u16_of self bytes.now }
+    // The number of the two bytes at a place of a head.
+    pub(crate) fn u16_at(self, place: usize, head: &[u8]) -> u16
+        requires { place + 2 ≤ length head.now }
+        ensures { result ≡ u16_at self place head.now }
     {
+        let bytes = &head[place..place + 2];
         let two = [bytes[0], bytes[1]];
         match self {
             ByteOrder::Little => u16::from_le_bytes(two),

@@ -1,6 +1,6 @@
 //! A capture as a source of messages' bytes.
-ghost use Rattle.std.specs.Prelude.{◌≡◌, ◌≤◌, [], None, false, length};
-ghost use Rattle.dbus_device.specs.Device.{ReadCounts};
+ghost use Rattle.std.specs.Prelude.{◌≡◌, ◌≤◌, [], None, false, length, IfOk};
+ghost use Rattle.dbus_device.specs.Device.{ReadCounts, one_more};
 ghost use Rattle.dbus_capture.specs.Packets.{last_packet};
 ghost use Rattle.dbus_capture.specs.Captures.{input_of, source_of, scan_of, chosen_of, kept_of, gave_up_of, calls_of, last_packet_of};
 
@@ -87,9 +87,7 @@ impl<R: Source> Capture<R> {
 }
 
 impl<R: Source> Source for Capture<R> {
-    ghost use Rattle.std.specs.Prelude.{IfOk};
     ghost use Rattle.std.specs.Io.KnownBytes.{ReadConsumes};
-    ghost use Rattle.dbus_device.specs.Device.{one_more};
     ghost use Rattle.dbus_device.specs.Packets.{ReadsOfPacket, LeavesPacket};
     ghost use Rattle.dbus_capture.specs.Captures.{left_of, failures_of, packets_of, ReadsInput, Stops};
 

@@ -1,13 +1,12 @@
 //! The fault of a capture and its reason as text.
+ghost use Rattle.std.specs.Prelude.{Some};
+ghost use Rattle.dbus_capture.specs.CaptureTexts.{capture_reason_text, capture_fault_text};
 
 use crate::fault::{CaptureFault, CaptureReason};
 use std::fmt;
 
 /// The name of the reason, as `PacketCut`.
 impl fmt::Display for CaptureReason {
-    ghost use Rattle.std.specs.Prelude.{Some};
-    ghost use Rattle.dbus_capture.specs.CaptureTexts.{capture_reason_text};
-
     ghost output = { λ reason. Some (capture_reason_text reason) };
 
     fn fmt<W: fmt::Write>(&self, f: &mut fmt::Formatter<W>) -> fmt::Result {
@@ -30,9 +29,6 @@ impl fmt::Display for CaptureReason {
 
 /// The reason and the place, as `PacketCut at offset 32`.
 impl fmt::Display for CaptureFault {
-    ghost use Rattle.std.specs.Prelude.{Some};
-    ghost use Rattle.dbus_capture.specs.CaptureTexts.{capture_fault_text};
-
     ghost output = { λ fault. Some (capture_fault_text fault) };
 
     fn fmt<W: fmt::Write>(&self, f: &mut fmt::Formatter<W>) -> fmt::Result {

@@ -2,6 +2,7 @@
 ghost use Rattle.std.specs.Prelude.{◌≡◌, ◌≢◌, ◌≤◌, [], false, length};
 ghost use Rattle.dbus_device.specs.Device.{ReadCounts};
 
+use crate::head::Head;
 use crate::scan::Scan;
 use crate::stage::{Stage, first_stage};
 use dbus_device::{DeviceFault, Source};
@@ -90,7 +91,7 @@ impl<R: Source> Input<R> {
     {
         self.fetch()?;
         let stage = first_stage(&self.bytes[self.start..self.end]);
-        self.scan.begin(stage);
+        self.scan.head = Head::new(stage);
         self.chosen = true;
         Ok(())
     }
@@ -146,8 +147,8 @@ impl<R: Source> Input<R> {
     fn read_part(&mut self, buffer: &mut [u8]) -> Result<usize, DeviceFault>
         requires { chosen_of self.old ≡ true }
         ensures bound { IfOk result (λ n. n ≤ length buffer.new) }
-        ensures part { ReadsPart R.left R.failures self.old self.new result buffer.new }
-        ensures asks { Asks R.left R.calls self.old self.new result }
+        ensures part { ReadsPart R.left R.failures self.old self.new result buffer.new ×
+            Asks R.left R.calls self.old self.new result }
         ensures stops { Stops self.old self.new result (length buffer.new) }
         ensures chosen { chosen_of self.new ≡ true }
     {

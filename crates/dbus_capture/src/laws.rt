@@ -9,9 +9,8 @@ ghost use Rattle.dbus_capture.specs.Beginnings.{first_stage, first_scan, IsFirst
 ghost use Rattle.dbus_capture.specs.Steps.{run, given, packet_given, ended};
 ghost use Rattle.dbus_capture.specs.Reading.{IsReadOf};
 ghost use Rattle.dbus_capture.specs.PcapFiles.{PcapHeader, PcapPacket, FitsHeader, FitsPacket, AllFitPackets, packet_header_bytes, pcap_bytes, captures};
-ghost use Rattle.dbus_capture.specs.BlockFiles.{PacketForm, PacketBlock, head_interface, FitsBlock, FitsBody, block_body, FileSection, FitsSection, AllFitSections, sections_bytes, interfaces_all, last_section};
+ghost use Rattle.dbus_capture.specs.BlockFiles.{PacketForm, PacketBlock, head_interface, FitsBlock, FitsBody, block_body, FileSection, FitsSection, AllFitSections, sections_bytes, interfaces_all, last_section, sections_packets};
 ghost use Rattle.dbus_capture.specs.CutPackets.{whole_payload};
-ghost use Rattle.dbus_capture.specs.BlockPackets.{sections_packets};
 ghost use Rattle.dbus_capture.specs.Outcomes.{AreBytes, IsPcap, IsPcapng, IsOutcome};
 ghost use Rattle.dbus_capture.specs.Packets.{Reports, FitsTime, pcap_packet_reported, block_front, pcapng_packet_reported};
 ghost use Rattle.dbus_capture.specs.declared.interface.Interface.{Interface};
@@ -20,6 +19,7 @@ ghost use Rattle.dbus_capture.specs.declared.stage.Stage.TheVariants as stages;
 /// A pcap file of link type 231 is read whole, if all of its packets were captured whole, or if
 /// those that were cut are to be passed over: the capture gives the bytes of the others, counts
 /// these, and there is no fault.
+#[tactic(auto, using(crate::proofs::PcapReads::pcap_read))]
 pub fn pcap_is_read()
     ensures { (passes_cut : Bool) (header : PcapHeader) (packets : List PcapPacket) →
         FitsHeader header → AllFitPackets passes_cut packets →
@@ -39,6 +39,7 @@ pub fn pcap_outcome()
 /// A pcapng file of one section or more is read whole, if all of its packets of link type 231 were
 /// captured whole, or if those that were cut are to be passed over: the capture gives the bytes of
 /// the others, counts these, and there is no fault.
+#[tactic(auto, using(crate::proofs::SectionReads::pcapng_read))]
 pub fn pcapng_is_read()
     ensures { (passes_cut : Bool) (x : FileSection) (sections : List FileSection) →
         FitsSection passes_cut x → AllFitSections passes_cut sections →
@@ -117,6 +118,7 @@ pub fn pcapng_bytes_have_packets()
 {}
 
 /// A capture gives what begins as a message or a handshake as it is.
+#[tactic(auto, using(crate::proofs::FirstLaws::stream_first))]
 pub fn streams_are_no_files()
     ensures { (first : ℕ) (rest : List ℕ) →
         IsFirstOfStream first → first_stage (first ∷ rest) ≡ stages.Raw }

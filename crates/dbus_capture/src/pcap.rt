@@ -57,12 +57,10 @@ impl Scan {
         ensures { self.new ≡ file_header_in self.old head.now order nanoseconds }
     {
         if order.u16_at(4, head) != 2 || order.u16_at(6, head) != 4 {
-            self.refuse(4, CaptureReason::Version);
-            return;
+            return self.refuse(4, CaptureReason::Version);
         }
         if order.u32_at(20, head) != 231 {
-            self.refuse(20, CaptureReason::LinkType);
-            return;
+            return self.refuse(20, CaptureReason::LinkType);
         }
         self.head = Head::new(Stage::Record);
         self.next = self.next.wrapping_add(24);

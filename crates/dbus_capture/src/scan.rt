@@ -41,7 +41,7 @@ pub struct Scan {
 impl Scan {
     ghost use Rattle.std.specs.Prelude.{[], None, false};
     ghost use Rattle.dbus_capture.specs.Scans.{fresh, refused};
-    ghost use Rattle.dbus_capture.specs.Stages.{begun, is_raw, want};
+    ghost use Rattle.dbus_capture.specs.Stages.{is_raw, want};
     ghost use Rattle.dbus_capture.specs.Steps.{IsPart, Leads, ended, may_end, turn_of};
     ghost use Rattle.dbus_capture.specs.Blocks.{decoded};
 
@@ -72,13 +72,6 @@ impl Scan {
             packet: None,
             fault: None,
         }
-    }
-
-    // The input is of this kind. Nothing was taken of it.
-    pub(crate) fn begin(&mut self, stage: Stage)
-        ensures { self.new ≡ record self.old { head = begun stage } }
-    {
-        self.head = Head::new(stage);
     }
 
     // Takes bytes of the piece and hands on those of a packet: how many it took, and how many it

@@ -1,6 +1,5 @@
 //! Which head of a file comes next.
-ghost use Rattle.std.specs.Prelude.{◌≡◌};
-ghost use Rattle.std.specs.Prelude.{length};
+ghost use Rattle.std.specs.Prelude.{◌≡◌, length};
 ghost use Rattle.dbus_capture.specs.Stages.{want, is_raw};
 ghost use Rattle.dbus_capture.specs.Beginnings.{stage_by, first_stage};
 
@@ -57,10 +56,7 @@ impl Stage {
     pub(crate) fn is_raw(self) -> bool
         ensures { result ≡ is_raw self }
     {
-        match self {
-            Stage::Raw => true,
-            _ => false,
-        }
+        matches!(self, Stage::Raw)
     }
 }
 

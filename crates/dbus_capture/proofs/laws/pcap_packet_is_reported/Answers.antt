@@ -4,4 +4,6 @@ use Rattle.dbus_capture.proofs.laws.pcap_packet_is_reported.Goals as goal
 
 pub returns : goal.returns
 returns c passes header packets packet front back f g fits whole e =
-    reported_from (first_of_pcap passes header f packets) (file_read passes header f packets g) (packet_begins passes header f packets g packet fits whole) front back e
+    let read = file_read passes header f packets g in
+    let begins = packet_begins header.order header.nanoseconds read.final packet passes fits whole in
+    reported_from (first_of_pcap passes header f packets) read begins front back e

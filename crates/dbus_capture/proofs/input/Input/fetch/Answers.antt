@@ -2,8 +2,8 @@ use Rattle.std.proofs.Common.{rules, ◌≡◌, ◌<◌, ◌-◌, ℕ, [], lengt
 use Rattle.std.proofs.lemmas.List.{length-take-le}
 use Rattle.std.specs.Io.KnownBytes.{Consumes}
 use Rattle.dbus_capture.specs.Captures.{kept_of}
-use Rattle.dbus_capture.proofs.CaptureSteps.{consumes_kept}
-use Rattle.dbus_capture.proofs.BeginSteps.{fetched_nothing, fetches_more, fetched_more, kept_put, kept_none, kept_there}
+use Rattle.std.proofs.KnownBytes.{Consumes-nil, Consumes-kept}
+use Rattle.dbus_capture.proofs.BeginSteps.{fetched_nothing, fetches_more, fetched_more, kept_put, kept_none}
 use Rattle.dbus_capture.proofs.input.Input.fetch.Goals as goal
 
 pub loop-number-init : goal.loop-number-init
@@ -20,42 +20,36 @@ returns-in_err-count-clause-fetched g c =
     let left = g.R.Source.left in
     let now = c.loop-number.self in
     let l = c.loop-number.invariant in
-    let few : length (kept_of now) < 4 = omega (arith, c.if-kept-ge4.false) in
     let size : length (kept_of now) ≡ now.end - now.start = search rules in
-    let fits = kept_there now.bytes now.start now.end l.start size in
     let e = c.in_err-count.ensures in
-    fetches_more left g.R.Source.calls g.R.Source.failures c.loop-number.number c.args.self.now now _ [] c.requires l few
-    (record { gave = consumes_kept (left now.source) (left c.read.new.self) e.bytes; counted = e.called })
-    (kept_none now.bytes c.read.new.buffer now.start now.end _ l.start fits) refl
+    fetches_more left g.R.Source.calls g.R.Source.failures c.loop-number.number c.args.self.now now _ [] c.requires l (omega (arith, c.if-kept-ge4.false))
+    (record { gave = Consumes-kept (left now.source) (left now.source) (left c.read.new.self) [] (Consumes-nil (left now.source)) e.bytes; counted = e.called })
+    (kept_none now.bytes c.read.new.buffer now.start now.end _ l.start size) refl
 
 pub returns-then-count-eq0-clause-fetched : goal.returns-then-count-eq0-clause-fetched
 returns-then-count-eq0-clause-fetched g c =
     let left = g.R.Source.left in
     let now = c.loop-number.self in
     let l = c.loop-number.invariant in
-    let few : length (kept_of now) < 4 = omega (arith, c.if-kept-ge4.false) in
     let size : length (kept_of now) ≡ now.end - now.start = search rules in
-    let fits = kept_there now.bytes now.start now.end l.start size in
     let e = c.in_ok-count.ensures in
     let zero : c.in_ok-count.count ≡ 0 = omega (arith, c.if-count-eq0.true) in
     let none : take c.in_ok-count.count c.read.new.buffer ≡ [] = ap (λ (k : ℕ). take k c.read.new.buffer) zero in
-    fetches_more left g.R.Source.calls g.R.Source.failures c.loop-number.number c.args.self.now now _ [] c.requires l few
+    fetches_more left g.R.Source.calls g.R.Source.failures c.loop-number.number c.args.self.now now _ [] c.requires l (omega (arith, c.if-kept-ge4.false))
     (record { gave = subst (Consumes (left now.source) (left c.read.new.self)) none e.bytes.0; counted = e.called })
-    (kept_none now.bytes c.read.new.buffer now.start now.end _ l.start fits) refl
+    (kept_none now.bytes c.read.new.buffer now.start now.end _ l.start size) refl
 
 pub loop-number-preserved : goal.loop-number-preserved
 loop-number-preserved g c =
     let left = g.R.Source.left in
     let now = c.loop-number.self in
     let l = c.loop-number.invariant in
-    let few : length (kept_of now) < 4 = omega (arith, c.if-kept-ge4.false) in
     let size : length (kept_of now) ≡ now.end - now.start = search rules in
-    let fits = kept_there now.bytes now.start now.end l.start size in
     let e = c.in_ok-count.ensures in
     let count = c.in_ok-count.count in
     let part = c.read.new.buffer in
     let long = length-take-le count part e.bound in
     let some : 0 < length (take count part) = omega (arith, long, c.if-count-eq0.false) in
-    fetched_more left g.R.Source.calls g.R.Source.failures c.loop-number.number c.args.self.now now _ (take count part) c.requires l few
+    fetched_more left g.R.Source.calls g.R.Source.failures c.loop-number.number c.args.self.now now _ (take count part) c.requires l (omega (arith, c.if-kept-ge4.false))
     (record { gave = e.bytes.0; counted = e.called })
-    (kept_put now.bytes part now.start now.end _ count l.start fits e.bound) some refl refl refl refl e.failed
+    (kept_put now.bytes part now.start now.end _ count l.start size e.bound) some refl refl refl refl e.failed

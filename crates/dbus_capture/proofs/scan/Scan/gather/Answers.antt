@@ -1,7 +1,6 @@
 use Rattle.std.proofs.Common.{◌≡◌, ◌+◌, ◌≤◌, ◌<◌, ℕ, List, [], ◌++◌, length, take, None, false, sym, ap, ◌∙◌, arith}
 use Rattle.std.proofs.lemmas.List.{length-take-le, nil_from_length, take_all}
-use Rattle.dbus_capture.specs.declared.scan.Scan.{Scan}
-use Rattle.dbus_capture.specs.declared.stage.Stage.{Stage}
+use Rattle.dbus_capture.specs.Types.{Scan, Stage}
 use Rattle.dbus_capture.specs.Stages.{is_raw, want, Heading, begun}
 use Rattle.dbus_capture.specs.Blocks.{decoded}
 use Rattle.dbus_capture.specs.Steps.{Leads}
