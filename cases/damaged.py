@@ -9,7 +9,7 @@ With `--resync` a change of any byte loses that message at most, unless the leng
 or 7 that are put in lose two at most. Both are counted and told, of some bytes of each message, or of each byte if the word `all` follows PROGRAM.
 
 With `--limit` too it ends after the last message that is wanted, though its input stays open:
-behind a damaged one once twice the window is there.
+behind a damaged one once that is there after the stated size, or twice the window.
 """
 
 import concurrent.futures as futures
@@ -117,10 +117,10 @@ def is_ended(program, wanted, data, *words):
 
 
 def count_waiting(program):
-    """How many runs wait for more than the last message wanted, or twice the window."""
+    """How many runs wait for more than the last message wanted, or, if the stated size leads to none, twice the window."""
     message = messages_of((SAMPLES / "session.dbus").read_bytes())[0]
-    damaged, window = changed(message, 3, 0xFF), 2 * len(message)
-    inputs = (message + damaged, ()), (damaged + 3 * message, (f"--resync-window={window}",))
+    damaged, missized, window = changed(message, 3, 0xFF), changed(message, 4, 0x80), 2 * len(message)
+    inputs = (message + damaged, ()), (damaged + message, ()), (missized + 3 * message, (f"--resync-window={window}",))
     return sum(not is_ended(program, message, data, "--limit=1", *words) for data, words in inputs)
 
 
@@ -143,7 +143,7 @@ def main():
     program = sys.argv[1]
     step = 1 if sys.argv[2:] == ["all"] else STEP
     waiting = count_waiting(program)
-    print(f"with --resync and --limit {waiting} of 2 runs wait though all is there that they need")
+    print(f"with --resync and --limit {waiting} of 3 runs wait though all is there that they need")
     names = ("session.dbus", "big-endian.dbus", "calls.dbus")
     sys.exit(waiting + sum(one_sample(program, it, step) for it in names) > 0)
 

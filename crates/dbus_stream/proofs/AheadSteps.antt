@@ -14,8 +14,8 @@ use Rattle.dbus_resync.specs.declared.found.Searched.{Searched}
 use Rattle.dbus_resync.proofs.OneFound.{one_found}
 use Rattle.dbus_resync.proofs.Steps.{looks_once}
 use Rattle.dbus_stream.specs.Gathering.{GathererState, gathering, fresh, under_way}
-use Rattle.dbus_stream.specs.GoingOn.{ahead_of, AsksForMemory, GoesBy, GoesTo, IsFoundIn, IsReadFar, Looks, LooksAhead, LooksBehind, OneResumed, ResumesBehind, Seeks, StaysThere, WantsRead}
-use Rattle.dbus_stream.specs.LookingAhead.{HasAhead, IsFar, IsNear, ReadsTo, StandsBefore}
+use Rattle.dbus_stream.specs.GoingOn.{ahead_of, AsksForMemory, GoesBy, GoesTo, IsFoundIn, IsMet, IsReadFar, IsSettled, Looks, LooksAhead, LooksBehind, OneResumed, ReadsToGoOn, ResumesBehind, Seeks, StaysThere, WantsRead}
+use Rattle.dbus_stream.specs.LookingAhead.{HasAhead, IsFar, IsNear, Meets, ReadsTo, StandsBefore}
 use Rattle.dbus_stream.specs.Next.{ReadsNothing, ReadsWhile}
 use Rattle.dbus_stream.specs.Packets.{KeepsPackets}
 use Rattle.dbus_stream.specs.RawReading as raw
@@ -29,18 +29,22 @@ use Rattle.dbus_stream.specs.declared.raw_reader.RawReader.{RawReader}
 use Rattle.dbus_stream.specs.declared.read_fault.ReadFault.{ReadFault}
 use Rattle.dbus_stream.specs.declared.read_fault.ReadFault.TheVariants.{Memory, Format, Device, TooManyReads}
 use Rattle.dbus_stream.specs.declared.reader.Reader.{Reader}
+use Rattle.dbus_stream.specs.declared.seeking.Behind.{Behind}
 use Rattle.dbus_stream.proofs.NextSteps.{each_more, reads_from, reads_none, reads_one, reads_put, reads_still}
 use Rattle.dbus_stream.proofs.PassSteps.{stands}
 use Rattle.dbus_stream.proofs.SizeSteps.{size_once}
 
-module _ {R T B A G : Type 0} {b : Ghosts B} (k : Taking T G) (left : R → Option (List ℕ)) (calls : R → ℕ) (far : ℕ) (front : List ℕ) (old : Reader R T B A b) where
-  -- fewer bytes are there
+module _ {R T B A G : Type 0} {b : Ghosts B} (k : Taking T G) (left : R → Option (List ℕ)) (calls : R → ℕ) (behind : Behind) (far : ℕ) (front : List ℕ) (old : Reader R T B A b) where
+  -- fewer bytes are there, and no message is met
+  abbrev pub IsOpen : List ℕ → Type 0
+  IsOpen bytes = (length bytes < far) × (Meets behind bytes → ⊥)
+
   abbrev IsShort : List ℕ → Type 0
-  IsShort before = length (front ++ before) < far
+  IsShort before = IsOpen (front ++ before)
 
   -- what was read so far
   pub record HasLooked (bytes : List ℕ) (mid : Reader R T B A b) : Type 0 where
-    pub has : HasAhead k left calls far front bytes old mid
+    pub has : HasAhead k left calls behind far front bytes old mid
     -- each read gave a byte
     pub each : is_ended mid ≡ false → EachGave left calls has.reads.count (source_of old) has.reads.bytes (source_of mid)
 
@@ -58,9 +62,9 @@ module _ {R T B A G : Type 0} {b : Ghosts B} (k : Taking T G) (left : R → Opti
     each = λ open_. (refl, refl);
   }
 
-  module _ (bytes : List ℕ) (mid filled : Reader R T B A b) (h : HasLooked bytes mid) (short : length bytes < far) (open_ : is_ended mid ≡ false) (c : Calls calls mid filled) (came : List ℕ) (f : FillsBy left came mid filled) where
-    abbrev reads_more : ReadsTo k left calls far front old filled
-    reads_more = reads_one k IsShort left calls old mid filled h.has.reads open_ (h.each open_) (subst (λ (l : List ℕ). length l < far) h.has.bytes_are short) c came f
+  module _ (bytes : List ℕ) (mid filled : Reader R T B A b) (h : HasLooked bytes mid) (short : IsOpen bytes) (open_ : is_ended mid ≡ false) (c : Calls calls mid filled) (came : List ℕ) (f : FillsBy left came mid filled) where
+    abbrev reads_more : ReadsTo k left calls behind far front old filled
+    reads_more = reads_one k IsShort left calls old mid filled h.has.reads open_ (h.each open_) (subst IsOpen h.has.bytes_are short) c came f
 
     -- one more read
     pub looked_more : is_ended filled ≡ nat_eq (length came) 0 → (count : ℕ) → count ≡ length (part_of filled) → (new : Reader R T B A b) → Drops count filled new → ReadsNothing k filled new
@@ -81,7 +85,7 @@ module _ {R T B A G : Type 0} {b : Ghosts B} (k : Taking T G) (left : R → Opti
     }
 
     -- or one that failed
-    pub looked_failed : came ≡ [] → HasAhead k left calls far front bytes old filled
+    pub looked_failed : came ≡ [] → HasAhead k left calls behind far front bytes old filled
     looked_failed none = record {
       reads = reads_more;
       bytes_are = h.has.bytes_are ∙ ap (λ (l : List ℕ). front ++ l) (sym (append-nil h.has.reads.bytes) ∙ ap (λ (l : List ℕ). h.has.reads.bytes ++ l) (sym none));
@@ -120,47 +124,52 @@ whole_part bytes count is =
 -- ---- a reader of raw messages
 
 -- among the bytes of the window
-pub found_in : (by_size : Bool) (limits : Limits) (window effort looked : ℕ) (ended : Bool) (w part : List ℕ) (found : Searched) → part ≡ w → looked ≡ min window (length part) → (ahead_of window ≤ length w) ⊎ (ended ≡ true)
+pub found_in : (by_size : Bool) (limits : Limits) (window effort looked : ℕ) (ended : Bool) (w part : List ℕ) (found : Searched) → part ≡ w → looked ≡ min window (length part) → IsSettled by_size limits window w ⊎ (ended ≡ true)
     → Seeks by_size limits window effort (take looked part) found → IsFoundIn by_size limits window effort ended w found
 found_in by_size limits window effort looked ended w part found same size enough s =
     let all : take looked part ≡ take window w = ap (λ (n : ℕ). take n part) size ∙ (take_min window part ∙ ap (take window) same) in
     (enough, subst (λ (l : List ℕ). Seeks by_size limits window effort l found) all s)
 
-module _ {R A : Type 0} (left : R → Option (List ℕ)) (calls : R → ℕ) where
+-- what is looked for first
+abbrev pub sought : {R A : Type 0} → (by_size : Bool) (window : ℕ) → RawReader R A → Behind
+sought by_size window old = record { by_size = by_size; limits = raw.limits_of old; window = window }
+
+module _ {R A : Type 0} (left : R → Option (List ℕ)) (calls : R → ℕ) (by_size : Bool) (window : ℕ) (old : RawReader R A) where
+  -- a read is needed
+  abbrev Needs : List ℕ → Type 0
+  Needs before = (length (raw.kept old) < ahead_of window) × (length (raw.kept old ++ before) < 2 * ahead_of window) × (Meets (sought by_size window old) (raw.kept old ++ before) → ⊥)
+
   -- what a call read
-  abbrev ReadsUpTo : (window : ℕ) → RawReader R A → Reader R GathererState Large A ghosts → Type 0
-  ReadsUpTo window old new = ReadsWhile gathering (λ before. (length (raw.kept old) < window) × (length (raw.kept old ++ before) < 2 * window)) left calls old.reader new
+  abbrev ReadsUpTo : Reader R GathererState Large A ghosts → Type 0
+  ReadsUpTo new = ReadsWhile gathering Needs left calls old.reader new
 
   -- what is there is enough: nothing is read
-  abbrev pub there_reads : (window : ℕ) (old : RawReader R A) (new : Reader R GathererState Large A ghosts) → ReadsNothing gathering old.reader new → ReadsUpTo window old new
-  there_reads window old new n =
-      let Needed : List ℕ → Type 0 = λ before. (length (raw.kept old) < window) × (length (raw.kept old ++ before) < 2 * window) in
-      reads_still gathering Needed left calls old.reader old.reader new (reads_none gathering Needed left calls old.reader) n
+  abbrev pub there_reads : (new : Reader R GathererState Large A ghosts) → ReadsNothing gathering old.reader new → ReadsUpTo new
+  there_reads new n = reads_still gathering Needs left calls old.reader old.reader new (reads_none gathering Needs left calls old.reader) n
 
   -- nothing is read after that
-  abbrev pub goes_reads : (window : ℕ) (old : RawReader R A) (mid new : Reader R GathererState Large A ghosts) → ReadsUpTo window old mid → ReadsNothing gathering mid new → ReadsUpTo window old new
-  goes_reads window old mid new r n = reads_still gathering (λ before. (length (raw.kept old) < window) × (length (raw.kept old ++ before) < 2 * window)) left calls old.reader mid new r n
+  abbrev pub goes_reads : (mid new : Reader R GathererState Large A ghosts) → ReadsUpTo mid → ReadsNothing gathering mid new → ReadsUpTo new
+  goes_reads mid new r n = reads_still gathering Needs left calls old.reader mid new r n
 
-  module _ (window far : ℕ) (old : RawReader R A) where
-    -- as many more are read as are wanted
-    pub ahead_reads : (front : List ℕ) → front ≡ raw.kept old → far ≤ 2 * window → (window ≤ length front → far ≡ 0) → (mid last new : Reader R GathererState Large A ghosts) → ReadsNothing gathering old.reader mid
-        → (bytes : List ℕ) → HasAhead gathering left calls far front bytes mid last → StandsBefore bytes last new → (r : ReadsUpTo window old new) × (bytes ≡ raw.kept old ++ r.bytes)
-    ahead_reads front is no_wider enough mid last new n bytes h s =
-        let Wanted : List ℕ → Type 0 = λ before. length (front ++ before) < far in
-        let Needed : List ℕ → Type 0 = λ before. (length (raw.kept old) < window) × (length (raw.kept old ++ before) < 2 * window) in
-        let needed : (before : List ℕ) → Wanted before → Needed before = λ before wanted.
-        let front_is = ap length is in
-        let all = ap (λ (l : List ℕ). length (l ++ before)) is in (
-          elim (cases_lt (length front) window) [
-            | inl less ↦ omega (arith, less, front_is)
-            | inr more ↦ absurd (let none = enough more in omega (arith, none, wanted))
-          ],
-          omega (arith, wanted, no_wider, all),
-        ) in
-        let r = reads_from gathering Needed left calls Wanted old.reader mid last n needed h.reads in (
-          reads_put gathering Needed left calls bytes old.reader last new r s,
-          h.bytes_are ∙ ap (λ (l : List ℕ). l ++ h.reads.bytes) is,
-        )
+  -- as many more are read as are wanted
+  pub ahead_reads : (far : ℕ) (front : List ℕ) → front ≡ raw.kept old → far ≤ 2 * ahead_of window → (ahead_of window ≤ length front → far ≡ 0) → (mid last new : Reader R GathererState Large A ghosts) → ReadsNothing gathering old.reader mid
+      → (bytes : List ℕ) → HasAhead gathering left calls (sought by_size window old) far front bytes mid last → StandsBefore bytes last new → (r : ReadsUpTo new) × (bytes ≡ raw.kept old ++ r.bytes)
+  ahead_reads far front is no_wider enough mid last new n bytes h s =
+      let Wanted : List ℕ → Type 0 = λ before. (length (front ++ before) < far) × (Meets (sought by_size window old) (front ++ before) → ⊥) in
+      let needed : (before : List ℕ) → Wanted before → Needs before = λ before wanted.
+      let front_is = ap length is in
+      let all = ap (λ (l : List ℕ). length (l ++ before)) is in (
+        elim (cases_lt (length front) (ahead_of window)) [
+          | inl less ↦ omega (arith, less, front_is)
+          | inr more ↦ absurd (let none = enough more in omega (arith, none, wanted.0))
+        ],
+        omega (arith, wanted.0, no_wider, all),
+        subst (λ (l : List ℕ). Meets (sought by_size window old) (l ++ before) → ⊥) is wanted.1,
+      ) in
+      let r = reads_from gathering Needs left calls Wanted old.reader mid last n needed h.reads in (
+        reads_put gathering Needs left calls bytes old.reader last new r s,
+        h.bytes_are ∙ ap (λ (l : List ℕ). l ++ h.reads.bytes) is,
+      )
 
 module _ {R A : Type 0} where
   -- what nothing was read for
@@ -183,20 +192,20 @@ module _ {R A : Type 0} where
         let s = stands (raw.limits_of old) new taker in
         record { kept = s.0 ∙ part; done = done; lent = λ _. s.1; stopped = stopped }
 
-    pub stays_ahead : (window : ℕ) → LooksAhead w old new window → StaysThere w old new
-    stays_ahead window l = stays_put l.part l.taker l.done l.stopped
+    pub stays_ahead : (by_size : Bool) (window : ℕ) → LooksAhead w old new by_size window → StaysThere w old new
+    stays_ahead by_size window l = stays_put l.part l.taker l.done l.stopped
 
     -- an error leaves all there
-    pub fails_ahead : (by_size : Bool) (window : ℕ) (fault : ReadFault) → Looks w old new (ahead_of window) (Err fault) → GoesBy w old new by_size window (Err fault)
+    pub fails_ahead : (by_size : Bool) (window : ℕ) (fault : ReadFault) → Looks w old new by_size window (Err fault) → GoesBy w old new by_size window (Err fault)
     fails_ahead by_size window Memory l = l
     fails_ahead by_size window (Format fault) l = absurd l
     fails_ahead by_size window Device l = l
     fails_ahead by_size window TooManyReads l = l
 
   -- nothing more is read
-  pub looks_there : (window : ℕ) (old new : RawReader R A) → old.reader.held ≡ 0 → (window ≤ length (part_of old.reader)) ⊎ (raw.is_ended old ≡ true) → part_of new.reader ≡ part_of old.reader → new.reader.taker ≡ fresh (raw.limits_of old)
-      → raw.done_of new ≡ raw.done_of old → raw.stopped_of new ≡ raw.stopped_of old → raw.is_ended new ≡ raw.is_ended old → raw.reads_of new ≡ raw.reads_of old → new.refused.dropped ≡ 0 → LooksAhead (raw.kept old ++ []) old new window
-  looks_there window old new zero enough part taker done stopped ended reads nothing =
+  pub looks_there : (by_size : Bool) (window : ℕ) (old new : RawReader R A) → old.reader.held ≡ 0 → IsSettled by_size (raw.limits_of old) window (part_of old.reader) ⊎ (raw.is_ended old ≡ true) → part_of new.reader ≡ part_of old.reader → new.reader.taker ≡ fresh (raw.limits_of old)
+      → raw.done_of new ≡ raw.done_of old → raw.stopped_of new ≡ raw.stopped_of old → raw.is_ended new ≡ raw.is_ended old → raw.reads_of new ≡ raw.reads_of old → new.refused.dropped ≡ 0 → LooksAhead (raw.kept old ++ []) old new by_size window
+  looks_there by_size window old new zero enough part taker done stopped ended reads nothing =
       let held = under_way old.reader.taker.whole old.reader.taker.held in
       let none : held ≡ [] = nil_from_length held (sym old.held_counted ∙ zero) in
       let all : raw.kept old ++ [] ≡ part_of old.reader = append-nil (raw.kept old) ∙ ap (λ (l : List ℕ). l ++ part_of old.reader) none in
@@ -207,23 +216,25 @@ module _ {R A : Type 0} where
         stopped = stopped;
         nothing = nothing;
         enough = elim enough [
-          | inl wide ↦ inl (subst (λ (l : List ℕ). window ≤ length l) (sym all) wide)
+          | inl settled ↦ inl (subst (IsSettled by_size (raw.limits_of old) window) (sym all) settled)
           | inr end ↦ inr (ended ∙ end)
         ];
         far = inl reads;
       }
 
   -- what is kept was not put into one place
-  pub asks_first : (many : ℕ) (old : RawReader R A) → (length (part_of old.reader) < length (raw.kept old)) ⊎ ((length (raw.kept old) < many) × (raw.is_ended old ≡ false)) → AsksForMemory (raw.kept old ++ []) old old many
-  asks_first many old (inl apart) = inl (apart, append-nil (raw.kept old))
-  asks_first many old (inr more) =
-      let all = ap length (append-nil (raw.kept old)) in
-      inr (more.0, omega (arith, all, more.0), more.1)
+  pub asks_first : (by_size : Bool) (window : ℕ) (old : RawReader R A) → (length (part_of old.reader) < length (raw.kept old)) ⊎ ((length (raw.kept old) < ahead_of window) × (raw.is_ended old ≡ false) × (Meets (sought by_size window old) (raw.kept old) → ⊥))
+      → AsksForMemory (raw.kept old ++ []) old old by_size window
+  asks_first by_size window old (inl apart) = inl (apart, append-nil (raw.kept old))
+  asks_first by_size window old (inr more) =
+      let same = append-nil (raw.kept old) in
+      let all = ap length same in
+      inr (more.0, omega (arith, all, more.0), more.1, subst (λ (l : List ℕ). Meets (sought by_size window old) l → ⊥) (sym same) more.2)
 
   -- more was read, or not
-  module _ (left : R → Option (List ℕ)) (calls : R → ℕ) (window far : ℕ) (old new : RawReader R A) (front bytes : List ℕ) (is : front ≡ raw.kept old) (twice : length front < window → far ≡ 2 * window) (none : window ≤ length front → far ≡ 0) (mid last : Reader R GathererState Large A ghosts)
+  module _ (left : R → Option (List ℕ)) (calls : R → ℕ) (by_size : Bool) (window far : ℕ) (old new : RawReader R A) (front bytes : List ℕ) (is : front ≡ raw.kept old) (twice : length front < ahead_of window → far ≡ 2 * ahead_of window) (none : ahead_of window ≤ length front → far ≡ 0) (mid last : Reader R GathererState Large A ghosts)
       (taker : mid.taker ≡ fresh (raw.limits_of old)) (mid_done : done_of mid ≡ done_of old.reader + old.reader.held + length (part_of old.reader)) (mid_stopped : stopped_of mid ≡ stopped_of old.reader)
-      (h : HasAhead gathering left calls far front bytes mid last) where
+      (h : HasAhead gathering left calls (sought by_size window old) far front bytes mid last) where
     -- no more bytes are put back than counted as done
     pub counted_ahead : length bytes ≤ done_of last
     counted_ahead =
@@ -233,7 +244,7 @@ module _ {R A : Type 0} where
         let kept = length-append held (part_of old.reader) in
         omega (arith, all, both, kept, old.held_counted, mid_done, h.done)
 
-    module _ (s : StandsBefore bytes last new.reader) (nothing : new.refused.dropped ≡ 0) (r : ReadsUpTo left calls window old new.reader) (w : List ℕ) (w_is : bytes ≡ w) where
+    module _ (s : StandsBefore bytes last new.reader) (nothing : new.refused.dropped ≡ 0) (r : ReadsUpTo left calls by_size window old new.reader) (w : List ℕ) (w_is : bytes ≡ w) where
       ahead_done : raw.done_of new ≡ raw.done_of old
       ahead_done =
           let held = under_way old.reader.taker.whole old.reader.taker.held in
@@ -249,18 +260,21 @@ module _ {R A : Type 0} where
       ahead_stays = stays_put w old new (s.left ∙ w_is) ahead_taker ahead_done (s.stopped ∙ (h.stopped ∙ mid_stopped))
 
       -- so many are there
-      ahead_wide : far ≤ length bytes → window ≤ length w
+      ahead_wide : far ≤ length bytes → ahead_of window ≤ length w
       ahead_wide there =
           let size = ap length w_is in
           let all = ap length h.bytes_are in
           let both = length-append front h.reads.bytes in
-          elim (cases_lt (length front) window) [
+          elim (cases_lt (length front) (ahead_of window)) [
             | inl less ↦ (let more = twice less in omega (arith, more, there, size))
             | inr more ↦ omega (arith, more, all, both, size)
           ]
 
+      is_met : Meets (sought by_size window old) bytes → Meets (sought by_size window old) w
+      is_met met = subst (Meets (sought by_size window old)) w_is met
+
       -- nothing was read, if so many were there
-      ahead_unread : window ≤ length front → raw.reads_of new ≡ raw.reads_of old
+      ahead_unread : ahead_of window ≤ length front → raw.reads_of new ≡ raw.reads_of old
       ahead_unread there =
           let size = ap length is in
           elim (cases_lt 0 r.count) [
@@ -268,33 +282,34 @@ module _ {R A : Type 0} where
             | inr zero ↦ (let reads = r.reads in omega (arith, reads, zero))
           ]
 
-      ahead_far : IsFar far bytes last (Ok tt) → IsReadFar w old new window
-      ahead_far far_enough = elim (cases_lt (length front) window) [
+      ahead_far : IsFar (sought by_size window old) far bytes last (Ok tt) → IsReadFar w old new by_size window
+      ahead_far far_enough = elim (cases_lt (length front) (ahead_of window)) [
         | inl less ↦ inr (elim far_enough [
           | inl there ↦ inl (let size = ap length w_is in let wide = twice less in omega (arith, size, wide, there))
-          | inr end ↦ inr (s.ended ∙ end)
+          | inr (inl end) ↦ inr (inl (s.ended ∙ end))
+          | inr (inr met) ↦ inr (inr (is_met met))
         ])
         | inr there ↦ inl (ahead_unread there)
       ]
 
       -- it was to be more
-      ahead_wants : IsNear far bytes last → WantsRead w old new window
+      ahead_wants : IsNear (sought by_size window old) far bytes last → WantsRead w old new by_size window
       ahead_wants near =
           let size = ap length w_is in
           let front_size = ap length is in
-          elim (cases_lt (length front) window) [
-            | inl less ↦ (omega (arith, less, front_size), (let wide = twice less in omega (arith, size, wide, near.0)), s.ended ∙ near.1)
+          elim (cases_lt (length front) (ahead_of window)) [
+            | inl less ↦ (omega (arith, less, front_size), (let wide = twice less in omega (arith, size, wide, near.0)), s.ended ∙ near.1, subst (λ (l : List ℕ). Meets (sought by_size window old) l → ⊥) w_is near.2)
             | inr there ↦ absurd (let zero = none there in omega (arith, zero, near.0))
           ]
 
-      pub ahead_looks : (res : Result (Unit {0}) ReadFault) → IsFar far bytes last res → Looks w old new window res
+      pub ahead_looks : (res : Result (Unit {0}) ReadFault) → IsFar (sought by_size window old) far bytes last res → Looks w old new by_size window res
       ahead_looks (Ok x) far_enough = record {
         part = s.left ∙ w_is;
         taker = ahead_taker;
         done = ahead_done;
         stopped = s.stopped ∙ (h.stopped ∙ mid_stopped);
         nothing = nothing;
-        enough = elim far_enough [ inl there ↦ inl (ahead_wide there) | inr end ↦ inr (s.ended ∙ end) ];
+        enough = elim far_enough [ inl there ↦ inl (inl (ahead_wide there)) | inr (inl end) ↦ inr (s.ended ∙ end) | inr (inr met) ↦ inl (inr (is_met met)) ];
         far = ahead_far far_enough;
       }
       ahead_looks (Err Memory) near = (ahead_stays, inr (ahead_wants near))
@@ -303,9 +318,9 @@ module _ {R A : Type 0} where
       ahead_looks (Err TooManyReads) near = (ahead_stays, s.reads ∙ (near.0 ∙ sym s.most_reads), ahead_wants near.1)
 
   -- the reader goes to the next message
-  pub goes_to : (window offset : ℕ) (w : List ℕ) (old mid new : RawReader R A) → LooksAhead w old mid window → offset ≤ length w → part_of new.reader ≡ drop offset (part_of mid.reader) → new.reader.taker ≡ mid.reader.taker
+  pub goes_to : (by_size : Bool) (window offset : ℕ) (w : List ℕ) (old mid new : RawReader R A) → LooksAhead w old mid by_size window → offset ≤ length w → part_of new.reader ≡ drop offset (part_of mid.reader) → new.reader.taker ≡ mid.reader.taker
       → raw.done_of new ≡ raw.done_of mid + offset → raw.stopped_of new ≡ None → GoesTo w old new offset
-  goes_to window offset w old mid new l inside part taker done stopped =
+  goes_to by_size window offset w old mid new l inside part taker done stopped =
       let s = stands (raw.limits_of old) new (taker ∙ l.taker) in
       record {
         inside = inside;

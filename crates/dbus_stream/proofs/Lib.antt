@@ -4,6 +4,7 @@ pub mod MessageEnds
 pub mod NextSteps
 pub mod PacketSteps
 pub mod AheadSteps
+pub mod MetSteps
 pub mod SeekSteps
 pub mod PartSteps
 pub mod PacketPassing

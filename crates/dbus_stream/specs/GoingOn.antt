@@ -74,9 +74,18 @@ checked stopped = 0
 abbrev pub ahead_of : (window : ℕ) → ℕ
 ahead_of window = max window 16
 
--- this is found among so many bytes of the input as the window has: all are there, or it has ended
+-- behind as many bytes as they state a whole message begins, if that is looked for
+abbrev pub IsMet : (by_size : Bool) → Limits → List ℕ → Type 0
+IsMet true limits bytes = (size : ℕ) × StatesSize limits bytes size × BeginsAt limits bytes size
+IsMet false limits bytes = ⊥
+
+-- what is found is the same whatever follows: all that is looked ahead at is there, or such a message
+abbrev pub IsSettled : (by_size : Bool) → Limits → (window : ℕ) → List ℕ → Type 0
+IsSettled by_size limits window w = (ahead_of window ≤ length w) ⊎ IsMet by_size limits (take window w)
+
+-- this is found among as many bytes of the input as the window has: that is settled, or it has ended
 abbrev pub IsFoundIn : (by_size : Bool) → Limits → (window effort : ℕ) → (ended : Bool) → List ℕ → Searched → Type 0
-IsFoundIn by_size limits window effort ended w s = ((ahead_of window ≤ length w) ⊎ (ended ≡ true)) × Seeks by_size limits window effort (take window w) s
+IsFoundIn by_size limits window effort ended w s = (IsSettled by_size limits window w ⊎ (ended ≡ true)) × Seeks by_size limits window effort (take window w) s
 
 module _ {R A : Type 0} where
   -- what is left of the effort
@@ -88,27 +97,28 @@ module _ {R A : Type 0} where
   LooksAtFew window r = raw.looked_of r ≤ 16 * (raw.done_of r + window)
 
   -- what a call read: a read was made only if fewer bytes were there at first than are looked ahead
-  -- at, and fewer than twice as many then
-  abbrev pub ReadsToGoOn : (window : ℕ) → (R → Option (List ℕ)) → (R → ℕ) → RawReader R A → RawReader R A → Type 0
-  ReadsToGoOn window left calls old new =
-      next.ReadsWhile gathering (λ before. (length (raw.kept old) < ahead_of window) × (length (raw.kept old ++ before) < 2 * ahead_of window)) left calls old.reader new.reader
+  -- at, and fewer than twice as many then, and no message was met
+  abbrev pub ReadsToGoOn : (by_size : Bool) (window : ℕ) → (R → Option (List ℕ)) → (R → ℕ) → RawReader R A → RawReader R A → Type 0
+  ReadsToGoOn by_size window left calls old new =
+      next.ReadsWhile gathering (λ before. (length (raw.kept old) < ahead_of window) × (length (raw.kept old ++ before) < 2 * ahead_of window) × (IsMet by_size (raw.limits_of old) (take window (raw.kept old ++ before)) → ⊥)) left calls old.reader new.reader
 
-  module _ (w : List ℕ) (old new : RawReader R A) where
-    -- twice as many bytes are there, if anything was read, unless the input ended: so the last read
-    -- gave some
-    abbrev pub IsReadFar : (many : ℕ) → Type 0
-    IsReadFar many = (raw.reads_of new ≡ raw.reads_of old) ⊎ ((2 * many ≤ length w) ⊎ (raw.is_ended new ≡ true))
+  module _ (w : List ℕ) (old new : RawReader R A) (by_size : Bool) (window : ℕ) where
+    -- twice as many bytes are there, if anything was read, unless the input ended or a message is met:
+    -- so the last read gave some
+    abbrev pub IsReadFar : Type 0
+    IsReadFar = (raw.reads_of new ≡ raw.reads_of old) ⊎ ((2 * ahead_of window ≤ length w) ⊎ ((raw.is_ended new ≡ true) ⊎ IsMet by_size (raw.limits_of old) (take window w)))
 
     -- one more read is wanted: fewer bytes were kept at first, and fewer than twice as many are there
-    -- now, and the input has not ended
-    abbrev pub WantsRead : (many : ℕ) → Type 0
-    WantsRead many = (length (raw.kept old) < many) × (length w < 2 * many) × (raw.is_ended new ≡ false)
+    -- now, and the input has not ended, nor is a message met
+    abbrev pub WantsRead : Type 0
+    WantsRead = (length (raw.kept old) < ahead_of window) × (length w < 2 * ahead_of window) × (raw.is_ended new ≡ false) × (IsMet by_size (raw.limits_of old) (take window w) → ⊥)
 
     -- memory is asked for: to put what is kept into one place, before anything is read; or for what
     -- is read next
-    abbrev pub AsksForMemory : (many : ℕ) → Type 0
-    AsksForMemory many = ((length (part_of old.reader) < length (raw.kept old)) × (w ≡ raw.kept old)) ⊎ WantsRead many
+    abbrev pub AsksForMemory : Type 0
+    AsksForMemory = ((length (part_of old.reader) < length (raw.kept old)) × (w ≡ raw.kept old)) ⊎ WantsRead
 
+  module _ (w : List ℕ) (old new : RawReader R A) where
     -- so many bytes are dropped, and the fault is gone
     pub record GoesTo (offset : ℕ) : Type 0 where
       pub inside : offset ≤ length w
@@ -128,17 +138,17 @@ module _ {R A : Type 0} where
     pub record FindsIn (by_size : Bool) (window : ℕ) (found : Found) : Type 0 where
       pub looked : ℕ
       pub is_found : IsFoundIn by_size (raw.limits_of old) window (effort_in window old) (raw.is_ended new) w (record { found = found; looked = looked })
-      pub far : IsReadFar (ahead_of window)
+      pub far : IsReadFar w old new by_size window
       pub counts : raw.looked_of new ≡ counted window (raw.done_of old) (raw.looked_of old) (checked (raw.stopped_of old) + looked)
 
     abbrev pub GoesBy : (by_size : Bool) → (window : ℕ) → Result Found ReadFault → Type 0
     GoesBy by_size window (Ok (At offset)) = FindsIn by_size window (At offset) × GoesTo offset
     GoesBy by_size window (Ok found) = FindsIn by_size window found × StaysThere
-    GoesBy by_size window (Err TooManyReads) = StaysThere × (raw.reads_of new ≡ raw.most_reads_of new) × WantsRead (ahead_of window)
-    GoesBy by_size window (Err Memory) = StaysThere × AsksForMemory (ahead_of window)
+    GoesBy by_size window (Err TooManyReads) = StaysThere × (raw.reads_of new ≡ raw.most_reads_of new) × WantsRead w old new by_size window
+    GoesBy by_size window (Err Memory) = StaysThere × AsksForMemory w old new by_size window
     -- a read gave bytes of a packet, and it does not note of which packets the bytes are that it holds
     GoesBy by_size window (Err (Format fault)) = StaysThere × (raw.stopped_of old ≡ Some (Format fault)) × (raw.packed_of new ≡ true)
-    GoesBy by_size window (Err Device) = StaysThere × WantsRead (ahead_of window)
+    GoesBy by_size window (Err Device) = StaysThere × WantsRead w old new by_size window
 
     -- a call that goes on to the first message
     abbrev pub GoesOn : (window : ℕ) → Result Found ReadFault → Type 0
@@ -148,22 +158,22 @@ module _ {R A : Type 0} where
     abbrev pub Resyncs : (window : ℕ) → Result Found ReadFault → Type 0
     Resyncs window result = GoesBy true window result
 
-    -- all that was kept and read is in the buffer, and so many bytes, unless the input ends before
-    pub record LooksAhead (many : ℕ) : Type 0 where
+    -- all that was kept and read is in the buffer, and what is found is settled, or the input has ended
+    pub record LooksAhead (by_size : Bool) (window : ℕ) : Type 0 where
       pub part : part_of new.reader ≡ w
       pub taker : new.reader.taker ≡ fresh (raw.limits_of old)
       pub done : raw.done_of new ≡ raw.done_of old
       pub stopped : raw.stopped_of new ≡ raw.stopped_of old
       pub nothing : new.refused.dropped ≡ 0
-      pub enough : (many ≤ length w) ⊎ (raw.is_ended new ≡ true)
-      pub far : IsReadFar many
+      pub enough : IsSettled by_size (raw.limits_of old) window w ⊎ (raw.is_ended new ≡ true)
+      pub far : IsReadFar w old new by_size window
 
-    abbrev pub Looks : (many : ℕ) → Result (Unit {0}) ReadFault → Type 0
-    Looks many (Ok x) = LooksAhead many
-    Looks many (Err TooManyReads) = StaysThere × (raw.reads_of new ≡ raw.most_reads_of new) × WantsRead many
-    Looks many (Err Memory) = StaysThere × AsksForMemory many
-    Looks many (Err (Format fault)) = ⊥
-    Looks many (Err Device) = StaysThere × WantsRead many
+    abbrev pub Looks : (by_size : Bool) (window : ℕ) → Result (Unit {0}) ReadFault → Type 0
+    Looks by_size window (Ok x) = LooksAhead by_size window
+    Looks by_size window (Err TooManyReads) = StaysThere × (raw.reads_of new ≡ raw.most_reads_of new) × WantsRead w old new by_size window
+    Looks by_size window (Err Memory) = StaysThere × AsksForMemory w old new by_size window
+    Looks by_size window (Err (Format fault)) = ⊥
+    Looks by_size window (Err Device) = StaysThere × WantsRead w old new by_size window
 
 -- ---- laws
 

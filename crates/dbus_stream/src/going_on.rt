@@ -7,7 +7,7 @@ use crate::passed::Passed;
 use crate::raw_reader::RawReader;
 use crate::read_fault::ReadFault;
 use crate::refused::{Refused, Size};
-use crate::seeking::seek_in;
+use crate::seeking::{Behind, seek_in};
 use dbus_device::Source;
 use dbus_resync::Found;
 use dbus_value_model::{Fault, Reason};
@@ -15,7 +15,8 @@ use std::alloc::{AllocError, Allocator};
 
 impl<R: Source, A: Allocator + Copy> RawReader<R, A> {
     ghost use Rattle.std.specs.Prelude.{None, Some};
-    ghost use Rattle.dbus_stream.specs.GoingOn.{ahead_of, effort_in, GoesBy, GoesOn, HasFault, Looks, LooksAtFew, ReadsToGoOn, Resyncs};
+    ghost use Rattle.dbus_stream.specs.LookingAhead.{Meets};
+    ghost use Rattle.dbus_stream.specs.GoingOn.{effort_in, GoesBy, GoesOn, HasFault, Looks, LooksAtFew, ReadsToGoOn, Resyncs};
     ghost use Rattle.dbus_device.specs.Packets.{Packets};
     ghost use Rattle.dbus_stream.specs.Passing.{Passing, WasDropped};
     ghost use Rattle.dbus_stream.specs.PassingPackets.{AreOfNumber, IsBeforeOther, PassesPacket};
@@ -127,7 +128,7 @@ impl<R: Source, A: Allocator + Copy> RawReader<R, A> {
     pub fn go_on(&mut self, window: u32) -> Result<Found, ReadFault>
         requires { HasFault (stopped_of self.old) }
         // Of what was kept and then read it drops the bytes before the next message.
-        ensures goes { (r : ReadsToGoOn window R.left R.calls self.old self.new) ×
+        ensures goes { (r : ReadsToGoOn false window R.left R.calls self.old self.new) ×
             GoesOn (kept self.old ++ r.bytes) self.old self.new window result }
         ensures failed { DeviceCounts (R.failures (source_of self.old))
             (R.failures (source_of self.new)) result }
@@ -147,7 +148,8 @@ impl<R: Source, A: Allocator + Copy> RawReader<R, A> {
     /// as [`RawReader::pass_over`] reads it: behind so many bytes, if a whole message within the
     /// limits begins there in the window, or the input ends there in the window, or what begins
     /// there states that it goes past the window; and else at the least offset at which a message
-    /// begins. So what looks like one inside a refused one is not taken for one. D-Bus Specification, "Message Format".
+    /// begins. So what looks like one inside a refused one is not taken for one. Once that whole
+    /// message is there, no more is read. D-Bus Specification, "Message Format".
     ///
     /// ```rust
     /// use dbus_stream::{Found, FromRead, RawReader, ReadFault};
@@ -168,7 +170,7 @@ impl<R: Source, A: Allocator + Copy> RawReader<R, A> {
     pub fn resync(&mut self, window: u32) -> Result<Found, ReadFault>
         requires { HasFault (stopped_of self.old) }
         // Of what was kept and then read it drops the bytes before the next message.
-        ensures goes { (r : ReadsToGoOn window R.left R.calls self.old self.new) ×
+        ensures goes { (r : ReadsToGoOn true window R.left R.calls self.old self.new) ×
             Resyncs (kept self.old ++ r.bytes) self.old self.new window result }
         ensures failed { DeviceCounts (R.failures (source_of self.old))
             (R.failures (source_of self.new)) result }
@@ -243,7 +245,7 @@ impl<R: Source, A: Allocator + Copy> RawReader<R, A> {
     // Goes on where the search finds the next message among the bytes of the window.
     fn seek(&mut self, window: u32, by_size: bool) -> Result<Found, ReadFault>
         requires { HasFault (stopped_of self.old) }
-        ensures goes { (r : ReadsToGoOn window R.left R.calls self.old self.new) ×
+        ensures goes { (r : ReadsToGoOn by_size window R.left R.calls self.old self.new) ×
             GoesBy (kept self.old ++ r.bytes) self.old self.new by_size window result }
         ensures failed { DeviceCounts (R.failures (source_of self.old))
             (R.failures (source_of self.new)) result }
@@ -260,7 +262,7 @@ impl<R: Source, A: Allocator + Copy> RawReader<R, A> {
             unreachable!()
         };
         let width = window as usize;
-        match self.look_ahead(window) {
+        match self.look_ahead(window, by_size) {
             Ok(()) => {}
             Err(fault) => return Err(fault),
         }
@@ -287,10 +289,10 @@ impl<R: Source, A: Allocator + Copy> RawReader<R, A> {
     }
 
     // All that was kept is in the buffer then; and what is read, if these are fewer bytes than the
-    // window has, or than state a size. If it is not, all is kept.
-    fn look_ahead(&mut self, window: u32) -> Result<(), ReadFault>
-        ensures looks { (r : ReadsToGoOn window R.left R.calls self.old self.new) ×
-            Looks (kept self.old ++ r.bytes) self.old self.new (ahead_of window) result }
+    // window has, or than state a size, and no message is met. If it is not, all is kept.
+    fn look_ahead(&mut self, window: u32, by_size: bool) -> Result<(), ReadFault>
+        ensures looks { (r : ReadsToGoOn by_size window R.left R.calls self.old self.new) ×
+            Looks (kept self.old ++ r.bytes) self.old self.new by_size window result }
         ensures failed { DeviceCounts (R.failures (source_of self.old))
             (R.failures (source_of self.new)) result }
         ensures same_reference { R.reference (source_of self.new) ≡
@@ -300,7 +302,13 @@ impl<R: Source, A: Allocator + Copy> RawReader<R, A> {
         ensures looked { looked_of self.new ≡ looked_of self.old }
     {
         let many = (window as usize).max(16);
-        if self.is_there(many) {
+        let limits = self.reader.taker.limits();
+        let behind = Behind {
+            by_size,
+            limits,
+            window: window as usize,
+        };
+        if self.is_there(behind, many) {
             self.refused = Refused::nothing();
             self.reader.taker.let_go();
             return Ok(());
@@ -313,20 +321,27 @@ impl<R: Source, A: Allocator + Copy> RawReader<R, A> {
         self.refused = Refused::nothing();
         self.reader.taker.let_go();
         self.reader.drop_kept();
-        let looked = self.reader.read_ahead(far, &mut ahead);
+        let looked = self.reader.read_ahead(behind, far, &mut ahead);
         self.reader.stand_before(ahead);
         looked
     }
 
-    // Whether all that is kept is in the buffer, and so many bytes, unless the input ends before.
-    fn is_there(&self, many: usize) -> bool
+    // Whether all that is kept is in the buffer, and so many bytes, or a message is met there, or
+    // the input has ended.
+    fn is_there(&self, behind: Behind, many: usize) -> bool
         ensures there { result ≡ true → (self.now.reader.held ≡ 0) ×
-            ((many ≤ length (part_of self.now.reader)) ⊎ (is_ended self.now ≡ true)) }
+            (((many ≤ length (part_of self.now.reader)) ⊎ Meets behind (part_of self.now.reader)) ⊎
+            (is_ended self.now ≡ true)) }
         ensures asks { result ≡ false →
             (length (part_of self.now.reader) < length (kept self.now)) ⊎
-            ((length (kept self.now) < many) × (is_ended self.now ≡ false)) }
+            ((length (kept self.now) < many) × (is_ended self.now ≡ false) ×
+            (Meets behind (kept self.now) → ⊥)) }
     {
-        self.reader.held == 0 && (self.reader.ended || many <= self.reader.part().len())
+        if self.reader.held > 0 {
+            return false;
+        }
+        let part = self.reader.part();
+        self.reader.ended || many <= part.len() || behind.is_met(part, 0)
     }
 
     // The bytes that are kept.

@@ -8,6 +8,7 @@ use crate::buffer::Buffer;
 use crate::passed::Passed;
 use crate::read_fault::ReadFault;
 use crate::refused::{Refused, Size};
+use crate::seeking::Behind;
 use crate::stream_fault::StreamFault;
 use crate::taker::Taker;
 use dbus_device::{DeviceFault, Packet, Source};
@@ -258,26 +259,36 @@ impl<R: Source, T: Taker, B: Buffer, A: Allocator> Reader<R, T, B, A> {
         self.start = self.end;
     }
 
-    /// Reads on until so many bytes are there, or the input ends. What is read is put behind the
-    /// bytes that are there, and counts as done.
+    /// Reads on until so many bytes are there, or a message is met, or the input ends. What is read
+    /// is put behind the bytes that are there, and counts as done.
     ///
     /// `TooManyReads`: as many reads were made as it may make. `Device`: a read failed. `Memory`:
     /// an allocation failed. What was read is there then.
-    pub(crate) fn read_ahead(&mut self, far: usize, ahead: &mut Vec<u8, A>) -> Result<(), ReadFault>
+    pub(crate) fn read_ahead(
+        &mut self,
+        behind: Behind,
+        far: usize,
+        ahead: &mut Vec<u8, A>,
+    ) -> Result<(), ReadFault>
         requires drained { part_of self.old ≡ [] }
-        ensures ahead { HasAhead T.known R.left R.calls far ahead.old.items ahead.new.items
+        ensures ahead { HasAhead T.known R.left R.calls behind far ahead.old.items ahead.new.items
             self.old self.new }
-        ensures far { IsFar far ahead.new.items self.new result }
+        ensures far { IsFar behind far ahead.new.items self.new result }
         ensures failed { DeviceCounts (R.failures (source_of self.old))
             (R.failures (source_of self.new)) result }
         ensures same_reference { R.reference (source_of self.new) ≡
             R.reference (source_of self.old) }
         ensures packets { KeepsPackets R.packets R.packet self.old self.new }
     {
+        let mut before = 0;
         'reading: while ahead.len() < far {
             if self.ended {
                 return Ok(());
             }
+            if behind.is_met(ahead.as_slice(), before) {
+                return Ok(());
+            }
+            before = ahead.len();
             if self.reads >= self.most_reads {
                 return Err(ReadFault::TooManyReads);
             }

@@ -1,13 +1,45 @@
 //! Where messages begin again behind one that is refused.
-ghost use Rattle.std.specs.Prelude.{◌≡◌, ◌≤◌, ◌<◌, ℕ, None, true, false, length, IfSome};
+ghost use Rattle.std.specs.Prelude.{◌≡◌, ◌≤◌, ◌<◌, ℕ, None, true, false, length, take, IfSome};
 ghost use Rattle.dbus_resync.specs.declared.found.Found.TheVariants.{At};
 ghost use Rattle.dbus_stream.specs.GoingOn.{LeadsNowhere, LeadsOn, LooksBehind, Resumes, Seeks};
+ghost use Rattle.dbus_stream.specs.LookingAhead.{Meets};
 ghost use Rattle.dbus_stream.specs.StatedSizes.{StatesSize, WantsMore};
 
 use crate::refused::{Refused, Size};
 use dbus_resync::{Found, Searched, first_message, size_there};
 use dbus_validate::validate;
 use dbus_value_model::Limits;
+
+/// What is looked for first: behind as many bytes as a refused message states, the next one.
+#[derive(Clone, Copy)]
+pub(crate) struct Behind {
+    /// Whether it is looked for.
+    pub(crate) by_size: bool,
+    pub(crate) limits: Limits,
+    /// Among how many bytes.
+    pub(crate) window: usize,
+}
+
+impl Behind {
+    /// Whether a whole one is there, which was not among the first bytes, so many as `before`. It
+    /// is validated only if its end is behind these: so each one once.
+    pub(crate) fn is_met(&self, bytes: &[u8], before: usize) -> bool
+        ensures met { result ≡ true → Meets self.now bytes.now }
+        ensures none { result ≡ false → (Meets self.now (take before bytes.now) → ⊥) →
+            Meets self.now bytes.now → ⊥ }
+    {
+        let wide = self.window.min(bytes.len());
+        let there = &bytes[..wide];
+        let Some(end) = end_stated(there, self.limits) else {
+            return false;
+        };
+        let rest = &there[end..];
+        if end + size_there(rest, self.limits) <= before {
+            return false;
+        }
+        self.by_size && validate(rest, self.limits).is_some()
+    }
+}
 
 /// Where messages begin again among the bytes of a window, which begin with a refused message: if
 /// that is wanted, where the size leads that it states; and else at the first message that is found

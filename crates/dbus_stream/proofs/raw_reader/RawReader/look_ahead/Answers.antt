@@ -1,9 +1,12 @@
-use Rattle.std.proofs.Common.{◌≡◌, ◌⊎◌, ◌≤◌, ◌<◌, ◌*◌, ◌++◌, ℕ, true, false, inl, inr, length, refl, subst, sym, ap, ◌∙◌, arith, append-nil}
+use Rattle.std.proofs.Common.{◌≡◌, ◌⊎◌, ◌≤◌, ◌<◌, ◌*◌, ◌++◌, ℕ, true, false, inl, inr, length, take, refl, subst, sym, ap, ◌∙◌, arith, append-nil}
+use Rattle.std.proofs.Math.Path.{transport}
 use Rattle.std.proofs.lemmas.Bool.{cases_lt}
 use Rattle.dbus_stream.specs.Gathering.{GathererState, gathering}
-use Rattle.dbus_stream.specs.GoingOn.{ahead_of}
+use Rattle.dbus_value_model.specs.declared.limits.Limits.{Limits}
+use Rattle.dbus_stream.specs.GoingOn.{ahead_of, IsMet}
+use Rattle.dbus_stream.specs.LookingAhead.{HasAhead, IsFar, Meets}
 use Rattle.dbus_stream.specs.Next.{ReadsNothing}
-use Rattle.dbus_stream.specs.RawReading.{is_ended, kept}
+use Rattle.dbus_stream.specs.RawReading.{is_ended, kept, limits_of}
 use Rattle.dbus_stream.specs.Reading.{part_of}
 use Rattle.dbus_stream.proofs.AheadSteps.{ahead_looks, ahead_reads, asks_first, looks_there, there_reads, unpacked, unread_both}
 use Rattle.dbus_stream.proofs.PacketSteps.{unread}
@@ -13,20 +16,20 @@ pub returns-then-is_there-clause-looks : goal.returns-then-is_there-clause-looks
 returns-then-is_there-clause-looks g c =
     let old = c.args.self.now in
     let e = c.is_there.ensures.there c.if-is_there.true in
-    let enough = subst (λ (n : ℕ). (n ≤ length (part_of old.reader)) ⊎ (is_ended old ≡ true)) c.max-many.ensures e.1 in (
-      there_reads g.R.Source.left g.R.Source.calls (ahead_of c.args.window) old _
+    let enough = transport (λ i. ((c.max-many.ensures i ≤ length (part_of old.reader)) ⊎ IsMet c.args.by_size (c.limits-limits.ensures i) (take c.args.window (part_of old.reader))) ⊎ (is_ended old ≡ true)) e.1 in (
+      there_reads g.R.Source.left g.R.Source.calls c.args.by_size c.args.window old _
           (record { source = refl; reads = refl; most_reads = refl; limits = ap (λ (t : GathererState). t.limits) c.let_go.ensures; ended = refl; read = refl; last = refl; packed = refl }),
-      looks_there (ahead_of c.args.window) old _ e.0 enough refl c.let_go.ensures refl refl refl refl c.nothing-self.ensures,
+      looks_there c.args.by_size c.args.window old _ e.0 enough refl c.let_go.ensures refl refl refl refl c.nothing-self.ensures,
     )
 
 pub returns-in-Err-clause-looks : goal.returns-in-Err-clause-looks
 returns-in-Err-clause-looks g c =
     let old = c.args.self.now in (
-      there_reads g.R.Source.left g.R.Source.calls (ahead_of c.args.window) old old.reader
+      there_reads g.R.Source.left g.R.Source.calls c.args.by_size c.args.window old old.reader
           (record { source = refl; reads = refl; most_reads = refl; limits = refl; ended = refl; read = refl; last = refl; packed = refl }),
       (
         record { kept = sym (append-nil (kept old)); done = refl; lent = λ none. none; stopped = refl },
-        asks_first (ahead_of c.args.window) old (subst (λ (n : ℕ). (length (part_of old.reader) < length (kept old)) ⊎ ((length (kept old) < n) × (is_ended old ≡ false))) c.max-many.ensures (c.is_there.ensures.asks c.if-is_there.false)),
+        asks_first c.args.by_size c.args.window old (transport (λ i. (length (part_of old.reader) < length (kept old)) ⊎ ((length (kept old) < c.max-many.ensures i) × (is_ended old ≡ false) × (IsMet c.args.by_size (c.limits-limits.ensures i) (take c.args.window (kept old)) → ⊥))) (c.is_there.ensures.asks c.if-is_there.false)),
       ),
     )
 
@@ -52,11 +55,11 @@ returns-clause-looks g c =
     let enough : many ≤ length front → far ≡ 0 = λ more. c.far_enough-far.ensures.enough (omega (arith, more, size, same)) in
     let no_wider : far ≤ 2 * many = elim (cases_lt (length front) many) [ inl less ↦ (let all = twice less in omega (arith, all)) | inr more ↦ (let zero = enough more in omega (arith, zero)) ] in
     let drops = c.drop_kept.ensures.drops in
-    let h = c.read_ahead-looked.ensures.ahead in
-    let r = ahead_reads g.R.Source.left g.R.Source.calls many far old front is no_wider enough mid last c.stand_before.new.self (dropped g c) bytes h c.stand_before.ensures in (
+    let h = subst (λ (l : Limits). HasAhead gathering g.R.Source.left g.R.Source.calls (record { by_size = c.args.by_size; limits = l; window = c.args.window }) far front bytes mid last) c.limits-limits.ensures c.read_ahead-looked.ensures.ahead in
+    let r = ahead_reads g.R.Source.left g.R.Source.calls c.args.by_size c.args.window old far front is no_wider enough mid last c.stand_before.new.self (dropped g c) bytes h c.stand_before.ensures in (
       r.0,
-      ahead_looks g.R.Source.left g.R.Source.calls many far old _ front bytes is twice enough mid last (drops.taker ∙ c.let_go-2.ensures) drops.done drops.stopped h c.stand_before.ensures c.nothing-self-2.ensures r.0 (kept old ++ r.0.bytes) r.1 c.read_ahead-looked.result
-          c.read_ahead-looked.ensures.far,
+      ahead_looks g.R.Source.left g.R.Source.calls c.args.by_size c.args.window far old _ front bytes is twice enough mid last (drops.taker ∙ c.let_go-2.ensures) drops.done drops.stopped h c.stand_before.ensures c.nothing-self-2.ensures r.0 (kept old ++ r.0.bytes) r.1 c.read_ahead-looked.result
+          (subst (λ (l : Limits). IsFar (record { by_size = c.args.by_size; limits = l; window = c.args.window }) far bytes last c.read_ahead-looked.result) c.limits-limits.ensures c.read_ahead-looked.ensures.far),
     )
 
 pub returns-clause-packets : goal.returns-clause-packets

@@ -25,7 +25,7 @@ returns-then-self-clause-goes g c =
     let old = c.args.self.now in
     let some : stopped_of old ≡ Some c.in-Some-Format.field-0 = c.in-Some-Format.is in
     let met : stopped_of old ≡ Some (Format c.in-Some-Format.met) = some ∙ ap Some (rw c.in-Some-Format.is at c.in-Some-Format.field-0-is) in
-    (l.0, (stays_ahead (kept old ++ l.0.bytes) old c.look_ahead.new.self (ahead_of c.args.window) l.1, met, c.if-self.true))
+    (l.0, (stays_ahead (kept old ++ l.0.bytes) old c.look_ahead.new.self c.args.by_size c.args.window l.1, met, c.if-self.true))
 
 -- what is left of the effort
 effort_is : (g : _) (c : After-seek_in-searched g) → c.effort_of-effort.result ≡ effort_in c.args.window c.args.self.now
@@ -94,16 +94,16 @@ returns-in-At-clause-goes g c =
     let inside = c.seek_in-searched.ensures.inside c.in-At.offset c.in-At.is in
     let size = length-take c.min-looked.result a in
     let same = ap length (c.part-part.ensures ∙ l.1.part) in (
-      goes_reads g.R.Source.left g.R.Source.calls (ahead_of c.args.window) old mid.reader _ l.0 (record { source = u.source; reads = u.reads; most_reads = u.most_reads; limits = u.limits; ended = u.ended; read = u.read; last = u.last; packed = u.packed }),
+      goes_reads g.R.Source.left g.R.Source.calls c.args.by_size c.args.window old mid.reader _ l.0 (record { source = u.source; reads = u.reads; most_reads = u.most_reads; limits = u.limits; ended = u.ended; read = u.read; last = u.last; packed = u.packed }),
       (
         record {
           looked = c.seek_in-searched.result.looked;
           is_found = subst (λ b. IsFoundIn c.args.by_size (limits_of old) c.args.window (effort_in c.args.window old) b w (record { found = At c.in-At.offset; looked = c.seek_in-searched.result.looked })) (sym u.ended)
               (finds g place.After-seek_in-searched (At c.in-At.offset) c.in-At.is);
-          far = elim l.1.far [ inl same ↦ inl (u.reads ∙ same) | inr more ↦ inr (elim more [ inl wide ↦ inl wide | inr end ↦ inr (u.ended ∙ end) ]) ];
+          far = elim l.1.far [ inl same ↦ inl (u.reads ∙ same) | inr more ↦ inr (elim more [ inl wide ↦ inl wide | inr (inl end) ↦ inr (inl (u.ended ∙ end)) | inr (inr met) ↦ inr (inr met) ]) ];
           counts = counts g place.After-seek_in-searched c.counted-self.result c.counted-self.ensures.counts;
         },
-        goes_to (ahead_of c.args.window) c.in-At.offset w old mid _ l.1 (omega (arith, inside, size, same)) d.buffers.left d.buffers.taker d.done refl,
+        goes_to c.args.by_size c.args.window c.in-At.offset w old mid _ l.1 (omega (arith, inside, size, same)) d.buffers.left d.buffers.taker d.done refl,
       ),
     )
 
@@ -120,7 +120,7 @@ returns-in-Nowhere-clause-goes g c =
       l.0,
       (
         record { looked = c.seek_in-searched.result.looked; is_found = finds g place.After-seek_in-searched Nowhere c.in-Nowhere.is; far = l.1.far; counts = counts g place.After-seek_in-searched c.counted-self.result c.counted-self.ensures.counts },
-        stays_ahead (kept old ++ l.0.bytes) old _ (ahead_of c.args.window) (record { part = l.1.part; taker = l.1.taker; done = l.1.done; stopped = l.1.stopped; nothing = l.1.nothing; enough = l.1.enough; far = l.1.far }),
+        stays_ahead (kept old ++ l.0.bytes) old _ c.args.by_size c.args.window (record { part = l.1.part; taker = l.1.taker; done = l.1.done; stopped = l.1.stopped; nothing = l.1.nothing; enough = l.1.enough; far = l.1.far }),
       ),
     )
 
@@ -132,6 +132,6 @@ returns-in-Spent-clause-goes g c =
       l.0,
       (
         record { looked = c.seek_in-searched.result.looked; is_found = finds g place.After-seek_in-searched Spent c.in-Spent.is; far = l.1.far; counts = counts g place.After-seek_in-searched c.counted-self.result c.counted-self.ensures.counts },
-        stays_ahead (kept old ++ l.0.bytes) old _ (ahead_of c.args.window) (record { part = l.1.part; taker = l.1.taker; done = l.1.done; stopped = l.1.stopped; nothing = l.1.nothing; enough = l.1.enough; far = l.1.far }),
+        stays_ahead (kept old ++ l.0.bytes) old _ c.args.by_size c.args.window (record { part = l.1.part; taker = l.1.taker; done = l.1.done; stopped = l.1.stopped; nothing = l.1.nothing; enough = l.1.enough; far = l.1.far }),
       ),
     )
