@@ -1,9 +1,10 @@
 -- Selections: of each message it is decided whether it is selected, and they are equal exactly if
 -- they say the same.
-use Rattle.std.proofs.Common.{◌≡◌, ◌∙◌, Bool, true, false, List, [], ◌∷◌, map, cond, inl, inr, refl, sym, ap, arith, Option, None, Some}
+use Rattle.std.proofs.Common.{◌≡◌, Bool, true, false, List, [], ◌∷◌, map, inl, inr, refl, sym, ap, arith, Option, None, Some}
 use Rattle.std.specs.Option.{option_eq}
+use Rattle.std.specs.Prelude.{IsTrue}
 use Rattle.std.specs.Bool.{Decides}
-use Rattle.std.specs.List.{AllZip, filter}
+use Rattle.std.specs.List.{AllZip}
 use Rattle.std.specs.declared.alloc.Global.{Global}
 use Rattle.std.specs.Cmp.Lexicographic.{pointwise}
 use Rattle.std.proofs.lemmas.Bool.{false≢true}
@@ -16,11 +17,12 @@ use Rattle.dbus_match.specs.Matching.{Ownership, ownership}
 use Rattle.dbus_match.specs.TakenFor.{text_at}
 use Rattle.dbus_message_model.specs.declared.field_code.TheConstants as field
 use Rattle.dbus_rule.specs.RuleViews.{rule_pairs}
+use Rattle.dbus_rule_set.specs.Eavesdropping.{is_asked}
 use Rattle.dbus_match.proofs.Decided.{decided}
-use Rattle.dbus_rule.proofs.PairChoices.{Either, one_of}
+use Rattle.dbus_rule.proofs.PairChoices.{Either, both, one_of}
 use Rattle.dbus_match.proofs.Noted.{owners_equal}
 use Rattle.dbus_rule.proofs.SortedConditions.{rules_equal}
-use Rattle.cli_options.specs.Selections.{AreSameSelection, Holds, OrInverted, SelectsBy, SomeHolds, AreSameCommand, AreSameSelected, asked_rules, bus_rules, eavesdrops}
+use Rattle.cli_options.specs.Selections.{AreSameSelection, Holds, OrInverted, SelectsBy, SomeHolds, AreSameCommand, AreSameSelected}
 use Rattle.cli_options.specs.contracts.selection.QuestionPartialEq.TheImpl as question_eq
 use Rattle.cli_options.specs.declared.selection.Question.{Question}
 use Rattle.cli_options.specs.declared.selection.Question.TheVariants as questions
@@ -34,37 +36,25 @@ use Rattle.cli_options.specs.contracts.command.OutputPartialEq.TheImpl as output
 
 -- ---- which messages are selected
 
-holds_decided : (q : Question) (r : Rule Global) (m : MessageTree) (os : List Ownership) → Either (Holds q (rule_pairs r) m os)
-holds_decided questions.Matches r m os = decided (rule_pairs r) m os
-holds_decided questions.MayMatch r m os = may_decided m (text_at field.SENDER m) os r
+is_true : (b : Bool) → Either (IsTrue b)
+is_true true = inl refl
+is_true false = inr false≢true
 
-some_decided : (q : Question) (rules : List (Rule Global)) (m : MessageTree) (os : List Ownership) → Either (SomeHolds q rules m os)
-some_decided q [] m os = inr (λ h. h)
-some_decided q (r ∷ rules) m os = one_of (holds_decided q r m os) (some_decided q rules m os)
+holds_decided : (as_bus : Bool) (q : Question) (r : Rule Global) (m : MessageTree) (os : List Ownership) → Either (Holds as_bus q (rule_pairs r) m os)
+holds_decided as_bus questions.Matches r m os = both (is_true (is_asked as_bus m (rule_pairs r))) (decided (rule_pairs r) m os)
+holds_decided as_bus questions.MayMatch r m os = both (is_true (is_asked as_bus m (rule_pairs r))) (may_decided m (text_at field.SENDER m) os r)
+
+some_decided : (as_bus : Bool) (q : Question) (rules : List (Rule Global)) (m : MessageTree) (os : List Ownership) → Either (SomeHolds as_bus q rules m os)
+some_decided as_bus q [] m os = inr (λ h. h)
+some_decided as_bus q (r ∷ rules) m os = one_of (holds_decided as_bus q r m os) (some_decided as_bus q rules m os)
 
 inverted_decided : (inverted : Bool) {P : Type 0} → Either P → Either (OrInverted inverted P)
 inverted_decided false e = e
 inverted_decided true (inl p) = inr (λ n. n p)
 inverted_decided true (inr n) = inl n
 
--- the keys and values of rules that eavesdrop
-eavesdropping_pairs : (rules : List (Rule Global)) → map rule_pairs (bus_rules true rules) ≡ filter eavesdrops (map rule_pairs rules)
-eavesdropping_pairs [] = refl
-eavesdropping_pairs (r ∷ rules) =
-    let kept : (b : Bool) → map rule_pairs (cond b (r ∷ bus_rules true rules) (bus_rules true rules)) ≡ cond b (rule_pairs r ∷ map rule_pairs (bus_rules true rules)) (map rule_pairs (bus_rules true rules)) =
-    elim [
-      | false ↦ refl
-      | true ↦ refl
-    ] in
-    kept (eavesdrops (rule_pairs r)) ∙ ap (λ l. cond (eavesdrops (rule_pairs r)) (rule_pairs r ∷ l) l) (eavesdropping_pairs rules)
-
--- a bus asks the same of rules that are the same
-pub same_bus_rules : (b : Bool) (rules others : List (Rule Global)) → map rule_pairs rules ≡ map rule_pairs others → map rule_pairs (bus_rules b rules) ≡ map rule_pairs (bus_rules b others)
-same_bus_rules false rules others e = e
-same_bus_rules true rules others e = eavesdropping_pairs rules ∙ (ap (filter eavesdrops) e ∙ sym (eavesdropping_pairs others))
-
 pub selected : (s : Selection) (os : List Ownership) (m : MessageTree) → Either (SelectsBy s os m)
-selected s os m = inverted_decided s.is_inverted (some_decided s.question (asked_rules s m) m os)
+selected s os m = inverted_decided s.is_inverted (some_decided s.as_bus s.question s.rules.items m os)
 
 -- ---- what is the same
 

@@ -1,60 +1,40 @@
 -- Which messages a selection selects.
 -- D-Bus Specification, "Match Rules" and "Eavesdropping".
-use Rattle.std.specs.Prelude.{◌≡◌, ℕ, ◌⊎◌, ◌&&◌, Bool, true, false, List, [], ◌∷◌, map, codes, is_some, if◌then◌else◌, Option, None, Some}
-use Rattle.std.specs.List.{filter, list_any}
-use Rattle.std.specs.Str.{bytes_eq}
+use Rattle.std.specs.Prelude.{◌≡◌, ◌⊎◌, Bool, true, false, IsTrue, List, [], ◌∷◌, map, Option, None, Some}
 use Rattle.std.specs.declared.alloc.Global.{Global}
 use Rattle.dbus_message_model.specs.Messages.{MessageTree}
 use Rattle.dbus_message_model.specs.declared.field_code.TheConstants as field
-use Rattle.dbus_rule.specs.declared.key.Key.{Key}
-use Rattle.dbus_rule.specs.declared.key.Key.TheVariants.{Eavesdrop}
 use Rattle.dbus_rule.specs.declared.rule.Rule.{Rule}
 use Rattle.dbus_rule.specs.Rules.{Pair}
 use Rattle.dbus_match.specs.Matching.{Matches, Ownership, ownerships}
 use Rattle.dbus_match.specs.TakenFor.{MayMatch, text_at}
 use Rattle.dbus_rule.specs.RuleViews.{rule_pairs}
+use Rattle.dbus_rule_set.specs.Eavesdropping.{is_asked}
 use Rattle.cli_options.specs.declared.selection.Question.{Question}
 use Rattle.cli_options.specs.declared.selection.Question.TheVariants as questions
 use Rattle.cli_options.specs.declared.selection.Selection.{Selection}
 use Rattle.cli_options.specs.declared.command.Command.{Command}
 
--- what is asked of a rule and a message with these owners holds: the rule matches it, or may match
--- it, whose SENDER the bus wrote, if it has one
-abbrev pub Holds : Question → List Pair → MessageTree → List Ownership → Type 0
-Holds questions.Matches ps m os = Matches ps m os
-Holds questions.MayMatch ps m os = ∥ MayMatch ps m (text_at field.SENDER m) os ∥₁
+-- a rule is asked of a message, as a bus asks or not, and what is asked holds with these owners: the
+-- rule matches it, or may match it, whose SENDER the bus wrote, if it has one
+abbrev pub Holds : (as_bus : Bool) → Question → List Pair → MessageTree → List Ownership → Type 0
+Holds as_bus questions.Matches ps m os = IsTrue (is_asked as_bus m ps) × Matches ps m os
+Holds as_bus questions.MayMatch ps m os = IsTrue (is_asked as_bus m ps) × ∥ MayMatch ps m (text_at field.SENDER m) os ∥₁
 
 -- it holds of some rule of the list
-abbrev pub SomeHolds : Question → List (Rule Global) → MessageTree → List Ownership → Type 0
-SomeHolds q [] m os = ⊥
-SomeHolds q (rule ∷ rules) m os = Holds q (rule_pairs rule) m os ⊎ SomeHolds q rules m os
+abbrev pub SomeHolds : (as_bus : Bool) → Question → List (Rule Global) → MessageTree → List Ownership → Type 0
+SomeHolds as_bus q [] m os = ⊥
+SomeHolds as_bus q (rule ∷ rules) m os = Holds as_bus q (rule_pairs rule) m os ⊎ SomeHolds as_bus q rules m os
 
 -- what holds of a message where it is selected: this, or, inverted, that it does not
 abbrev pub OrInverted : Bool → Type 0 → Type 0
 OrInverted false P = P
 OrInverted true P = P → ⊥
 
--- the key and the value are `eavesdrop='true'`
-abbrev pub is_eavesdrop : Key → List ℕ → Bool
-is_eavesdrop Eavesdrop v = bytes_eq v (codes "true")
-is_eavesdrop k v = false
-
--- a rule of these keys is for messages to others too
-abbrev pub eavesdrops : List Pair → Bool
-eavesdrops ps = list_any (λ p. is_eavesdrop p.key p.value) ps
-
--- the rules that a bus asks of a message; of one with a DESTINATION, those that eavesdrop
-abbrev pub bus_rules : (has_destination : Bool) → List (Rule Global) → List (Rule Global)
-bus_rules has_destination rules = if has_destination then filter (λ rule. eavesdrops (rule_pairs rule)) rules else rules
-
--- the rules that the selection asks of a message: all, or as at a bus
-abbrev pub asked_rules : Selection → MessageTree → List (Rule Global)
-asked_rules selection m = bus_rules (selection.as_bus && is_some (text_at field.DESTINATION m)) selection.rules.items
-
--- the selection selects the message with these owners: what it asks holds of some rule that it asks;
--- or, inverted, of none
+-- the selection selects the message with these owners: what it asks holds of some of its rules; or,
+-- inverted, of none
 abbrev pub SelectsBy : Selection → List Ownership → MessageTree → Type 0
-SelectsBy selection os m = OrInverted selection.is_inverted (SomeHolds selection.question (asked_rules selection m) m os)
+SelectsBy selection os m = OrInverted selection.is_inverted (SomeHolds selection.as_bus selection.question selection.rules.items m os)
 
 -- it is by this rule alone, if that matches, not as at a bus, with no owners, and learns none
 pub record IsByRule (rule : Rule Global) (selection : Selection) : Type 0 where

@@ -2,7 +2,6 @@
 -- refused, and passed over or not.
 use Rattle.std.proofs.Common.{◌≡◌, ℕ, ◌+◌, ◌*◌, ◌-◌, ◌||◌, ◌<◌, ◌≤◌, List, [], ◌∷◌, ◌++◌, Bool, true, false, ◌⊎◌, is_some, Option, None, Some, Result, Ok, Err, drop, take, length, refl, sym, ap, ◌∙◌, subst, arith, inl, inr, append_assoc, append-nil, length-append}
 use Rattle.std.proofs.Math.Path.{transport}
-use Rattle.std.proofs.Math.Nat.{le-max_left}
 use Rattle.std.proofs.Math.Seq.{drop-append_seam}
 use Rattle.std.specs.Option.{is_none}
 use Rattle.std.specs.Io.KnownBytes.{IsAtEnd}
@@ -20,7 +19,7 @@ use Rattle.dbus_resync.specs.declared.found.Found.TheVariants.{At, Nowhere, Spen
 use Rattle.dbus_resync.specs.declared.found.Searched.{Searched}
 use Rattle.dbus_stream.specs.Cut.{CutOutcome, Ended, Unfinished, Refused, IsOutcome}
 use Rattle.dbus_stream.specs.CutEnds.{fault_at_end, truncated}
-use Rattle.dbus_stream.specs.GoingOn.{FindsIn, IsFoundIn, ReadsToGoOn, Resyncs, StaysThere, ahead_of, checked, counted as count_looked, effort_in, effort_of}
+use Rattle.dbus_stream.specs.GoingOn.{FindsIn, IsFoundIn, IsMet, IsSettled, ReadsToGoOn, Resyncs, StaysThere, ahead_of, checked, counted as count_looked, effort_in, effort_of}
 use Rattle.dbus_stream.specs.Gathering.{gathering, under_way}
 use Rattle.dbus_stream.specs.Lasting.{is_truncated}
 use Rattle.dbus_stream.specs.Next.{DeviceCounts, IsCutShort}
@@ -36,6 +35,7 @@ use Rattle.dbus_stream.specs.declared.raw_reader.RawReader.{RawReader}
 use Rattle.dbus_stream.specs.declared.read_fault.ReadFault.{ReadFault}
 use Rattle.dbus_stream.specs.declared.read_fault.ReadFault.TheVariants as read
 use Rattle.dbus_stream.proofs.FaultPackets.{refused_later}
+use Rattle.dbus_stream.proofs.MetSteps.{settled_or}
 use Rattle.dbus_stream.proofs.SizeSteps.{size_once, sizes_tell}
 use Rattle.cli_options.specs.declared.resync.Resync.{Resync}
 use Rattle.cli_options.specs.declared.resync.Resync.TheVariants.{Off, Within as Sought}
@@ -409,17 +409,12 @@ module _ {R A S : Type 0} {takes : S → S → List Placed → (told : List ℕ)
         way_seeks = way_next packet (is_truncated fault.reason) run.settings.resync window seeks
 
         -- for what it was refused, and whether the input ends in the window
-        fault_by : (more : List ℕ) → (is_ended mid ≡ true → more ≡ []) → (is_ended mid ≡ true → is_ended new ≡ true) → (ahead_of window ≤ length (kept mid ++ more)) ⊎ (is_ended new ≡ true)
-            → (end : Bool) × ((n : ℕ) → IsFaultOf run.settings.limits (kept mid ++ more) fault (Resumed window (effort window) n end)) × (end ≡ false → window ≤ length (kept mid ++ more)) × (end ≡ true → is_ended new ≡ true)
-        fault_by more none still all = elim (either h.outcome h.outcome_is fault_last h.ended) [
-          | inl refused ↦ elim (cases_lt (length (kept mid ++ more)) window) [
-            | inl short ↦ (
-              true,
-              λ n. inl (refused_to more refused, short),
-              (λ e. absurd (false≢true (sym e))),
-              λ _. elim all [ inl wide ↦ absurd (omega (arith, wide, short, le-max_left window 16)) | inr end ↦ end ],
-            )
-            | inr wide ↦ (false, λ n. refused_to more refused, (λ _. wide), λ e. absurd (false≢true e))
+        fault_by : (more : List ℕ) → (is_ended mid ≡ true → more ≡ []) → (is_ended mid ≡ true → is_ended new ≡ true) → IsSettled true run.settings.limits window (kept mid ++ more) ⊎ (is_ended new ≡ true)
+            → IsSettled true run.settings.limits window (kept mid ++ more) ⊎ (IsSettled true run.settings.limits window (kept mid ++ more) → ⊥) → (end : Bool) × ((n : ℕ) → IsFaultOf run.settings.limits (kept mid ++ more) fault (Resumed window (effort window) n end)) × (end ≡ false → IsSettled true run.settings.limits window (kept mid ++ more)) × (end ≡ true → is_ended new ≡ true)
+        fault_by more none still all settled_or_not = elim (either h.outcome h.outcome_is fault_last h.ended) [
+          | inl refused ↦ elim settled_or_not [
+            | inl settled ↦ (false, λ n. refused_to more refused, (λ _. settled), λ e. absurd (false≢true e))
+            | inr open_ ↦ (true, λ n. inl (refused_to more refused, open_), (λ e. absurd (false≢true (sym e))), λ _. elim all [ inl settled ↦ absurd (open_ settled) | inr end ↦ end ])
           ]
           | inr cut ↦ (
               let all_there : kept mid ≡ kept mid ++ more = sym (append-nil (kept mid)) ∙ ap (λ (l : List ℕ). kept mid ++ l) (sym (none cut.0)) in
@@ -434,6 +429,9 @@ module _ {R A S : Type 0} {takes : S → S → List Placed → (told : List ℕ)
         resumes_is : (more : List ℕ) (s : Searched) → IsFoundIn true (limits_of mid) window (effort_in window mid) (is_ended new) (kept mid ++ more) s → ResumeIn run.settings.limits window (effort window) (kept mid ++ more) s
         resumes_is more s f = transport (λ i. ResumeIn (limits_are i) window (effort_is window i) (kept mid ++ more) s) f.1
 
+        settled_is : (more : List ℕ) → IsSettled true (limits_of mid) window (kept mid ++ more) ⊎ (is_ended new ≡ true) → IsSettled true run.settings.limits window (kept mid ++ more) ⊎ (is_ended new ≡ true)
+        settled_is more f = subst (λ (l : Limits). IsSettled true l window (kept mid ++ more) ⊎ (is_ended new ≡ true)) limits_are f
+
         nowhere_is : (more : List ℕ) (found : Found) → is_there found ≡ false → FindsIn (kept mid ++ more) mid new true window found
             → (b : BeginNowhere run.settings.limits window (effort window) (kept mid ++ more) (is_ended new ≡ true)) × (looked_of new ≡ count_looked window (sizes_of h.gone.parts) (looked_in h.gone.parts) (fault.at + b.searched.looked))
         nowhere_is more found none f = (
@@ -441,21 +439,22 @@ module _ {R A S : Type 0} {takes : S → S → List Placed → (told : List ℕ)
             searched = record { found = found; looked = f.looked };
             nowhere = none;
             resumes = resumes_is more (record { found = found; looked = f.looked }) f.is_found;
-            all = λ short. elim f.is_found.0 [ inl wide ↦ absurd (omega (arith, wide, short)) | inr end ↦ end ];
+            all = settled_is more f.is_found.0;
           },
           counts_is f.looked f.counts,
         )
 
         -- it is gone on there
-        came_there : (r : ReadsToGoOn window run.left run.calls mid new) (size : ℕ) → Resyncs (kept mid ++ r.bytes) mid new window (Ok (At size)) → CameTo (kept mid ++ r.bytes) (Ok Over)
+        came_there : (r : ReadsToGoOn true window run.left run.calls mid new) (size : ℕ) → Resyncs (kept mid ++ r.bytes) mid new window (Ok (At size)) → CameTo (kept mid ++ r.bytes) (Ok Over)
         came_there r size g =
             let more = r.bytes in
             let n = g.0.looked in
-            let f = fault_by more (λ end. (r.settled end).0) (λ end. (r.settled end).2) g.0.is_found.0 in
+            let found = resumes_is more (record { found = At size; looked = n }) g.0.is_found in
+            let f = fault_by more (λ end. (r.settled end).0) (λ end. (r.settled end).2) (settled_is more g.0.is_found.0) (settled_or run.settings.limits window (effort window) (kept mid ++ more) (record { found = At size; looked = n }) size found refl) in
             record {
               by = Resumed window (effort window) n f.0;
               size = size;
-              part = (front_to more (λ end. (r.settled end).0), f.1 n, (resumes_is more (record { found = At size; looked = n }) g.0.is_found, f.2));
+              part = (front_to more (λ end. (r.settled end).0), f.1 n, (found, f.2));
               passed = (ap seek_by way_seeks.1, front_by None way_seeks.0);
               kept_is = g.1.kept;
               done_is = g.1.done;
@@ -473,12 +472,12 @@ module _ {R A S : Type 0} {takes : S → S → List Placed → (told : List ℕ)
         came_failed more read.Device g = inr (window, way_seeks.0, way_seeks.1)
         came_failed more read.TooManyReads g = (inr (window, way_seeks.0, way_seeks.1), g.1)
 
-        reads_ahead : (r : ReadsToGoOn window run.left run.calls mid new) → HasReadTo (kept mid ++ r.bytes)
+        reads_ahead : (r : ReadsToGoOn true window run.left run.calls mid new) → HasReadTo (kept mid ++ r.bytes)
         reads_ahead r =
-            read_on gathering run.left run.calls run.settings.limits (kept mid) (λ before. (length (kept mid) < ahead_of window) × (length (kept mid ++ before) < 2 * ahead_of window)) mid.reader mid.reader new.reader [] (kept mid)
+            read_on gathering run.left run.calls run.settings.limits (kept mid) (λ before. (length (kept mid) < ahead_of window) × (length (kept mid ++ before) < 2 * ahead_of window) × (IsMet true (limits_of mid) (take window (kept mid ++ before)) → ⊥)) mid.reader mid.reader new.reader [] (kept mid)
             (read_none gathering run.left run.calls run.settings.limits (kept mid) mid.reader limits_are) r
 
-        went : (r : ReadsToGoOn window run.left run.calls mid new) (res : Result Passed ReadFault) → CameTo (kept mid ++ r.bytes) res → HasOnward res
+        went : (r : ReadsToGoOn true window run.left run.calls mid new) (res : Result Passed ReadFault) → CameTo (kept mid ++ r.bytes) res → HasOnward res
         went r res came = record { rest = kept mid ++ r.bytes; reads = reads_ahead r; came_to = came }
 
       -- in a capture up to the next packet
@@ -571,7 +570,7 @@ module _ {R A S : Type 0} {takes : S → S → List Placed → (told : List ℕ)
         ]
 
     -- messages begin again nowhere in the window, and far is the reader that found that
-    module _ (window : ℕ) (seeks : way ≡ ToNext window) (far : RawReader R A) (ahead : ReadsToGoOn window run.left run.calls mid far) (stays : StaysThere (kept mid ++ ahead.bytes) mid far)
+    module _ (window : ℕ) (seeks : way ≡ ToNext window) (far : RawReader R A) (ahead : ReadsToGoOn true window run.left run.calls mid far) (stays : StaysThere (kept mid ++ ahead.bytes) mid far)
         (nowhere : BeginNowhere run.settings.limits window (effort window) (kept mid ++ ahead.bytes) (is_ended far ≡ true))
         (counts : looked_of far ≡ count_looked window (sizes_of h.gone.parts) (looked_in h.gone.parts) (fault.at + nowhere.searched.looked)) where
       abbrev found_none : List ℕ
@@ -685,7 +684,7 @@ module _ {R A S : Type 0} {takes : S → S → List Placed → (told : List ℕ)
 
     module _ (new : RawReader R A) where
       -- by what was found
-      by_found : (window : ℕ) (seeks : way ≡ ToNext window) (far : RawReader R A) (r : ReadsToGoOn window run.left run.calls mid far) (found : Result Found ReadFault) → Resyncs (kept mid ++ r.bytes) mid far window found
+      by_found : (window : ℕ) (seeks : way ≡ ToNext window) (far : RawReader R A) (r : ReadsToGoOn true window run.left run.calls mid far) (found : Result Found ReadFault) → Resyncs (kept mid ++ r.bytes) mid far window found
           → looked_of new ≡ looked_of far → (res : Result Passed ReadFault) → PassesBy run.left run.calls far new window found res → HasOnward new res
       by_found window seeks far r (Ok (At size)) g looked res p =
           transport (λ i. HasOnward (sym p.1 i) (sym p.0 i)) (went far window seeks r (Ok Over) (came_there far window seeks r size g))
@@ -828,7 +827,7 @@ module _ {R A S : Type 0} {takes : S → S → List Placed → (told : List ℕ)
             at_end = (short_covered (Ok Not) o).at_end
 
             nowhere : BeginNowhere run.settings.limits c.0 (effort c.0) o.rest (IsAtEnd (run.left (source_of new)))
-            nowhere = record { searched = c.3.searched; nowhere = c.3.nowhere; resumes = c.3.resumes; all = λ short. at_end (c.3.all short) }
+            nowhere = record { searched = c.3.searched; nowhere = c.3.nowhere; resumes = c.3.resumes; all = elim c.3.all [ inl settled ↦ inl settled | inr end ↦ inr (at_end end) ] }
 
             by_outcome : (outcome : CutOutcome) → Some fault ≡ fault_at_end o.rest outcome → (((f : Fault) → outcome ≡ Refused f → ⊥) → is_ended mid ≡ true) → IsLast (packets_of run) None run.settings run.settings.limits (sizes_of h.gone.parts) (looked_in h.gone.parts) o.rest outcome (IsAtEnd (run.left (source_of new)))
             by_outcome Ended e ended = absurd cc

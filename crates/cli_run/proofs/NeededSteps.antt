@@ -1,5 +1,5 @@
 -- What is read of a source, and for what.
-use Rattle.std.proofs.Common.{◌≡◌, ◌⊎◌, ℕ, ◌+◌, ◌*◌, ◌-◌, ◌<◌, ◌≤◌, List, [], ◌∷◌, ◌++◌, Option}
+use Rattle.std.proofs.Common.{◌≡◌, ◌⊎◌, ℕ, ◌+◌, ◌*◌, ◌-◌, ◌<◌, ◌≤◌, List, [], ◌∷◌, ◌++◌, Option, true}
 use Rattle.std.proofs.Common.{length, take, drop, inl, inr, refl, sym, ap, ◌∙◌, subst, arith}
 use Rattle.std.proofs.Common.{append_assoc, length-append, take-append-drop}
 use Rattle.std.proofs.lemmas.Bool.{cases_lt}
@@ -16,7 +16,7 @@ use Rattle.dbus_validate.proofs.Headed.{alone, followed}
 use Rattle.dbus_stream.specs.Cut.{CutMessage, BeginWith}
 use Rattle.dbus_stream.specs.CutEnds.{sizes}
 use Rattle.dbus_stream.specs.Gathering.{gathering}
-use Rattle.dbus_stream.specs.GoingOn.{ReadsToGoOn, ahead_of}
+use Rattle.dbus_stream.specs.GoingOn.{IsMet, ReadsToGoOn, ahead_of}
 use Rattle.dbus_stream.specs.Next.{ReadsWhile}
 use Rattle.dbus_stream.specs.RawReading as raw
 use Rattle.dbus_stream.specs.Reading.{source_of}
@@ -127,14 +127,15 @@ module _ {R T B A G : Type 0} {b : Ghosts B} (k : Taking T G) (left : R → Opti
 
 -- to look ahead
 module _ {R A : Type 0} (left : R → Option (List ℕ)) (calls : R → ℕ) (window : ℕ) where
-  pub reads_looking : (old new : RawReader R A) (r : ReadsToGoOn window left calls old new)
+  pub reads_looking : (old new : RawReader R A) (r : ReadsToGoOn true window left calls old new)
       (Holds : ℕ → Type 0)
       → ((came : ℕ) → length (raw.kept old) + came < 2 * ahead_of window → Holds came)
       → ReadsIf left calls Holds (raw.source_of old) (raw.source_of new)
   reads_looking old new r Holds f =
       let kept = raw.kept old in
       let Few : List ℕ → Type 0 = λ before.
-      (length kept < ahead_of window) × (length (kept ++ before) < 2 * ahead_of window) in
+      (length kept < ahead_of window) × (length (kept ++ before) < 2 * ahead_of window)
+      × (IsMet true (raw.limits_of old) (take window (kept ++ before)) → ⊥) in
       reads_if gathering Few left calls old.reader new.reader r Holds (λ few.
       f (length r.before) (omega (arith, few.1, length-append kept r.before)))
 

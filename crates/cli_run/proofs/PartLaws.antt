@@ -1,9 +1,8 @@
 -- Parts of an input that follow one another, what is told of them, and the messages among them.
 use Rattle.std.proofs.Common.{is_some, ◌≡◌, ◌⊎◌, ℕ, zero, suc, ◌+◌, ◌*◌, ◌-◌, ◌<◌, ◌≤◌, Bool, true, false, List, [], ◌∷◌, ◌++◌, Option, None, Some, length, take, drop, refl, sym, ap, ◌∙◌, subst, arith, inl, inr, ◌||◌, append_assoc, append-nil, length-append, length-drop, take-append-drop}
 use Rattle.std.proofs.Math.Path.{transport}
-use Rattle.std.proofs.Math.Nat.{le-max_left, le-max_right}
-use Rattle.std.proofs.lemmas.Bool.{cases_lt, false≢true}
-use Rattle.std.proofs.lemmas.List.{drop-append-le, length-take, take-append-le}
+use Rattle.std.proofs.lemmas.Bool.{false≢true}
+use Rattle.std.proofs.lemmas.List.{drop-append-le, length-take}
 use Rattle.dbus_device.specs.Packets.{Packets}
 use Rattle.dbus_value_model.specs.declared.fault.Fault.{Fault}
 use Rattle.dbus_value_model.specs.declared.limits.Limits.{Limits}
@@ -15,10 +14,11 @@ use Rattle.dbus_resync.specs.declared.found.Found.TheVariants.{At, Spent}
 use Rattle.dbus_resync.specs.declared.found.Searched.{Searched}
 use Rattle.dbus_resync.proofs.DamagedLaws.{begins_inside}
 use Rattle.dbus_stream.specs.Cut.{BeginWith, CutMessage, CutOutcome, Ended, Unfinished, Refused}
-use Rattle.dbus_stream.specs.GoingOn.{LeadsOn, Resumes, ahead_of, counted, effort_of}
+use Rattle.dbus_stream.specs.GoingOn.{IsSettled, LeadsOn, counted, effort_of}
 use Rattle.dbus_stream.specs.Next.{IsCutShort}
 use Rattle.dbus_stream.specs.CutEnds.{sizes}
 use Rattle.dbus_stream.proofs.FaultPackets.{refused_later}
+use Rattle.dbus_stream.proofs.MetSteps.{settled_more, settled_sixteen, stays_settled}
 use Rattle.dbus_stream.proofs.SeekSteps.{led_inside}
 use Rattle.dbus_stream.proofs.SizeSteps.{one_size, size_front, size_some}
 use Rattle.cli_options.specs.declared.resync.Resync.{Resync}
@@ -38,10 +38,6 @@ use Rattle.cli_run.specs.declared.tally.Tally.{Tally}
 or_none : (a b : Bool) → a || b ≡ false → (a ≡ false) × (b ≡ false)
 or_none true b e = absurd (false≢true (sym e))
 or_none false b e = (refl, e)
-
--- the bytes of a window are the same, if all of them are there
-pub window_more : (window : ℕ) (bytes more : List ℕ) → window ≤ length bytes → take window (bytes ++ more) ≡ take window bytes
-window_more window bytes more wide = take-append-le window bytes more wide
 
 -- one offset
 at_same : (n k : ℕ) → At n ≡ At k → n ≡ k
@@ -87,23 +83,23 @@ module _ (limits : Limits) where
   abbrev pub StayNowhere : (window effort : ℕ) → Searched → List ℕ → Type 0
   StayNowhere window effort s bytes = (b : BeginNowhere limits window effort bytes (Unit {0})) × (b.searched ≡ s)
 
-  -- whatever follows the window
-  pub nowhere_there : (window effort : ℕ) (bytes more : List ℕ) → window ≤ length bytes → (at_end : Type 0) → (b : BeginNowhere limits window effort bytes at_end) → StayNowhere window effort b.searched (bytes ++ more)
-  nowhere_there window effort bytes more wide at_end b = (
+  -- whatever follows
+  pub nowhere_there : (window effort : ℕ) (bytes more : List ℕ) → IsSettled true limits window bytes → (at_end : Type 0) → (b : BeginNowhere limits window effort bytes at_end) → StayNowhere window effort b.searched (bytes ++ more)
+  nowhere_there window effort bytes more settled at_end b = (
     record {
       searched = b.searched;
       nowhere = b.nowhere;
-      resumes = subst (λ (l : List ℕ). Resumes limits window effort l b.searched) (sym (window_more window bytes more wide)) b.resumes;
-      all = λ _. tt;
+      resumes = settled_more limits window effort bytes more b.searched settled b.resumes;
+      all = inr tt;
     },
     refl,
   )
 
   -- it is so of all of the input
   pub nowhere_more : (window effort : ℕ) (rest more : List ℕ) (at_end : Type 0) → (at_end → more ≡ []) → (b : BeginNowhere limits window effort rest at_end) → StayNowhere window effort b.searched (rest ++ more)
-  nowhere_more window effort rest more at_end none b = elim (cases_lt (length rest) (ahead_of window)) [
-    | inl short ↦ subst (StayNowhere window effort b.searched) (sym (ap (λ (l : List ℕ). rest ++ l) (none (b.all short)) ∙ append-nil rest)) (record { searched = b.searched; nowhere = b.nowhere; resumes = b.resumes; all = λ _. tt }, refl)
-    | inr wide ↦ nowhere_there window effort rest more (omega (arith, wide, le-max_left window 16)) at_end b
+  nowhere_more window effort rest more at_end none b = elim b.all [
+    | inl settled ↦ nowhere_there window effort rest more settled at_end b
+    | inr end ↦ subst (StayNowhere window effort b.searched) (sym (ap (λ (l : List ℕ). rest ++ l) (none end) ∙ append-nil rest)) (record { searched = b.searched; nowhere = b.nowhere; resumes = b.resumes; all = inr tt }, refl)
   ]
 
   -- the message there is larger than the window, whatever follows
@@ -112,9 +108,9 @@ module _ (limits : Limits) where
 
   -- and so it is if it is not
   pub not_larger : (window effort : ℕ) (rest more : List ℕ) (at_end : Type 0) → (at_end → more ≡ []) → BeginNowhere limits window effort rest at_end → (IsLarger limits window rest → ⊥) → IsLarger limits window (rest ++ more) → ⊥
-  not_larger window effort rest more at_end none b small l = elim (cases_lt (length rest) (ahead_of window)) [
-    | inl short ↦ small (subst (IsLarger limits window) (ap (λ (l : List ℕ). rest ++ l) (none (b.all short)) ∙ append-nil rest) l)
-    | inr wide ↦ small (l.0, size_front limits rest more l.0 (omega (arith, wide, le-max_right window 16)) l.1, l.2)
+  not_larger window effort rest more at_end none b small l = elim b.all [
+    | inl settled ↦ small (l.0, size_front limits rest more l.0 (settled_sixteen limits window rest settled) l.1, l.2)
+    | inr end ↦ small (subst (IsLarger limits window) (ap (λ (l : List ℕ). rest ++ l) (none end) ∙ append-nil rest) l)
   ]
 
   size_inside : (bytes front : List ℕ) (by : By) (size : ℕ) → HasSize limits front bytes by size → size ≤ length bytes
@@ -127,12 +123,10 @@ module _ (limits : Limits) where
   size_more bytes more front Stated size open_ h = ((one_size limits bytes more size size h.0).0, omega (arith, h.1, length-append bytes more))
   size_more bytes more front (InPacket number) size open_ h = (h.0, omega (arith, h.1, length-append bytes more))
   size_more bytes more front (Resumed window effort looked to_end) size open_ h =
-      let wide = h.1 open_ in (
-        subst (λ (l : List ℕ). Resumes limits window effort l (record { found = At size; looked = looked })) (sym (window_more window bytes more wide)) h.0,
-        λ _. omega (arith, wide, length-append bytes more),
-      )
+      let settled = h.1 open_ in
+      (settled_more limits window effort bytes more (record { found = At size; looked = looked }) settled h.0, λ _. stays_settled limits window bytes more settled)
   size_more bytes more front (PastWindow window effort looked) size open_ h =
-      let none = nowhere_there window effort bytes more (omega (arith, h.3, h.4)) (Unit {0}) h.0 in
+      let none = nowhere_there window effort bytes more (inl (omega (arith, h.3, h.4, size_some limits bytes size h.2))) (Unit {0}) h.0 in
       (none.0, ap (λ (s : Searched). s.looked) none.1 ∙ h.1, (one_size limits bytes more size size h.2).0, h.3, omega (arith, h.4, length-append bytes more))
 
   -- it is refused, if the input need not end there

@@ -1,6 +1,6 @@
 -- What is made and told of the same parts: the messages among them, and the texts; and of the messages
 -- the texts that commands make that are the same, and exact.
-use Rattle.std.proofs.Common.{◌≡◌, ◌↔◌, ◌⊎◌, if◌then◌else◌, codes, decimal, length, take, ℕ, zero, suc, ◌+◌, Bool, true, false, ◌||◌, ◌&&◌, List, [], ◌∷◌, ◌++◌, drop, map, None, Some, Option, is_some, refl, sym, ap, ◌∙◌, subst, arith, inl, inr}
+use Rattle.std.proofs.Common.{◌≡◌, ◌↔◌, ◌⊎◌, if◌then◌else◌, codes, decimal, length, take, ℕ, zero, suc, ◌+◌, Bool, true, false, ◌||◌, ◌&&◌, List, [], ◌∷◌, ◌++◌, drop, map, None, Some, Option, refl, sym, ap, ◌∙◌, subst, arith, inl, inr}
 use Rattle.std.proofs.lemmas.Bool.{false≢true}
 use Rattle.std.specs.FinSet.{from_list}
 use Rattle.std.specs.declared.alloc.Global.{Global}
@@ -17,15 +17,13 @@ use Rattle.dbus_message_model.specs.Messages.{MessageTree, message_bytes}
 use Rattle.std.proofs.Math.Path.{transport}
 use Rattle.dbus_rule.specs.declared.rule.Rule.{Rule}
 use Rattle.dbus_match.specs.Matching.{Ownership}
-use Rattle.dbus_match.specs.TakenFor.{text_at}
-use Rattle.dbus_message_model.specs.declared.field_code.TheConstants as field
 use Rattle.dbus_rule.specs.Rules.{sender_of}
 use Rattle.dbus_rule.specs.RuleViews.{rule_pairs}
 use Rattle.dbus_names.specs.NameStates.{NameState, known_after as names_after, known_first}
 use Rattle.dbus_rule_set.specs.Owners.{owners_in}
 use Rattle.dbus_calls.specs.Answering.{is_ownable}
 use Rattle.dbus_calls.specs.OwnerChanges.{is_text}
-use Rattle.cli_options.specs.Selections.{AreSameCommand, AreSameSelected, AreSameSelection, OrInverted, SelectsBy, SomeHolds, asked_rules, bus_rules}
+use Rattle.cli_options.specs.Selections.{AreSameCommand, AreSameSelected, AreSameSelection, OrInverted, SelectsBy, SomeHolds}
 use Rattle.cli_options.specs.declared.selection.Question.{Question}
 use Rattle.cli_options.specs.declared.selection.Question.TheVariants as questions
 use Rattle.cli_options.specs.declared.command.Command.{Command}
@@ -53,7 +51,6 @@ use Rattle.cli_run.specs.Laws.{HaveNoDouble}
 use Rattle.cli_run.specs.Output.{AreAlike, IsExact, form_of, IsOutputOf, IsOutputOfAll, IsTextOf, Picks, PicksBy, is_check}
 use Rattle.cli_run.specs.Going.{AreTold, IsTold, IsToldIn, IsToldLast, IsToldOf, IsToldRefused, passed_count, status_at}
 use Rattle.cli_run.specs.declared.place.MessagePlace.{MessagePlace}
-use Rattle.cli_options.proofs.Selections.{same_bus_rules}
 use Rattle.cli_run.proofs.Outputs.{output_all_one}
 use Rattle.cli_run.proofs.PartLaws.{either_fault}
 use Rattle.cli_run.proofs.RuleSets.{same_some}
@@ -192,18 +189,14 @@ inverted_both : (b : Bool) (P Q : Type 0) → (P → Q) → (Q → P) → OrInve
 inverted_both false P Q f g h = f h
 inverted_both true P Q f g h = λ q. h (g q)
 
-same_asked : (a b : Selection) (m : MessageTree) → AreSameSelection a b → map rule_pairs (asked_rules a m) ≡ map rule_pairs (asked_rules b m)
-same_asked a b m h =
-    let has = is_some (text_at field.DESTINATION m) in
-    same_bus_rules (a.as_bus && has) a.rules.items b.rules.items h.rules ∙ ap (λ c. map rule_pairs (bus_rules (c && has) b.rules.items)) h.as_bus
-
 same_selects : (a b : Selection) (os : List Ownership) (m : MessageTree) → AreSameSelection a b → SelectsBy a os m → SelectsBy b os m
 same_selects a b os m h s =
-    let asked = same_asked a b m h in
-    let there = same_some b.question (asked_rules a m) (asked_rules b m) m os asked in
-    let back = same_some b.question (asked_rules b m) (asked_rules a m) m os (sym asked) in
-    subst (λ c. OrInverted c (SomeHolds b.question (asked_rules b m) m os)) h.inverted
-    (inverted_both a.is_inverted _ _ there back (subst (λ (q : Question). OrInverted a.is_inverted (SomeHolds q (asked_rules a m) m os)) h.question s))
+    let there = same_some b.as_bus b.question a.rules.items b.rules.items m os h.rules in
+    let back = same_some b.as_bus b.question b.rules.items a.rules.items m os (sym h.rules) in
+    let asked : OrInverted a.is_inverted (SomeHolds b.as_bus b.question a.rules.items m os) =
+    subst (λ (as_bus : Bool). OrInverted a.is_inverted (SomeHolds as_bus b.question a.rules.items m os)) h.as_bus
+    (subst (λ (q : Question). OrInverted a.is_inverted (SomeHolds a.as_bus q a.rules.items m os)) h.question s) in
+    subst (λ c. OrInverted c (SomeHolds b.as_bus b.question b.rules.items m os)) h.inverted (inverted_both a.is_inverted _ _ there back asked)
 
 same_picks : (a b : Option Selection) → AreSameSelected a b → (os : NameState) (m : MessageTree) → Selects a os m ↔ Selects b os m
 same_picks None None s os m = (λ p. p, λ p. p)

@@ -10,6 +10,7 @@ use Rattle.dbus_header.specs.MessageOutcomes.{IsWhole, IsRefused, IsPartial}
 use Rattle.dbus_header.proofs.OutcomeLaws.{not_both, nothing_partial, one_fault, one_outcome, one_whole, refused_for_good}
 use Rattle.dbus_resync.specs.declared.found.Found.TheVariants.{At}
 use Rattle.dbus_resync.specs.declared.found.Searched.{Searched}
+use Rattle.dbus_stream.specs.GoingOn.{IsSettled}
 use Rattle.dbus_stream.specs.Cut.{CutMessage, CutOutcome, Ended, Unfinished, Refused, IsOutcome}
 use Rattle.dbus_stream.specs.CutEnds.{fault_at_end, truncated}
 use Rattle.dbus_stream.specs.Lasting.{is_truncated}
@@ -98,11 +99,11 @@ module _ (limits : Limits) where
 
   -- the input ends in the window, or does not
   same_end : (w : List ℕ) (fault : Fault) (window effort looked : ℕ) (a b : Bool) → IsFaultOf limits w fault (Resumed window effort looked a) → IsFaultOf limits w fault (Resumed window effort looked b)
-      → (a ≡ false → window ≤ length w) → (b ≡ false → window ≤ length w) → a ≡ b
+      → (a ≡ false → IsSettled true limits window w) → (b ≡ false → IsSettled true limits window w) → a ≡ b
   same_end w fault window effort looked true true f g wide also = refl
   same_end w fault window effort looked false false f g wide also = refl
-  same_end w fault window effort looked true false f g wide also = absurd (elim f [ inl short ↦ omega (arith, short.1, also refl) | inr cut ↦ not_cut w fault fault g cut ])
-  same_end w fault window effort looked false true f g wide also = absurd (elim g [ inl short ↦ omega (arith, short.1, wide refl) | inr cut ↦ not_cut w fault fault f cut ])
+  same_end w fault window effort looked true false f g wide also = absurd (elim f [ inl open_ ↦ open_.1 (also refl) | inr cut ↦ not_cut w fault fault g cut ])
+  same_end w fault window effort looked false true f g wide also = absurd (elim g [ inl open_ ↦ open_.1 (wide refl) | inr cut ↦ not_cut w fault fault f cut ])
 
   module _ (all : Packets) (seek : Seek) (offset : ℕ) (w front : List ℕ) (fault : Fault) where
     abbrev IsOver : By → ℕ → Type 0
@@ -148,7 +149,7 @@ module _ (limits : Limits) where
         let place : At n ≡ At m = ap (λ (s : Searched). s.found) one in
         let count : looked ≡ seen = ap (λ (s : Searched). s.looked) one in
         let size : n ≡ m = cc in
-        let ends : to_end ≡ end = same_end w fault window effort looked to_end end x.0.1 (transport (λ i. IsFaultOf limits w fault (Resumed (same.0 i) (same.1 i) (sym count i) end)) y.0.1) x.0.2.1 (λ e. subst (λ (k : ℕ). k ≤ length w) same.0 (y.0.2.1 e)) in
+        let ends : to_end ≡ end = same_end w fault window effort looked to_end end x.0.1 (transport (λ i. IsFaultOf limits w fault (Resumed (same.0 i) (same.1 i) (sym count i) end)) y.0.1) x.0.2.1 (λ e. subst (λ (k : ℕ). IsSettled true limits k w) same.0 (y.0.2.1 e)) in
         λ i. PassedOver front fault (Resumed (sym same.0 i) (sym same.1 i) (count i) (ends i)) (size i)
     one_over (Resumed window effort looked to_end) (PastWindow wide more seen) n m x y = absurd (not_nowhere seek window effort looked wide more n w x.1.0 y.1.0 x.0.2.0 y.0.2.0)
     one_over (PastWindow window effort looked) Stated n m x y = absurd (let both = sym x.1.0 ∙ y.1.0 in cc)

@@ -14,7 +14,7 @@ use Rattle.cli_options.specs.declared.resync.Resync.{Resync}
 use Rattle.cli_options.specs.declared.resync.Resync.TheVariants.{Off, Within}
 use Rattle.cli_options.specs.declared.settings.Settings.{Settings}
 use Rattle.dbus_stream.specs.Cut.{CutMessage, CutOutcome, Ended, Unfinished, Refused}
-use Rattle.dbus_stream.specs.GoingOn.{Resumes, ahead_of, counted, effort_of}
+use Rattle.dbus_stream.specs.GoingOn.{IsSettled, Resumes, counted, effort_of}
 use Rattle.dbus_stream.specs.Lasting.{is_truncated}
 use Rattle.dbus_stream.specs.Next.{IsCutShort}
 use Rattle.dbus_stream.specs.Packed.{IsOther}
@@ -56,13 +56,13 @@ abbrev pub is_there : Found → Bool
 is_there (At offset) = true
 is_there found = false
 
--- messages begin again nowhere in the window, and so many bytes are there as are looked ahead at,
--- unless the input ends before
+-- messages begin again nowhere in the window, and what is found there is settled, unless the input
+-- ends before
 pub record BeginNowhere (limits : Limits) (window effort : ℕ) (rest : List ℕ) (at_end : Type 0) : Type 0 where
   pub searched : Searched
   pub nowhere : is_there searched.found ≡ false
   pub resumes : ResumeIn limits window effort rest searched
-  pub all : length rest < ahead_of window → at_end
+  pub all : IsSettled true limits window rest ⊎ at_end
 
 -- the message that the bytes begin with states that it is larger than the window
 abbrev pub IsLarger : Limits → (window : ℕ) → List ℕ → Type 0
@@ -70,18 +70,19 @@ IsLarger limits window bytes = (size : ℕ) × StatesSize limits bytes size × (
 
 -- a refused message has this size: that which it states, and so many bytes are there; or, of a
 -- packet, that of at least the bytes that show its fault, and others follow; or messages begin again
--- behind it, and all bytes of the window are there, unless the input ends there; or they begin again
+-- behind it, and what is found is settled, unless the input ends there; or they begin again
 -- nowhere in the window, and it states this size, which is larger, and so many bytes are there
 abbrev pub HasSize : Limits → (front bytes : List ℕ) → By → ℕ → Type 0
 HasSize limits front bytes Stated size = StatesSize limits bytes size × (size ≤ length bytes)
 HasSize limits front bytes (InPacket number) size = (length front ≤ size) × (size < length bytes)
-HasSize limits front bytes (Resumed window effort looked to_end) size = ResumeIn limits window effort bytes (record { found = At size; looked = looked }) × (to_end ≡ false → window ≤ length bytes)
+HasSize limits front bytes (Resumed window effort looked to_end) size = ResumeIn limits window effort bytes (record { found = At size; looked = looked }) × (to_end ≡ false → IsSettled true limits window bytes)
 HasSize limits front bytes (PastWindow window effort looked) size =
     (none : BeginNowhere limits window effort bytes (Unit {0})) × (none.searched.looked ≡ looked) × StatesSize limits bytes size × (window < size) × (size ≤ length bytes)
 
--- it is refused for this; or the input ends within it, and messages begin again before
+-- it is refused for this, and what is found behind it is not settled before the input ends, if that
+-- is told; or the input ends within it, and messages begin again before
 abbrev pub IsFaultOf : Limits → List ℕ → Fault → By → Type 0
-IsFaultOf limits bytes fault (Resumed window effort looked true) = (IsRefused limits bytes fault × (length bytes < window)) ⊎ IsCutShort limits bytes fault
+IsFaultOf limits bytes fault (Resumed window effort looked true) = (IsRefused limits bytes fault × (IsSettled true limits window bytes → ⊥)) ⊎ IsCutShort limits bytes fault
 IsFaultOf limits bytes fault by = IsRefused limits bytes fault
 
 -- the bytes begin with this part

@@ -61,7 +61,7 @@ module _ {R A : Type 0} (left : R → Option (List ℕ)) (calls : R → ℕ) (pa
   pub record Resyncing (window : ℕ) (result : Result Passed ReadFault) : Type 0 where
     pub mid : RawReader R A
     pub found : Result Found ReadFault
-    pub reads : ReadsToGoOn window left calls old mid
+    pub reads : ReadsToGoOn true window left calls old mid
     pub goes : Resyncs (kept old ++ reads.bytes) old mid window found
     pub passes : PassesBy left calls mid new window found result
     pub looked : KeepsLooked mid new

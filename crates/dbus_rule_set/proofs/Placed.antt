@@ -1,5 +1,5 @@
 -- Where a rule stands, and that a message which it matches leads there.
-use Rattle.std.proofs.Common.{◌≡◌, ◌⊎◌, ⊎_elim, inl, inr, ℕ, zero, suc, ◌<◌, true, List, [], ◌∷◌, length, get_or, Option, None, Some, MatchOption, sym, ap, ◌∙◌, subst, arith}
+use Rattle.std.proofs.Common.{◌≡◌, ◌⊎◌, ⊎_elim, inl, inr, ℕ, zero, suc, ◌<◌, Bool, true, List, [], ◌∷◌, length, get_or, Option, None, Some, MatchOption, sym, ap, ◌∙◌, subst, arith}
 use Rattle.std.specs.List.{AllByRecursion}
 use Rattle.std.specs.Option.{option_map}
 use Rattle.std.proofs.lemmas.Bool.{and_parts, and_from, or_cases, or_left, or_right, eqb-true, eq-eqb, ltb-true, lt-ltb, cases_eq}
@@ -71,9 +71,9 @@ leads h (p ∷ ps) m os t all =
     (or_cases (is_under h p) (is_placed h ps) t)
 
 -- those of a kind that match have hashes of which H holds, as of those that its key leads to
-module _ {A : Type 0} (m : MessageTree) (os : OwnerSet) (key : Key) (kind : ℕ) (H : ℕ → Type 0) (keyed : kind < 136 → IsKey key × (rank key ≡ kind)) (other : kind ≡ 136 → ⊥)
+module _ {A : Type 0} (as_bus : Bool) (m : MessageTree) (os : OwnerSet) (key : Key) (kind : ℕ) (H : ℕ → Type 0) (keyed : kind < 136 → IsKey key × (rank key ≡ kind)) (other : kind ≡ 136 → ⊥)
     (met : (v : List ℕ) → HoldsAt key v m (owners_in os) → H (place_hash key v)) where
-  one_met : (e : RuleHandle × Rule A) → Stands e → EntryMatches m os e → e.0.kind ≡ kind → H e.0.hash
+  one_met : (e : RuleHandle × Rule A) → Stands e → EntryMatches as_bus m os e → e.0.kind ≡ kind → H e.0.hash
   one_met e stands matches is =
       ⊎_elim
       (λ n. absurd (other (sym is ∙ n)))
@@ -83,9 +83,9 @@ module _ {A : Type 0} (m : MessageTree) (os : OwnerSet) (key : Key) (kind : ℕ)
       let k = keyed below in
       let same : l.key ≡ key = rank_same l.key key l.is_key k.0 (sym l.kind ∙ is ∙ sym k.1) in
       subst H (sym (l.hash ∙ ap (λ x. place_hash x l.value) same)) (met l.value (subst (λ x. HoldsAt x l.value m (owners_in os)) same l.holds)))
-      (leads e.0 (rule_pairs e.1) m (owners_in os) stands.1 matches)
+      (leads e.0 (rule_pairs e.1) m (owners_in os) stands.1 matches.1)
 
-  pub have_met : (es : List (RuleHandle × Rule A)) → AllByRecursion Stands es → AllByRecursion (λ e. EntryMatches m os e → e.0.kind ≡ kind → H e.0.hash) es
+  pub have_met : (es : List (RuleHandle × Rule A)) → AllByRecursion Stands es → AllByRecursion (λ e. EntryMatches as_bus m os e → e.0.kind ≡ kind → H e.0.hash) es
   have_met [] all = tt
   have_met (e ∷ es) all = (λ p is. one_met e all.0 p is, have_met es all.1)
 

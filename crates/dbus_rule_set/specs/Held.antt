@@ -1,6 +1,6 @@
 -- What a set of rules holds, and what it finds for a message.
 -- D-Bus Specification, "Match Rules".
-use Rattle.std.specs.Prelude.{◌≡◌, ℕ, ◌⊎◌, List, [], ◌∷◌, ◌++◌, Option}
+use Rattle.std.specs.Prelude.{◌≡◌, ℕ, ◌⊎◌, List, [], ◌∷◌, ◌++◌, Bool, IsTrue, Option}
 use Rattle.std.specs.BTreeMap.{is_at, insert_entry}
 use Rattle.std.specs.List.Sorted.{IsStrictlySortedBy}
 use Rattle.std.specs.Map.{keys_of, lookup, remove_entry}
@@ -11,12 +11,17 @@ use Rattle.dbus_match.specs.Matching.{Matches}
 use Rattle.dbus_match.specs.TakenFor.{MayMatch}
 use Rattle.dbus_rule_set.specs.declared.handle.RuleHandle.{RuleHandle}
 use Rattle.dbus_rule_set.specs.declared.rule_set.RuleSet.{RuleSet}
+use Rattle.dbus_rule_set.specs.Eavesdropping.{is_asked}
 use Rattle.dbus_rule_set.specs.Handles.{handle_cmp}
 use Rattle.dbus_rule_set.specs.Owners.{OwnerSet, owners_in}
 
 -- the rules of a set, each with its handle, in the order of the handles
 abbrev pub held : {A : Type 0} → RuleSet A → List (RuleHandle × Rule A)
 held s = s.rules.entries
+
+-- whether its rules are asked as a bus asks them
+abbrev pub asks_as_bus : {A : Type 0} → RuleSet A → Bool
+asks_as_bus s = s.as_bus
 
 -- how many handles the set gave; each has a number below that
 abbrev pub given : {A : Type 0} → RuleSet A → ℕ
@@ -38,13 +43,13 @@ without h es = remove_entry (is_at (handle_cmp h)) es
 abbrev pub AreApart : {A : Type 0} → List (RuleHandle × Rule A) → Type 0
 AreApart es = IsStrictlySortedBy handle_cmp (keys_of es)
 
--- the rule matches the message, with these owners of names
-abbrev pub EntryMatches : {A : Type 0} → MessageTree → OwnerSet → RuleHandle × Rule A → Type 0
-EntryMatches m os e = Matches (rule_pairs e.1) m (owners_in os)
+-- the rule is asked of the message, as a bus asks or not, and matches it, with these owners of names
+abbrev pub EntryMatches : {A : Type 0} → (as_bus : Bool) → MessageTree → OwnerSet → RuleHandle × Rule A → Type 0
+EntryMatches as_bus m os e = IsTrue (is_asked as_bus m (rule_pairs e.1)) × Matches (rule_pairs e.1) m (owners_in os)
 
--- the rule may match it, if this is known of who sends it
-abbrev pub EntryMayMatch : {A : Type 0} → MessageTree → (known : Option (List ℕ)) → OwnerSet → RuleHandle × Rule A → Type 0
-EntryMayMatch m known os e = ∥ MayMatch (rule_pairs e.1) m known (owners_in os) ∥₁
+-- it is asked of it, and may match it, if this is known of who sends it
+abbrev pub EntryMayMatch : {A : Type 0} → (as_bus : Bool) → MessageTree → (known : Option (List ℕ)) → OwnerSet → RuleHandle × Rule A → Type 0
+EntryMayMatch as_bus m known os e = IsTrue (is_asked as_bus m (rule_pairs e.1)) × ∥ MayMatch (rule_pairs e.1) m known (owners_in os) ∥₁
 
 -- in order, the handle of each rule of which P holds comes to the end of a list, and no other
 abbrev pub Collects : {A : Type 0} → (RuleHandle × Rule A → Type 0) → List (RuleHandle × Rule A) → List RuleHandle → List RuleHandle → Type 0

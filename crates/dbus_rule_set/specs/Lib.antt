@@ -5,3 +5,4 @@ pub mod Held
 pub mod Searches
 pub mod Owners
 pub mod Groups
+pub mod Eavesdropping

@@ -7,12 +7,13 @@
 //! An example is at [`RuleSet`].
 //!
 //! [`RuleSet::any_may_match`] says whether a rule may match a message, as one who forbids messages
-//! asks.
+//! asks. After [`RuleSet::ask_as_bus`] a set asks as a bus does.
 //!
 //! [`Owners`] keeps the owners of well-known names from message to message, for
 //! [`RuleSet::matching`], [`RuleSet::any_matches`] and [`RuleSet::any_may_match`].
 #![tactic(auto)]
 
+mod asked;
 mod groups;
 mod handle;
 mod kinds;

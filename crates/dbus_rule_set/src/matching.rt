@@ -39,7 +39,7 @@ fn is_sent(wanted: Option<&str>, view: &MessageView, owners: &Owners) -> bool
 
 /// Whether each key of the rule holds of the message. It takes time for the logarithm of the number
 /// of names.
-pub(crate) fn matches<A: Allocator>(rule: &Rule<A>, view: &MessageView, owners: &Owners) -> bool
+pub(crate) fn keys_hold<A: Allocator>(rule: &Rule<A>, view: &MessageView, owners: &Owners) -> bool
     ensures { (order : Order) (m : MessageTree) → Views view.now order m →
         IsTrue result ↔ Matches (rule_pairs rule.now) m (owners_in owners.now) }
 {

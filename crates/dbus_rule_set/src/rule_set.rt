@@ -1,7 +1,7 @@
 //! Sets of rules.
 #![tactic(auto)]
 
-ghost use Rattle.std.specs.Prelude.{◌≡◌, ◌+◌, ◌↔◌, [], None, Some, IsTrue, IfOk, IfErr, OnOk, OnErr, length, option_map};
+ghost use Rattle.std.specs.Prelude.{◌≡◌, ◌+◌, ◌↔◌, false, [], None, Some, IsTrue, IfOk, IfErr, OnOk, OnErr, length, option_map};
 ghost use Rattle.std.specs.List.{AllByRecursion};
 ghost use Rattle.std.specs.BTreeMap.{IsOrdered};
 ghost use Rattle.std.specs.Option.{option_copied};
@@ -12,6 +12,7 @@ ghost use Rattle.dbus_view.specs.Views.{Views};
 ghost use Rattle.dbus_rule_set.specs.Handles.{handle_cmp};
 ghost use Rattle.dbus_rule_set.specs.Places.{IsIndexed, IsKept};
 
+use crate::asked::{Asked, is_asked};
 use crate::handle::RuleHandle;
 use crate::kinds::Kinds;
 use crate::owners::Owners;
@@ -54,6 +55,8 @@ pub struct RuleSet<A: Allocator = Global> {
     rules: BTreeMap<RuleHandle, Rule<A>, A>,
     /// The number of handles that were given.
     next: u64,
+    /// Whether the rules are asked as a bus asks them.
+    as_bus: bool,
     /// The kinds of the rules that were added.
     kinds: Kinds,
     ghost ordered: { IsOrdered handle_cmp rules } by { Prim.hlevel props },
@@ -62,18 +65,41 @@ pub struct RuleSet<A: Allocator = Global> {
 }
 
 impl<A: Allocator> RuleSet<A> {
-    ghost use Rattle.dbus_rule_set.specs.Held.{held, given, rule_at, with_rule, without, AreApart, Collects, EntryMatches, EntryMayMatch, HoldsOfAny};
+    ghost use Rattle.dbus_rule_set.specs.Held.{held, given, asks_as_bus, rule_at, with_rule, without, AreApart, Collects, EntryMatches, EntryMayMatch, HoldsOfAny};
 
     /// A set with no rules. It allocates nothing.
     pub fn new(alloc: A) -> Self
         ensures empty { held result ≡ [] }
         ensures given { given result ≡ 0 }
+        ensures plain { asks_as_bus result ≡ false }
     {
         RuleSet {
             rules: BTreeMap::new(alloc),
             next: 0,
+            as_bus: false,
             kinds: Kinds::new(),
         }
+    }
+
+    /// Asks the rules as a bus asks them from now on, or, if not `as_bus`, as a new set does. A bus
+    /// asks of a message with a DESTINATION only rules with `eavesdrop='true'`, so that no other
+    /// matches or may match it. A new set asks each rule of each message, and `eavesdrop` has no
+    /// effect. D-Bus Specification, "Eavesdropping".
+    ///
+    /// ```rust
+    /// use dbus_match::parse_rule;
+    /// use dbus_rule_set::RuleSet;
+    ///
+    /// let mut rules = RuleSet::new(alloc);
+    /// rules.ask_as_bus(true);
+    /// rules.add(parse_rule(alloc, "type='method_call',eavesdrop='true'")?)?;
+    /// ```
+    pub fn ask_as_bus(&mut self, as_bus: bool)
+        ensures asked { asks_as_bus self.new ≡ as_bus }
+        ensures held { held self.new ≡ held self.old }
+        ensures given { given self.new ≡ given self.old }
+    {
+        self.as_bus = as_bus;
     }
 
     /// Adds the rule, and returns its handle, which the set did not give before.
@@ -98,6 +124,7 @@ impl<A: Allocator> RuleSet<A> {
         ensures added { IfOk result (λ h. held self.new ≡ with_rule h rule (held self.old)) }
         ensures unchanged { OnErr result ((held self.new ≡ held self.old) × (given self.new ≡ given self.old)) }
         ensures returned { IfErr result (λ e. e.value ≡ rule) }
+        ensures asked { asks_as_bus self.new ≡ asks_as_bus self.old }
     {
         let number = self.next;
         if number == u64::MAX {
@@ -134,6 +161,7 @@ impl<A: Allocator> RuleSet<A> {
         ensures rule { result ≡ rule_at handle (held self.old) }
         ensures removed { held self.new ≡ without handle (held self.old) }
         ensures given { given self.new ≡ given self.old }
+        ensures asked { asks_as_bus self.new ≡ asks_as_bus self.old }
     {
         self.rules.remove(&handle)
     }
@@ -194,12 +222,17 @@ impl<A: Allocator> RuleSet<A> {
         found: &mut Vec<RuleHandle, A>,
     ) -> Result<(), AllocError>
         ensures found { (order : Order) (m : MessageTree) → Views view.now order m →
-            OnOk result (Collects (EntryMatches m owners.now) (held self.now) found.old.items found.new.items) }
+            OnOk result (Collects (EntryMatches (asks_as_bus self.now) m owners.now) (held self.now) found.old.items found.new.items) }
         ensures once { AreApart (held self.now) }
         ensures unchanged { OnErr result (found.new.items ≡ found.old.items) }
     {
         let before = found.len();
-        match search(&self.rules, &self.kinds, view, owners, found) {
+        let asked = Asked {
+            view,
+            owners,
+            as_bus: self.as_bus,
+        };
+        match search(&self.rules, &self.kinds, &asked, found) {
             Ok(()) => Ok(()),
             Err(refused) => {
                 found.truncate(before);
@@ -226,9 +259,14 @@ impl<A: Allocator> RuleSet<A> {
     /// ```
     pub fn any_matches(&self, view: &MessageView, owners: &Owners) -> bool
         ensures { (order : Order) (m : MessageTree) → Views view.now order m →
-            IsTrue result ↔ HoldsOfAny (EntryMatches m owners.now) (held self.now) }
+            IsTrue result ↔ HoldsOfAny (EntryMatches (asks_as_bus self.now) m owners.now) (held self.now) }
     {
-        search(&self.rules, &self.kinds, view, owners, &mut FirstOnly).is_err()
+        let asked = Asked {
+            view,
+            owners,
+            as_bus: self.as_bus,
+        };
+        search(&self.rules, &self.kinds, &asked, &mut FirstOnly).is_err()
     }
 
     /// Whether any rule may match the message, as [`dbus_match::may_match_view`] says, with these
@@ -250,11 +288,11 @@ impl<A: Allocator> RuleSet<A> {
     /// ```
     pub fn any_may_match(&self, view: &MessageView, sender: Option<&str>, owners: &Owners) -> bool
         ensures { (order : Order) (m : MessageTree) → Views view.now order m →
-            IsTrue result ↔ HoldsOfAny (EntryMayMatch m (option_map (λ s. s.now) sender.entry) owners.now)
+            IsTrue result ↔ HoldsOfAny (EntryMayMatch (asks_as_bus self.now) m (option_map (λ s. s.now) sender.entry) owners.now)
             (held self.now) }
     {
         for (_handle, rule) in &self.rules {
-            if may_match_known(rule, view, sender, owners) {
+            if is_asked(rule, view, self.as_bus) && may_match_known(rule, view, sender, owners) {
                 return true;
             }
         }

@@ -10,15 +10,13 @@ ghost use Rattle.dbus_rule_set.specs.Places.{IsAmong, IsIndexed, IsNext, Stands}
 ghost use Rattle.dbus_rule_set.specs.Held.{Collects, EntryMatches, HoldsOfAny};
 ghost use Rattle.dbus_rule_set.specs.Searches.{Searches};
 
+use crate::asked::Asked;
 use crate::handle::RuleHandle;
 use crate::kinds::{KINDS, Kinds, key_of};
-use crate::matching::matches;
 use crate::met::met;
-use crate::owners::Owners;
 use crate::places::rules_between;
 use crate::visitor::RuleVisitor;
 use dbus_match::Rule;
-use dbus_view::MessageView;
 use std::alloc::Allocator;
 use std::collections::BTreeMap;
 use std::collections::btree_map::Range;
@@ -30,19 +28,18 @@ const FEW: usize = 8;
 #[tactic(auto, using(crate::proofs::Begins::begins_on))]
 fn ask_each<A: Allocator, V: RuleVisitor>(
     rules: Range<'_, RuleHandle, Rule<A>>,
-    view: &MessageView,
-    owners: &Owners,
+    asked: &Asked,
     visitor: &mut V,
 ) -> Result<(), V::Stop>
-    ensures found { (order : Order) (m : MessageTree) → Views view.now order m →
-        OnOk result (Collects (EntryMatches m owners.now) rules.entry
+    ensures found { (order : Order) (m : MessageTree) → Views asked.now.view.now order m →
+        OnOk result (Collects (EntryMatches asked.now.as_bus m asked.now.owners.now) rules.entry
         (V.gathered visitor.old) (V.gathered visitor.new)) }
-    ensures stopped { (order : Order) (m : MessageTree) → Views view.now order m →
-        OnErr result (HoldsOfAny (EntryMatches m owners.now) rules.entry) }
+    ensures stopped { (order : Order) (m : MessageTree) → Views asked.now.view.now order m →
+        OnErr result (HoldsOfAny (EntryMatches asked.now.as_bus m asked.now.owners.now) rules.entry) }
     ensures kept { take (length (V.gathered visitor.old)) (V.gathered visitor.new) ≡ V.gathered visitor.old }
 {
     for (handle, rule) in rules {
-        if matches(rule, view, owners) {
+        if asked.matches(rule) {
             visitor.visit(*handle)?;
         }
     }
@@ -79,24 +76,23 @@ fn ask_hashes<A: Allocator, V: RuleVisitor>(
     rules: &BTreeMap<RuleHandle, Rule<A>, A>,
     kind: u8,
     hashes: &[u32],
-    view: &MessageView,
-    owners: &Owners,
+    asked: &Asked,
     visitor: &mut V,
 ) -> Result<(), V::Stop>
-    ensures found { (order : Order) (m : MessageTree) → Views view.now order m →
-        AllByRecursion (λ e. EntryMatches m owners.now e → e.0.kind ≡ kind → IsAmong e.0.hash hashes.now)
+    ensures found { (order : Order) (m : MessageTree) → Views asked.now.view.now order m →
+        AllByRecursion (λ e. EntryMatches asked.now.as_bus m asked.now.owners.now e → e.0.kind ≡ kind → IsAmong e.0.hash hashes.now)
         rules.now.entries →
-        OnOk result (Searches (EntryMatches m owners.now) rules.now.entries kind
+        OnOk result (Searches (EntryMatches asked.now.as_bus m asked.now.owners.now) rules.now.entries kind
         (V.gathered visitor.old) (V.gathered visitor.new)) }
-    ensures stopped { (order : Order) (m : MessageTree) → Views view.now order m →
-        OnErr result (HoldsOfAny (EntryMatches m owners.now) rules.now.entries) }
+    ensures stopped { (order : Order) (m : MessageTree) → Views asked.now.view.now order m →
+        OnErr result (HoldsOfAny (EntryMatches asked.now.as_bus m asked.now.owners.now) rules.now.entries) }
     ensures kept { take (length (V.gathered visitor.old)) (V.gathered visitor.new) ≡ V.gathered visitor.old }
 {
     let mut from = 0;
     while let Some(hash) = next_of(hashes, from) {
         let first = u64::from(hash);
         let there = rules_between(rules, kind, first, kind, first + 1);
-        ask_each(there, view, owners, visitor)?;
+        ask_each(there, asked, visitor)?;
         from = first + 1;
     }
     Ok(())
@@ -106,27 +102,21 @@ fn ask_hashes<A: Allocator, V: RuleVisitor>(
 fn ask_kind<A: Allocator, V: RuleVisitor>(
     rules: &BTreeMap<RuleHandle, Rule<A>, A>,
     kind: u8,
-    view: &MessageView,
-    owners: &Owners,
+    asked: &Asked,
     visitor: &mut V,
 ) -> Result<(), V::Stop>
     requires small { kind < 137 }
     requires placed { AllByRecursion Stands rules.now.entries }
-    ensures found { (order : Order) (m : MessageTree) → Views view.now order m →
-        OnOk result (Searches (EntryMatches m owners.now) rules.now.entries kind
+    ensures found { (order : Order) (m : MessageTree) → Views asked.now.view.now order m →
+        OnOk result (Searches (EntryMatches asked.now.as_bus m asked.now.owners.now) rules.now.entries kind
         (V.gathered visitor.old) (V.gathered visitor.new)) }
-    ensures stopped { (order : Order) (m : MessageTree) → Views view.now order m →
-        OnErr result (HoldsOfAny (EntryMatches m owners.now) rules.now.entries) }
+    ensures stopped { (order : Order) (m : MessageTree) → Views asked.now.view.now order m →
+        OnErr result (HoldsOfAny (EntryMatches asked.now.as_bus m asked.now.owners.now) rules.now.entries) }
     ensures kept { take (length (V.gathered visitor.old)) (V.gathered visitor.new) ≡ V.gathered visitor.old }
 {
-    match met(key_of(kind), view, owners) {
-        Some(hashes) => ask_hashes(rules, kind, hashes.as_slice(), view, owners, visitor),
-        None => ask_each(
-            rules_between(rules, kind, 0, kind + 1, 0),
-            view,
-            owners,
-            visitor,
-        ),
+    match met(key_of(kind), asked.view, asked.owners) {
+        Some(hashes) => ask_hashes(rules, kind, hashes.as_slice(), asked, visitor),
+        None => ask_each(rules_between(rules, kind, 0, kind + 1, 0), asked, visitor),
     }
 }
 
@@ -137,26 +127,25 @@ fn ask_kind<A: Allocator, V: RuleVisitor>(
 pub(crate) fn search<A: Allocator, V: RuleVisitor>(
     rules: &BTreeMap<RuleHandle, Rule<A>, A>,
     kinds: &Kinds,
-    view: &MessageView,
-    owners: &Owners,
+    asked: &Asked,
     visitor: &mut V,
 ) -> Result<(), V::Stop>
     requires indexed { AllByRecursion (IsIndexed kinds.now) rules.now.entries }
-    ensures found { (order : Order) (m : MessageTree) → Views view.now order m →
-        OnOk result (Collects (EntryMatches m owners.now) rules.now.entries
+    ensures found { (order : Order) (m : MessageTree) → Views asked.now.view.now order m →
+        OnOk result (Collects (EntryMatches asked.now.as_bus m asked.now.owners.now) rules.now.entries
         (V.gathered visitor.old) (V.gathered visitor.new)) }
-    ensures stopped { (order : Order) (m : MessageTree) → Views view.now order m →
-        OnErr result (HoldsOfAny (EntryMatches m owners.now) rules.now.entries) }
+    ensures stopped { (order : Order) (m : MessageTree) → Views asked.now.view.now order m →
+        OnErr result (HoldsOfAny (EntryMatches asked.now.as_bus m asked.now.owners.now) rules.now.entries) }
     ensures kept { take (length (V.gathered visitor.old)) (V.gathered visitor.new) ≡ V.gathered visitor.old }
 {
     if rules.len() <= FEW {
-        return ask_each(rules_between(rules, 0, 0, KINDS, 0), view, owners, visitor);
+        return ask_each(rules_between(rules, 0, 0, KINDS, 0), asked, visitor);
     }
     for kind in 0..KINDS {
         if !kinds.has(kind) {
             continue;
         }
-        ask_kind(rules, kind, view, owners, visitor)?;
+        ask_kind(rules, kind, asked, visitor)?;
     }
     Ok(())
 }

@@ -1,4 +1,4 @@
-use Rattle.std.proofs.Common.{◌≡◌, ◌++◌, ℕ, List, Option, Result, Ok, Err, IfOk, refl, subst}
+use Rattle.std.proofs.Common.{◌≡◌, ◌++◌, ℕ, List, Option, Result, Ok, Err, IfOk, refl, subst, true}
 use Rattle.dbus_resync.specs.declared.found.Found.{Found}
 use Rattle.dbus_resync.specs.declared.found.Found.TheVariants.{At, Nowhere, Spent}
 use Rattle.dbus_stream.specs.GoingOn.{ReadsToGoOn, Resyncs}
@@ -10,7 +10,7 @@ use Rattle.cli_run.proofs.going.seek.Goals as goal
 module _ {R A : Type 0} (left : R → Option (List ℕ)) (calls : R → ℕ) (window : ℕ) (old new : RawReader R A) where
   -- what was looked for, with this answer
   abbrev Looked : Result Found ReadFault → Type 0
-  Looked found = (r : ReadsToGoOn window left calls old new) × Resyncs (kept old ++ r.bytes) old new window found
+  Looked found = (r : ReadsToGoOn true window left calls old new) × Resyncs (kept old ++ r.bytes) old new window found
 
   looked_for : (found other : Found) → found ≡ other → Looked (Ok found) → Looked (Ok other)
   looked_for found other is l = subst (λ (f : Found). Looked (Ok f)) is l

@@ -10,12 +10,13 @@ use Rattle.dbus_rule_set.proofs.search.ask_each.Given as goal
 abbrev pub invariant-loop-handle : goal.invariant-loop-handle
 invariant-loop-handle g l =
     let gathered = g.V.RuleVisitor.gathered in
-    let os = l.owners in
+    let os = l.asked.owners.now in
+    let as_bus = l.asked.as_bus in
     record {
-      found : (order : Order) (m : MessageTree) → Views l.view order m → (end : List RuleHandle)
-          → Collects (EntryMatches m os) l.handle-iterator (gathered l.visitor) end
-          → Collects (EntryMatches m os) l.fn.rules (gathered l.fn.visitor) end;
-      left : (order : Order) (m : MessageTree) → Views l.view order m
-          → HoldsOfAny (EntryMatches m os) l.handle-iterator → HoldsOfAny (EntryMatches m os) l.fn.rules;
+      found : (order : Order) (m : MessageTree) → Views l.asked.view.now order m → (end : List RuleHandle)
+          → Collects (EntryMatches as_bus m os) l.handle-iterator (gathered l.visitor) end
+          → Collects (EntryMatches as_bus m os) l.fn.rules (gathered l.fn.visitor) end;
+      left : (order : Order) (m : MessageTree) → Views l.asked.view.now order m
+          → HoldsOfAny (EntryMatches as_bus m os) l.handle-iterator → HoldsOfAny (EntryMatches as_bus m os) l.fn.rules;
       kept : take (length (gathered l.fn.visitor)) (gathered l.visitor) ≡ gathered l.fn.visitor;
     }

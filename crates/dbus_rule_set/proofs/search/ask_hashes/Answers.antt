@@ -34,7 +34,7 @@ loop-hash-preserved g c =
     subst (λ n. IsNext l.from (Some n) hs) (sym c.from-first.ensures) told in
     record {
       found = λ order m v all first before.
-          let P = EntryMatches m c.args.owners.now in
+          let P = EntryMatches c.args.asked.now.as_bus m c.args.asked.now.owners.now in
           let es = c.args.rules.now.entries in
           let old = gathered l.visitor in
           more_found P kind hash kind (hash + 1) es there.result first old (gathered c.ask_each.new.visitor)
@@ -48,7 +48,7 @@ loop-hash-preserved g c =
 
 pub returns-in_err-ask_each-clause-stopped : goal.returns-in_err-ask_each-clause-stopped
 returns-in_err-ask_each-clause-stopped g c = λ order m v.
-    let P = EntryMatches m c.args.owners.now in
+    let P = EntryMatches c.args.asked.now.as_bus m c.args.asked.now.owners.now in
     let kind = c.args.kind in
     let hash = c.from-first.result in
     on_any c.from_residual.result
@@ -58,7 +58,7 @@ returns-in_err-ask_each-clause-stopped g c = λ order m v.
 pub returns-clause-found : goal.returns-clause-found
 returns-clause-found g c = λ order m v all first before.
     let l = c.loop-hash in
-    let P = EntryMatches m c.args.owners.now in
+    let P = EntryMatches c.args.asked.now.as_bus m c.args.asked.now.owners.now in
     let hs = c.args.hashes.now in
     let last : IsNext l.from None hs = subst (λ o. IsNext l.from o hs) c.in_default.is c.next_of.ensures in
     skipped_past P c.args.kind l.from hs c.args.rules.now.entries first (g.V.RuleVisitor.gathered l.visitor) last all

@@ -11,12 +11,13 @@ use Rattle.dbus_rule_set.proofs.search.ask_hashes.Given as goal
 abbrev pub invariant-loop-hash : goal.invariant-loop-hash
 invariant-loop-hash g l =
     let gathered = g.V.RuleVisitor.gathered in
-    let os = l.owners in
+    let os = l.asked.owners.now in
+    let as_bus = l.asked.as_bus in
     let es = l.rules.entries in
     record {
-      found : (order : Order) (m : MessageTree) → Views l.view order m → HaveHashes (EntryMatches m os) l.kind l.hashes es
-          → (first : List RuleHandle) → Collects (Below (EntryMatches m os) l.kind 0) es first (gathered l.fn.visitor)
-          → Collects (Below (EntryMatches m os) l.kind l.from) es first (gathered l.visitor);
+      found : (order : Order) (m : MessageTree) → Views l.asked.view.now order m → HaveHashes (EntryMatches as_bus m os) l.kind l.hashes es
+          → (first : List RuleHandle) → Collects (Below (EntryMatches as_bus m os) l.kind 0) es first (gathered l.fn.visitor)
+          → Collects (Below (EntryMatches as_bus m os) l.kind l.from) es first (gathered l.visitor);
       kept : take (length (gathered l.fn.visitor)) (gathered l.visitor) ≡ gathered l.fn.visitor;
       bound : l.from ≤ 4294967296;
     }

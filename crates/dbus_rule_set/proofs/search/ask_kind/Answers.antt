@@ -12,11 +12,11 @@ rules_between-requires g c = inl (omega arith)
 
 pub returns-in-Some-clause-found : goal.returns-in-Some-clause-found
 returns-in-Some-clause-found g c = λ order m v.
-    let os = c.args.owners.now in
+    let os = c.args.asked.now.owners.now in
     let key = c.key_of.result in
     let hs = c.as_slice.result.now in
     c.ask_hashes.ensures.found order m v
-    (have_met m os key c.args.kind (λ h. IsAmong h hs) c.key_of.ensures.keyed
+    (have_met c.args.asked.now.as_bus m os key c.args.kind (λ h. IsAmong h hs) c.key_of.ensures.keyed
     (λ e. c.in-Some.ensures.all (c.key_of.ensures.others e))
     (λ value holds. subst (IsAmong (place_hash key value)) (sym c.as_slice.ensures.value)
     (c.in-Some.ensures.met order m v value holds))
@@ -24,7 +24,7 @@ returns-in-Some-clause-found g c = λ order m v.
 
 pub returns-in-None-clause-found : goal.returns-in-None-clause-found
 returns-in-None-clause-found g c = λ order m v.
-    let P = EntryMatches m c.args.owners.now in
+    let P = EntryMatches c.args.asked.now.as_bus m c.args.asked.now.owners.now in
     let gathered = g.V.RuleVisitor.gathered in
     let between = c.rules_between in
     on_ok c.ask_each.result
@@ -35,6 +35,6 @@ returns-in-None-clause-found g c = λ order m v.
 
 pub returns-in-None-clause-stopped : goal.returns-in-None-clause-stopped
 returns-in-None-clause-stopped g c = λ order m v.
-    let P = EntryMatches m c.args.owners.now in
+    let P = EntryMatches c.args.asked.now.as_bus m c.args.asked.now.owners.now in
     any_between P (λ e. within c.args.kind 0 (c.args.kind + 1) 0 e.0) c.args.rules.now.entries c.rules_between.result
     c.ask_each.result c.rules_between.ensures.between (c.ask_each.ensures.stopped order m v)

@@ -11,7 +11,7 @@ use Rattle.dbus_rule_set.proofs.search.search.Goals as goal
 -- the rules of all kinds are all rules
 pub returns-then-len-le-FEW-clause-found : goal.returns-then-len-le-FEW-clause-found
 returns-then-len-le-FEW-clause-found g c = λ order m v.
-    let P = EntryMatches m c.args.owners.now in
+    let P = EntryMatches c.args.asked.now.as_bus m c.args.asked.now.owners.now in
     let es = c.args.rules.now.entries in
     let from = g.V.RuleVisitor.gathered c.args.visitor.now in
     let to = g.V.RuleVisitor.gathered c.ask_each.new.visitor in
@@ -24,7 +24,7 @@ returns-then-len-le-FEW-clause-found g c = λ order m v.
 
 pub returns-then-len-le-FEW-clause-stopped : goal.returns-then-len-le-FEW-clause-stopped
 returns-then-len-le-FEW-clause-stopped g c = λ order m v.
-    let P = EntryMatches m c.args.owners.now in
+    let P = EntryMatches c.args.asked.now.as_bus m c.args.asked.now.owners.now in
     any_between P (λ e. within 0 0 137 0 e.0) c.args.rules.now.entries c.rules_between.result
     c.ask_each.result c.rules_between.ensures.between (c.ask_each.ensures.stopped order m v)
 
@@ -32,7 +32,7 @@ pub loop-kind-init : goal.loop-kind-init
 loop-kind-init g c =
     record {
       found = λ order m v.
-          let P = EntryMatches m c.args.owners.now in
+          let P = EntryMatches c.args.asked.now.as_bus m c.args.asked.now.owners.now in
           none (Below P 0 0) c.args.rules.now.entries _ (none_below P c.args.rules.now.entries);
       kept = take_all _ _ (omega arith);
     }
@@ -60,7 +60,7 @@ loop-kind-preserved-then-not-has g c =
     let gathered = g.V.RuleVisitor.gathered in
     record {
       found = λ order m v.
-          let P = EntryMatches m c.args.owners.now in
+          let P = EntryMatches c.args.asked.now.as_bus m c.args.asked.now.owners.now in
           skipped_kind P l.kind c.args.kinds.now c.args.rules.now.entries (gathered c.args.visitor.now) (gathered l.visitor)
           (sym c.has.ensures ∙ c.if-not-has.true) c.requires.indexed (l.invariant.found order m v);
       kept = l.invariant.kept;
@@ -70,7 +70,7 @@ pub returns-clause-found : goal.returns-clause-found
 returns-clause-found g c = λ order m v.
     let l = c.loop-kind in
     let e : l.kind ≡ 137 = omega (arith, c.loop-kind-test.false, l.auto.kind-end) in
-    let P = EntryMatches m c.args.owners.now in
+    let P = EntryMatches c.args.asked.now.as_bus m c.args.asked.now.owners.now in
     let es = c.args.rules.now.entries in
     let from = g.V.RuleVisitor.gathered c.args.visitor.now in
     let to = g.V.RuleVisitor.gathered l.visitor in

@@ -10,9 +10,10 @@ use Rattle.dbus_rule_set.proofs.search.search.Given as goal
 abbrev pub invariant-loop-kind : goal.invariant-loop-kind
 invariant-loop-kind g l =
     let gathered = g.V.RuleVisitor.gathered in
-    let os = l.owners in
+    let os = l.asked.owners.now in
+    let as_bus = l.asked.as_bus in
     record {
-      found : (order : Order) (m : MessageTree) → Views l.view order m
-          → Collects (Below (EntryMatches m os) l.kind 0) l.rules.entries (gathered l.fn.visitor) (gathered l.visitor);
+      found : (order : Order) (m : MessageTree) → Views l.asked.view.now order m
+          → Collects (Below (EntryMatches as_bus m os) l.kind 0) l.rules.entries (gathered l.fn.visitor) (gathered l.visitor);
       kept : take (length (gathered l.fn.visitor)) (gathered l.visitor) ≡ gathered l.fn.visitor;
     }

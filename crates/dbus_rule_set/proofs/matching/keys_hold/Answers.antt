@@ -5,7 +5,7 @@ use Rattle.dbus_rule.specs.RuleViews.{rule_pairs}
 use Rattle.dbus_match.specs.Matching.{IsSent, Matches}
 use Rattle.dbus_match.proofs.Sent.{by_both, others_hold}
 use Rattle.dbus_rule_set.specs.Owners.{owners_in}
-use Rattle.dbus_rule_set.proofs.matching.matches.Goals as goal
+use Rattle.dbus_rule_set.proofs.matching.keys_hold.Goals as goal
 
 pub returns-then-other_keys_hold : goal.returns-then-other_keys_hold
 returns-then-other_keys_hold g c = λ order m v.
