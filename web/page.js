@@ -62,7 +62,7 @@ async function readAll(run, name, readers) {
     element("h2", `Handshake: what the ${side} sent`), element("pre", handshake, { tabindex: 0 }),
   ]));
   draw();
-  const show = ({ row }) => row === null || state.shown.push(row);
+  const show = ({ row }) => state.shown.push(row);
   const tellRead = (it) => far("Reading", it.offset + it.length, it.reader.length);
   // The list is there; then its lines get what other messages tell.
   const tellJoined = (row) => far("Joining calls and replies of", row, rows.count);
@@ -334,7 +334,14 @@ async function showTable(title, rows, take, linesOf) {
 
 const compare = (a, b) => Number(a > b) - Number(a < b);
 const memberOf = ({ interface: its, member }) => (its && member ? `${its}.${member}` : member);
-const shownRows = () => state.shown.map((it) => state.rows.at(it));
+function* shownRows(isWanted) {
+  for (const row of state.shown) {
+    const it = state.rows.at(row);
+    if (isWanted(it)) {
+      yield it;
+    }
+  }
+}
 
 // The tables of `count` of the messages shown.
 function counts() {
@@ -350,12 +357,12 @@ function counts() {
   const order = (a, b) => a.at - b.at || b.messages - a.messages || compare(a.key, b.key);
   const line = ({ key, messages, bytes }) => `${messages} messages ${bytes} bytes ${key}\n`;
   const lines = () => [...sums.values()].sort(order).map(line);
-  return showTable("Messages shown, by name", shownRows().filter((it) => it.isWhole), take, lines);
+  return showTable("Messages shown, by name", shownRows((it) => it.isWhole), take, lines);
 }
 
 // The table of `calls --members` of the calls shown.
 function members() {
-  const sums = new Map(), calls = shownRows().filter((it) => it.isCall || it.isUnwanted);
+  const sums = new Map(), calls = shownRows((it) => it.isCall || it.isUnwanted);
   const take = (row) => {
     const name = memberOf(state.rows.said(row.index));
     const sum = sums.get(name) ?? { name, calls: 0, replies: 0, errors: 0, open: 0, unwanted: 0, times: [] };
@@ -398,7 +405,7 @@ function command() {
 // The messages shown as a pcap file, with times in nanoseconds: 0 of those that have none.
 function pcap() {
   const parts = [Uint32Array.of(0xa1b23c4d, 0x00040002, 0, 0, 0x08000000, 231)];
-  for (const { index, offset, length, reader } of shownRows().filter((it) => it.isWhole)) {
+  for (const { index, offset, length, reader } of shownRows((it) => it.isWhole)) {
     const time = state.rows.time(index) ?? 0n;
     const head = [Number(time / NANOSECONDS), Number(time % NANOSECONDS), length, length];
     parts.push(Uint32Array.from(head), reader.part(offset, offset + length));

@@ -7,14 +7,14 @@ const LITTLE = 108, BIG = 66, PAGE_BYTES = 65536;
 const WINDOW = 1_048_576, EFFORT = 16;
 const MOST_FIELDS = 2 ** 26, MOST_BYTES = 2 ** 27, FRONT_BYTES = 16;
 // The structs of calls, one after another, and a line's texts; and the bytes of a `PagePart`.
-const UNPACKED = 0, NEXT = 32, PLACE = 48, COUNT = 80, BESIDE = 96, EVENT = 152, TEXTS = 224;
+const UNPACKED = 0, NEXT = 32, PLACE = 48, COUNT = 80, BESIDE = 96, EVENT = 152, SEARCH = 224, TEXTS = 240;
 const TOLD_BYTES = 1024, PART_BYTES = 32, ITEM_BYTES = 32;
 // Words of a `PagePart`.
 const START = 0, PACKET = 1, TIME = 2, HAS_TIME = 3;
 // The bytes of a number by its type; and the header fields that have names have these codes.
 const WIDTHS = { y: 1, b: 4, n: 2, q: 2, i: 4, u: 4, x: 8, t: 8, d: 8, h: 4 };
 const FIRST_FIELD = 1, LAST_FIELD = 9, CODE_ITEM = 1, VALUE_ITEM = 3;
-const ENCODER = new TextEncoder(), DECODER = new TextDecoder("utf-8", { ignoreBOM: true });
+const ENCODER = new TextEncoder(), MOST_ARGUMENTS = 8192;
 
 // One input, in the memory of an instance of its own. A file of so many bytes is put at `text`, and then opened.
 class Reader {
@@ -37,7 +37,7 @@ class Reader {
   open() {
     const start = this.text, file = this.bytes.subarray(start, start + this.size), skipped = handshakeLength(file);
     this.side = skipped === 0 ? "" : file[0] === 0 ? "client" : "server";
-    this.handshake = DECODER.decode(file.slice(0, skipped)).replace("\0", "");
+    this.handshake = charactersOf(file.subarray(0, skipped)).replace("\0", "");
     this.skipped = skipped;
     if (skipped !== null) {
       this.unpack(start + skipped, this.size - skipped);
@@ -127,38 +127,36 @@ class Reader {
     return fields > MOST_FIELDS || size > MOST_BYTES ? 0 : size;
   }
 
-  // Where messages begin again behind a refused one, or null, as `--resync` does: in a capture at the next packet; and
-  // else with a pause before each message that is tried.
-  *goOn(offset, answer, at) {
+  // Where messages begin again behind a refused one, or null, as `--resync` does: in a capture at the next packet.
+  goOn(offset, answer, at) {
     if (!this.isRaw) {
       return answer === REFUSED ? this.nextPacket(offset) : null;
     }
     const stated = this.stated(offset), behind = offset + stated, isThere = stated > 0 && behind <= this.length;
     const most = Math.max(0, EFFORT * WINDOW - Math.max(0, this.looked + at - EFFORT * offset));
-    const { found, looked } = yield* this.seek(offset, Math.min(this.length, offset + WINDOW), behind, most);
+    const { found, looked } = this.seek(offset, isThere && stated <= WINDOW ? behind : null, most);
     this.looked = Math.min(this.looked + at + looked, Math.max(this.looked, EFFORT * (offset + WINDOW)));
     return found ?? (stated > WINDOW && isThere ? behind : null);
   }
 
   // The same within an effort: where the size leads, if messages go on there, or else at the first one.
-  *seek(offset, end, behind, most) {
-    let looked = 0, isLed = behind > offset && behind <= end;
-    for (let at = isLed ? behind : offset; isLed || at < end; at = isLed ? offset : at + 1, isLed = false) {
-      if (this.isOrder(at)) {
-        yield { isPause: true, offset: at, length: 0 };
-      }
-      const { answer, length } = at < end && this.isOrder(at) ? this.next(at, end) : { answer: REFUSED, length: 0 };
-      const left = end - at, size = length <= left ? length : 0;
-      if (size > most - looked) {
+  seek(offset, behind, most) {
+    const end = Math.min(this.length, offset + WINDOW), isCut = end === offset + WINDOW;
+    let looked = 0;
+    if (behind !== null) {
+      const { answer, length } = this.next(behind, end), left = end - behind;
+      looked = length <= left ? length : 0;
+      if (looked > most) {
         return { found: null, looked: most };
       }
-      looked += size;
-      const wantsMore = left > 0 && this.isOrder(at) && (left < FRONT_BYTES || this.stated(at) > left);
-      if (answer === WHOLE || (isLed && (end === offset + WINDOW ? wantsMore : left === 0))) {
-        return { found: at, looked };
+      const wantsMore = left > 0 && this.isOrder(behind) && (left < FRONT_BYTES || this.stated(behind) > left);
+      if (answer === WHOLE || (isCut ? wantsMore : left === 0)) {
+        return { found: behind, looked };
       }
     }
-    return { found: null, looked };
+    const given = [...this.input(offset, end - offset), BigInt(most - looked), this.toldAt(SEARCH)];
+    const found = this.calls.dbus_page_search(...given) === WHOLE ? offset + this.number(SEARCH) : null;
+    return { found, looked: looked + this.number(SEARCH + 8) };
   }
 
   // Writes numbers at a place, one after another.
@@ -191,15 +189,13 @@ class Reader {
   // What the message tells of calls and of names.
   event(offset, length) {
     const given = [...this.input(offset, length), this.toldAt(EVENT)];
-    const bytes = this.writtenBytes((...room) => this.calls.dbus_page_event(...given, ...room));
-    // Names are of ASCII, but for what no bus sends.
-    const text = DECODER.decode(bytes), isPlain = text.length === bytes.length;
+    const text = charactersOf(this.writtenBytes((...room) => this.calls.dbus_page_event(...given, ...room)));
     const word = (at) => this.view.getUint32(this.told + EVENT + 4 * at, true);
     let end = 0;
     const [caller, sender, name, unique, forCaller, forOwner, byName] = [4, 6, 8, 10, 12, 14, 16].map((it) => {
       const start = end;
       end += word(it);
-      return isPlain ? text.slice(start, end) : DECODER.decode(bytes.subarray(start, end));
+      return decoded(text.slice(start, end));
     });
     const [said, serial, says] = [0, 1, 2].map(word);
     return { event: said, serial, says, caller, waiter: caller, sender, name, unique, forCaller, forOwner, byName };
@@ -234,7 +230,7 @@ class Reader {
   }
 
   // The text that a call writes, with as much room as it takes.
-  written = (call) => DECODER.decode(this.writtenBytes(call));
+  written = (call) => decoded(charactersOf(this.writtenBytes(call)));
 
   writtenBytes(call) {
     for (;;) {
@@ -250,6 +246,18 @@ class Reader {
   // A copy of bytes of the input.
   part = (start, end) => this.bytes.slice(this.data + start, this.data + Math.min(end, this.length));
 }
+
+// A character for each byte. What a TextDecoder gives is not of the engine's heap, and browsers let it go late.
+function charactersOf(bytes) {
+  let text = "";
+  for (let at = 0; at < bytes.length; at += MOST_ARGUMENTS) {
+    text += String.fromCharCode.apply(null, bytes.subarray(at, at + MOST_ARGUMENTS));
+  }
+  return text;
+}
+
+// The text that bytes of UTF-8 say, of such characters.
+const decoded = (text) => (/[^\0-\x7f]/.test(text) ? decodeURIComponent(escape(text)) : text);
 
 // The least number from `low` on that passes a test, as all after it do; or `high`.
 function leastOf(low, high, passes) {
@@ -292,13 +300,13 @@ const aligned = (address) => Math.ceil(address / 8) * 8;
 // A slice as the module takes it.
 const slice = (address, length) => [BigInt(address), BigInt(length)];
 
-// Each message of the input, and each place at which there is none, with what is passed over there; and pauses.
+// Each message of the input, and each place at which there is none, with what is passed over there.
 function* entries(reader) {
   // How many bytes were looked at to go on.
   reader.looked = 0;
   for (let offset = 0, end = 0; end !== null && offset < reader.length; offset = end) {
     const { answer, length, at } = reader.next(offset);
-    end = answer === WHOLE ? offset + length : yield* reader.goOn(offset, answer, at);
+    end = answer === WHOLE ? offset + length : reader.goOn(offset, answer, at);
     yield { offset, length: (end ?? reader.length) - offset, isWhole: answer === WHOLE, isPartial: answer === PARTIAL };
   }
 }

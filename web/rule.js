@@ -3,7 +3,7 @@
 
 // In the order of their codes, from 1 on.
 const TYPES = ["method_call", "method_return", "error", "signal"];
-const MOST_NAME_CHARACTERS = 255, PLAIN = new TextDecoder("latin1");
+const MOST_NAME_CHARACTERS = 255;
 
 const isName = (pattern) => (text) => text.length <= MOST_NAME_CHARACTERS && pattern.test(text);
 const isOneOf = (texts) => (text) => texts.includes(text);
@@ -76,7 +76,7 @@ function pairAt(text, start, names) {
     throw new RuleFault(text, end + 1, "BadValue");
   }
   // Of a path's prefix and of `eavesdrop` no message need have all bytes.
-  const bytes = /^(eavesdrop|arg\d+path)$/.test(name) ? "" : PLAIN.decode(ENCODER.encode(value));
+  const bytes = /^(eavesdrop|arg\d+path)$/.test(name) ? "" : charactersOf(ENCODER.encode(value));
   return [{ name, value, holds: key[1], bytes }, after];
 }
 
@@ -106,7 +106,7 @@ function firstCodes(signature) {
 
 // Whether the message of a row matches. Only one that has its type and the bytes of its values is parsed.
 function matchesRule(pairs, rows, { index, reader, offset, length, type }) {
-  const bytes = () => PLAIN.decode(reader.bytes.subarray(reader.data + offset, reader.data + offset + length));
+  const bytes = () => charactersOf(reader.bytes.subarray(reader.data + offset, reader.data + offset + length));
   if (!pairs.every((it) => (it.name === "type" ? TYPES[type - 1] === it.value : bytes().includes(it.bytes)))) {
     return false;
   }

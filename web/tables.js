@@ -8,6 +8,7 @@ const BUS = "org.freedesktop.DBus", ERROR_TYPE = 3;
 const WHOLE_ROW = 6, ERROR_ROW = 7, REFUSED_ROW = 8, PARTIAL_ROW = 9;
 // What either side of a connection sent has one of these before its numbers.
 const ARROWS = ["->", "<-"];
+const ROWS_AT_ONCE = 65_536;
 const COLUMNS_OF_ROWS = { offsets: Float64Array, lengths: Uint32Array, kinds: Uint8Array, pairs: Uint32Array };
 
 // Whether a message of the sender may answer a call to the destination, which is read only if that matters.
@@ -105,24 +106,26 @@ class Rows {
     this.first = Infinity;
     this.calls = new OpenCalls();
     this.names = new Names();
-    this.makeRoom(1024);
-  }
-
-  makeRoom(most) {
+    // A column grows in its place. A message has 16 bytes at least, and what is passed over stands between two.
+    const most = readers.reduce((all, it) => all + Math.ceil(it.size / 8) + ROWS_AT_ONCE, 0);
     for (const [name, Column] of Object.entries(COLUMNS_OF_ROWS)) {
-      const column = new Column(most);
-      column.set(this[name] ?? []);
-      this[name] = column;
+      this[name] = new Column(new ArrayBuffer(0, { maxByteLength: most * Column.BYTES_PER_ELEMENT }));
     }
   }
 
-  // Adds a row for each entry, of one side and then of the other, and yields it; and pauses.
+  makeRoom(rows) {
+    for (const { buffer, BYTES_PER_ELEMENT } of Object.keys(COLUMNS_OF_ROWS).map((it) => this[it])) {
+      buffer.resize(Math.min(buffer.maxByteLength, rows * BYTES_PER_ELEMENT));
+    }
+  }
+
+  // Adds a row for each entry, of one side and then of the other, and yields it.
   *adding() {
     for (const reader of this.readers) {
       this.first = reader === this.readers[1] ? this.count : Infinity;
       for (const entry of entries(reader)) {
         entry.reader = reader;
-        entry.row = entry.isPause ? null : this.add(entry);
+        entry.row = this.add(entry);
         yield entry;
       }
     }
@@ -131,7 +134,7 @@ class Rows {
   add({ offset, length, isWhole, isPartial }) {
     const row = this.count;
     if (row === this.offsets.length) {
-      this.makeRoom(2 * row);
+      this.makeRoom(row + ROWS_AT_ONCE);
     }
     this.count += 1;
     this.offsets[row] = offset;

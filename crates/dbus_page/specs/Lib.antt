@@ -3,6 +3,7 @@ pub mod Places
 pub mod Beside
 pub mod Events
 pub mod Telling
+pub mod Searching
 pub mod Parts
 pub mod Items
 pub mod Failing
