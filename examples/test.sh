@@ -3,7 +3,7 @@
 # of the captures in samples/ and of messages of which a byte is changed; the C example once more under AddressSanitizer, and over
 # the shared library; the callers in C under valgrind, if it is there, and threads that ask one set of rules under ThreadSanitizer. Compares the
 # header's numbers with the crates', and what is said of texts and of a handshake's lines with their cases. Runs the fuzz target over the captures and changed copies of their messages;
-# shakes hands with a bus and with a client, if they are there; tests the Rust crate, and compares what its examples write. Of a library for another
+# serves callers at a bus, if they are there; tests the Rust crate, and compares what its examples write. Of a library for another
 # system, by GNU's name TARGET, whose programs the words run, it tries the callers in C alone, and without sanitizers and valgrind.
 set -eu
 program=$1 archive=$2 shared=$3 target=${4:-}
@@ -63,7 +63,7 @@ grep -q 'switch\]' "$built/said"
 "$CC" -std=c99 -O2 $flags -o "$built/check" "$here/c/check.c" -L"$built" -ldbus_wire
 "$CC" -std=c99 -O2 $flags -o "$built/check_shared" "$here/c/check.c" "$shared" -Wl,-rpath,"$(cd "$(dirname "$shared")" && pwd)"
 "$CC" $sanitized -o "$built/check_sanitized" "$here/c/check.c" -L"$built" -ldbus_wire
-for name in list json encode swap rules build signal room habits texts lines watch pieces threads sharing explain; do
+for name in list json encode swap rules build signal room habits texts lines watch pieces threads sharing explain connection; do
 	"$CC" $sanitized -pthread -o "$built/$name" "$here/c/$name.c" -L"$built" -ldbus_wire
 	"$CC" -std=c99 -O2 -g $flags -pthread -o "$built/plain_$name" "$here/c/$name.c" -L"$built" -ldbus_wire
 done
@@ -108,14 +108,12 @@ for sample in session big-endian; do
 	"$program" json < "$here/../samples/$sample.dbus" | $run "$built/encode" | cmp - "$here/../samples/$sample.dbus"
 done
 "$here/../cases/refused_lines.py" "$program" 3000 1 $run "$built/encode"
-# Both ends of a handshake: one with the other, a client with a bus, and a server with a client of libdbus.
-"$CC" $sanitized -o "$built/handshake" "$here/c/handshake.c" -L"$built" -ldbus_wire
-for length in 1 7 4096; do $run "$built/handshake" pieces $length; done
+# Both sides of a connection, one with the other.
+for length in 1 7 4096; do $run "$built/connection" $length; done
 sockets=$(mktemp -d) proxy=
 if command -v dbus-daemon > /dev/null; then
 	bus=$(dbus-daemon --session --fork --print-pid --address="unix:path=$sockets/bus")
 	trap 'kill "$bus" $proxy' EXIT
-	$run "$built/handshake" client "unix:path=$sockets/none;unix:path=$sockets/bus"
 	# A client behind a proxy asks the bus, but not for what a rule denies, in none of the ways past it that are known.
 	"$CC" $sanitized -o "$built/proxy" "$here/c/proxy.c" -L"$built" -ldbus_wire
 	$run "$built/proxy" deny "$sockets/door" "unix:path=$sockets/bus" "type='method_call',member='GetId'" & proxy=$!
@@ -130,45 +128,21 @@ if command -v dbus-daemon > /dev/null; then
 	trap - EXIT
 	if [ -z "$target" ]; then
 		DBUS_WIRE_PROXY=$built/proxy DBUS_WIRE_LIBRARY=$(realpath "$shared") \
-			python3 -W error -m unittest discover -k ways_past_a_policy "$here/../python/tests"
+			python3 -W error -m unittest discover -k a_proxy -k ways_past_a_policy "$here/../python/tests"
 	fi
-fi
-if command -v dbus-send > /dev/null; then
-	timeout 20 $run "$built/handshake" server "$sockets/peer" & server=$!
-	while test ! -S "$sockets/peer"; do sleep 0.1; done
-	dbus-send --peer="unix:path=$sockets/peer" --type=signal /a b.c.Greeting
-	wait "$server"
 fi
 rm -rf "$sockets"
-# A service at a bus, which the words run, sends the values and descriptors of each call back: to a caller in C, and to gdbus and busctl, if they are
-# there; busctl sends no descriptors.
-"$CC" $sanitized -o "$built/descriptors" "$here/c/descriptors.c" -L"$built" -ldbus_wire
-try_echo() {
-	sockets=$(mktemp -d)
-	bus=$(dbus-daemon --session --fork --print-pid --address="unix:path=$sockets/bus")
-	"$@" "unix:path=$sockets/bus" & echo=$!
-	trap 'kill "$bus" "$echo"' EXIT
-	for _ in $(seq 100); do
-		if $run "$built/descriptors" call "unix:path=$sockets/bus" "$here/test.sh" > "$built/said" 2> "$built/told"; then break; fi
-		sleep 0.1
-	done
-	cmp "$here/test.sh" "$built/said"
-	if command -v gdbus > /dev/null; then
-		gdbus call --address "unix:path=$sockets/bus" --dest org.example.Echo --object-path / --method org.example.Echo.Echo "handle 0" < "$here/test.sh" > "$built/said"
-		grep -q 'handle' "$built/said"
-	fi
-	if command -v busctl > /dev/null; then
-		busctl --address="unix:path=$sockets/bus" call org.example.Echo / org.example.Echo Echo su back 7 > "$built/said"
-		grep -qx 'su "back" 7' "$built/said"
-	fi
-	kill "$bus" "$echo"
-	trap - EXIT
-	rm -rf "$sockets"
+# Services at a bus, one of them with descriptors: each caller that is there gets what it asks for. The folder has their programs.
+for name in counter descriptors service; do
+	"$CC" $sanitized -o "$built/$name" "$here/c/$name.c" -L"$built" -ldbus_wire
+done
+try_services() {
+	if [ -n "$target" ] || ! command -v dbus-daemon > /dev/null; then return; fi
+	DBUS_WIRE_EXAMPLES=$1 DBUS_WIRE_LIBRARY=$(realpath "$shared") \
+		python3 -W error -m unittest discover -k test_bus "$here/../python/tests"
 }
-if command -v dbus-daemon > /dev/null; then try_echo $run "$built/descriptors" serve; fi
-# A service of few lines at a bus says the load of this machine to gdbus in this form, and tells it of a method that is not there. The command in
-# `between` is given the bus in between.
-between=true
+try_services "$built"
+# A service of few lines at a bus says the load of this machine to gdbus in this form, and that there is no other method.
 try_load() {
 	if ! command -v dbus-daemon > /dev/null || ! command -v gdbus > /dev/null; then return; fi
 	form=$1
@@ -183,35 +157,24 @@ try_load() {
 		sleep 0.1
 	done
 	grep -qx "$form" "$built/said"
-	$between "unix:path=$sockets/bus"
 	must_fail $ask.Set 2> "$built/told"
 	grep -q 'Error.UnknownMethod: ' "$built/told"
 	kill "$bus" "$service"
 	trap - EXIT
 	rm -rf "$sockets"
 }
-"$CC" $sanitized -o "$built/service" "$here/c/service.c" -L"$built" -ldbus_wire
-# A long call does not end it.
-call_long() {
-	if [ -n "$target" ]; then return; fi
-	said=$(DBUS_WIRE_LIBRARY=$(realpath "$shared") PYTHONPATH=$here/../python "$here/long_call.py" "$1")
-	test "$said" = org.freedesktop.DBus.Error.InvalidArgs
-}
-between=call_long
 try_load "({'Load': <[0-9.]*>},)" $run "$built/service"
-between=true
 # A checker for which there is no memory is not made.
 for nth in 1 2; do
 	status=0
 	LD_PRELOAD=$built/refuse_nth.so REFUSE_NTH=$nth $run "$built/plain_pieces" < "$here/../samples/session.dbus" || status=$?
 	test $status = 3
 done
-# An end for which there is no memory is not made; one that has too little for a call goes on by the same call.
-"$CC" -std=c99 -O2 $flags -o "$built/handshake_plain" "$here/c/handshake.c" -L"$built" -l:libdbus_wire.a
+# A side for which there is no memory is not made; one that has too little for a call goes on by the same call.
 for nth in $(seq 1 60); do
 	status=0
-	LD_PRELOAD=$built/refuse_nth.so REFUSE_NTH=$nth $run "$built/handshake_plain" pieces 7 > "$built/said" 2>&1 || status=$?
-	test $status = 0 || grep -qx 'no client\|no server' "$built/said"
+	LD_PRELOAD=$built/refuse_nth.so REFUSE_NTH=$nth $run "$built/plain_connection" 7 > "$built/said" 2>&1 || status=$?
+	test $status = 0 || grep -qx 'no [a-z ]*' "$built/said"
 done
 # In the library's machine code too, which no sanitizer sees, no caller touches a byte that is not its own, or keeps a block to its end.
 if [ -z "$target" ] && command -v valgrind > /dev/null; then
@@ -224,7 +187,7 @@ if [ -z "$target" ] && command -v valgrind > /dev/null; then
 		under_valgrind "$built/plain_"$words < "$here/../samples/session.dbus" > "$built/said"
 	done
 	valgrind --quiet --tool=helgrind --error-exitcode=9 "$built/plain_sharing" "type='signal'" "member='NameAcquired'" < "$here/../samples/session.dbus" > "$built/said"
-	under_valgrind "$built/handshake_plain" pieces 7
+	under_valgrind "$built/plain_connection" 7
 	printf '\0AUTH EXTERNAL 31303030\r\nBEGIN\r\nl' | under_valgrind "$built/plain_lines" client > "$built/said"
 	status=0
 	printf 'l\1\0\2' | under_valgrind "$built/plain_explain" parts > "$built/said" || status=$?
@@ -287,8 +250,7 @@ elif command -v cargo > /dev/null; then
 	cargo test --quiet --offline --manifest-path "$here/../rust/Cargo.toml"
 	cargo build --quiet --offline --release --examples --manifest-path "$here/../rust/Cargo.toml"
 	rust=$built/rust/release/examples
-	if command -v dbus-daemon > /dev/null; then try_echo "$rust/descriptors"; fi
-	try_load "({'Load': <[0-9.]*>},)" "$rust/service"
+	try_services "$rust"
 	DBUS_WIRE_LIBRARY=$shared "$here/typed.py" "$rust/again"
 	listers=$listers,$rust/list liners=$liners,$rust/json swappers=$swappers,$rust/swap filters=$filters,$rust/filter explainers=$explainers,$rust/explain
 	set -- "$@" "$rust/check"

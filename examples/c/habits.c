@@ -289,6 +289,10 @@ static void rules(void) {
     expect(dbus_wire_rules_owner(&rules, name, sizeof name - 1, owner, sizeof owner - 1) == DBUS_WIRE_OK &&
                dbus_wire_rules_owner(&rules, name, sizeof name - 1, NULL, 0) == DBUS_WIRE_OK,
            "an owner comes and goes");
+    expect(dbus_wire_rules_as_bus(&rules, 1) == DBUS_WIRE_OK &&
+               dbus_wire_rules_matching(&rules, SIGNAL, SIGNAL_LENGTH, NULL, found, 2, &count, NULL) == DBUS_WIRE_WHOLE &&
+               count == 2 && dbus_wire_rules_as_bus(&rules, 0) == DBUS_WIRE_OK,
+           "and as at a bus, for it is to nobody");
     expect(dbus_wire_rules_remove(&rules, &signals) == DBUS_WIRE_OK && dbus_wire_rules_remove(&rules, &signals) == DBUS_WIRE_NO_RULE,
            "a rule is removed once");
     expect(dbus_wire_rules_matching(&rules, SIGNAL, SIGNAL_LENGTH, NULL, found, 1, &count, NULL) == DBUS_WIRE_WHOLE && count == 1 &&

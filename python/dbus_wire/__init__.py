@@ -29,7 +29,7 @@ stack for a call. A message of any depth is read within Python's default limit o
 
 from ._addresses import Address, BadAddress, connect, parse_addresses
 from ._building import build, call, error_to, rebuild, reply_to, signal
-from ._bus import Bus
+from ._bus import AsyncBus, Bus
 from ._checker import Checker
 from ._connection import Came, Connection, Event
 from ._errors import BadJson, BadValue, HeaderField, NotAMessage, Refused, Truncated
@@ -38,6 +38,7 @@ from ._handshake import Bounds, Client, Server, Status, Step
 from ._library import LIBRARY_VERSION
 from ._limits import Limits
 from ._lines import BadLine, Line, LineCommand, NotPassed, Watch, client_line, server_line
+from ._link import Incoming, Link
 from ._messages import Message, MessageFlag, MessageType, byteswap, messages, stated_length
 from ._rules import BadRule, Rule, RuleSet
 from ._served import ErrorReply, Method, Property, Signal
@@ -48,6 +49,7 @@ from ._values import ObjectPath, Order, Signature, UnixFd, Variant
 __all__ = [
     "LIBRARY_VERSION",
     "Address",
+    "AsyncBus",
     "BadAddress",
     "BadJson",
     "BadLine",
@@ -63,9 +65,11 @@ __all__ = [
     "Event",
     "Explanation",
     "HeaderField",
+    "Incoming",
     "Limits",
     "Line",
     "LineCommand",
+    "Link",
     "Message",
     "MessageFlag",
     "MessageType",

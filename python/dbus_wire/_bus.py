@@ -1,24 +1,111 @@
-"""A connection to a message bus, over a Unix socket that blocks."""
+"""Connections to a message bus over a Unix socket: one that blocks, and one for asyncio."""
 
 from __future__ import annotations
 
+import asyncio
+import inspect
+import itertools
 import logging
 import os
+import select
+import socket
 import time
 from collections import deque
-from typing import Any, Iterator
+from typing import Any, AsyncIterator, Iterator, Sequence, TypeVar
 
 from ._addresses import connect
 from ._building import call, error_to, reply_to, signal
-from ._connection import Came, Connection, Event
+from ._errors import NotAMessage
 from ._handshake import Bounds, Client
+from ._link import Incoming, Link
 from ._messages import Message, MessageType
 from ._served import DBUS, PROPERTIES, ErrorReply, Members, Objects
 
-_PIECE = 1 << 18
+_Self = TypeVar("_Self", bound="_Side")
 
 
-class Bus:
+class _Side:
+    """What is common to a bus that blocks and one that does not."""
+
+    asked: Message | None = None
+    """The call that is answered."""
+    asked_fds: Sequence[int] = ()
+    """The file descriptors that came with it, which are closed after its reply. A value of type `h`
+    is an index into them."""
+    given_fds: list[int]
+    """Those that are sent with its reply; they stay open."""
+
+    def __init__(self, addresses: str) -> None:
+        """Connects to the first of the addresses that takes a connection, as the user of this
+        process. Raises what `connect` raises, and ConnectionError if the handshake fails."""
+        self._link = Link(connect(addresses), Client(user=os.getuid(), descriptors=True, bounds=Bounds(6, 6)))
+        self._later, self._objects, self.given_fds = deque[Incoming](), Objects(self.changed), []
+        parts = {"path": "/org/freedesktop/DBus", "interface": DBUS, "destination": DBUS}
+        self._link.send(call(self._link.side.call(DBUS, 0), "Hello", **parts))
+        [self.name] = self._values_of(self._link.receive())
+
+    @classmethod
+    def session(cls: type[_Self]) -> _Self:
+        """The session bus: of DBUS_SESSION_BUS_ADDRESS, or else in XDG_RUNTIME_DIR."""
+        return cls(os.environ.get("DBUS_SESSION_BUS_ADDRESS") or "unix:runtime=yes")
+
+    @classmethod
+    def system(cls: type[_Self]) -> _Self:
+        """The system bus: of DBUS_SYSTEM_BUS_ADDRESS, or else of the specification."""
+        return cls(os.environ.get("DBUS_SYSTEM_BUS_ADDRESS") or "unix:path=/var/run/dbus/system_bus_socket")
+
+    def serve(self, path: str, interface: str, members: Members) -> None:
+        """Serves an interface of an object, which has Peer, Introspectable and Properties too."""
+        self._objects.served.setdefault(path, {})[interface] = members
+
+    def emit(self, path: str, interface: str, member: str, *values: Any, fds: Sequence[int] = ()) -> None:
+        """Sends a signal of an object that is served, with these file descriptors."""
+        types = self._objects.served[path][interface][member].gives
+        self._send(signal(self._link.side.serial(), path, interface, member, types, *values, unix_fds=len(fds)), fds)
+
+    def changed(self, path: str, interface: str, *names: str) -> None:
+        """Sends PropertiesChanged, with the values of these properties. One that a caller sets
+        needs none."""
+        values = "sa{sv}as", interface, self._objects.values(path, interface, *names), []
+        self._send(signal(self._link.side.serial(), path, PROPERTIES, "PropertiesChanged", *values))
+
+    def fileno(self) -> int:
+        return self._link.fileno()
+
+    def close(self) -> None:
+        self._link.socket.close()
+        while self._later:
+            self._later.popleft().close()
+
+    def _values_of(self, reply: Incoming) -> list[Any]:
+        if reply.message.type == MessageType.ERROR:
+            raise ErrorReply(reply.message.error_name or "", *reply.message.body)
+        return reply.message.body
+
+    async def _answer(self, it: Incoming) -> None:
+        asked, given = it.message, list[int]()
+        self.asked, self.asked_fds, self.given_fds = asked, it.fds, given
+        serial = self._link.side.serial()
+        try:
+            method = self._objects.method(asked)
+            values = method.call(*asked.body)
+            if inspect.isawaitable(values):
+                values = await values
+            reply = reply_to(asked, serial, method.gives, *method.values(values), unix_fds=len(given))
+        except ErrorReply as error:
+            reply = error_to(asked, serial, error.name, "s", *error.values)
+        except Exception as error:
+            logging.getLogger(__name__).exception("the method %s failed", asked.member)
+            reply = error_to(asked, serial, f"{DBUS}.Error.Failed", "s", f"{type(error).__name__}: {error}")
+        if asked.wants_reply:
+            self._send(reply, given if reply.unix_fds else ())
+        it.close()
+
+    def _send(self, message: Message, fds: Sequence[int] = ()) -> None:
+        self._link.send(message, fds)
+
+
+class Bus(_Side):
     """A connection to a message bus, for one thread:
 
         bus = Bus.session()
@@ -29,26 +116,8 @@ class Bus:
     Calls are answered within `run` and iteration alone: one that comes while `call` waits for its
     reply is answered later."""
 
-    def __init__(self, addresses: str) -> None:
-        """Connects to the first of the addresses that takes a connection, as the user of this
-        process. Raises what `connect` raises, and ConnectionError if the handshake fails."""
-        self._side = Connection(Client(user=os.getuid(), bounds=Bounds(6, 6)))
-        self._socket, self._input, self._later = connect(addresses), bytearray(), deque[Message]()
-        self._objects = Objects(self.changed)
-        while self._take(0, None)[0].event != Event.BEGUN:
-            self._socket.sendall(self._side.unsent())
-        self._socket.sendall(self._side.unsent())
-        [self.name] = self.ask("Hello")
-
-    @classmethod
-    def session(cls) -> Bus:
-        """The session bus: of DBUS_SESSION_BUS_ADDRESS, or else in XDG_RUNTIME_DIR."""
-        return cls(os.environ.get("DBUS_SESSION_BUS_ADDRESS") or "unix:runtime=yes")
-
-    @classmethod
-    def system(cls) -> Bus:
-        """The system bus: of DBUS_SYSTEM_BUS_ADDRESS, or else of the specification."""
-        return cls(os.environ.get("DBUS_SYSTEM_BUS_ADDRESS") or "unix:path=/var/run/dbus/system_bus_socket")
+    reply_fds: Sequence[int] = ()
+    """The file descriptors that came with the reply to the last call. They stay open."""
 
     def call(
         self,
@@ -59,23 +128,23 @@ class Bus:
         signature: str | None = None,
         *values: Any,
         timeout: float | None = None,
+        fds: Sequence[int] = (),
     ) -> list[Any]:
         """Calls a method, waits for the reply, and returns its values. Raises ErrorReply of an
         error, TimeoutError after so many seconds, ConnectionError once the bus is gone, and what
         `dbus_wire.call` raises."""
-        serial, end = self._side.call(destination, 1), None if timeout is None else time.monotonic() + timeout
+        serial, end = self._link.side.call(destination, 0), None if timeout is None else time.monotonic() + timeout
         try:
-            parts = {"path": path, "interface": interface, "destination": destination}
-            self._send(call(serial, member, signature, *values, **parts))
-            while (it := self._receive(end))[0].call is None:
-                self._later.append(it[1])
+            parts = {"path": path, "interface": interface, "destination": destination, "unix_fds": len(fds)}
+            self._send(call(serial, member, signature, *values, **parts), fds)
+            while (it := self._link.receive(end)).call is None:
+                self._later.append(it)
         finally:
             # It waits no longer, if no reply came.
-            self._side.give_up(serial)
-        reply = it[1]
-        if reply.type == MessageType.ERROR:
-            raise ErrorReply(reply.error_name or "", *reply.body)
-        return reply.body
+            self._link.side.give_up(serial)
+            self._link.socket.settimeout(None)
+        self.reply_fds = it.fds
+        return self._values_of(it)
 
     def ask(self, member: str, signature: str | None = None, *values: Any) -> list[Any]:
         """Calls a method of the bus itself, such as AddMatch."""
@@ -83,24 +152,7 @@ class Bus:
 
     def request_name(self, name: str) -> None:
         """Asks the bus for a name. Raises ConnectionError if another connection has it."""
-        # DBUS_NAME_FLAG_DO_NOT_QUEUE, and the answers PRIMARY_OWNER and ALREADY_OWNER.
-        if self.ask("RequestName", "su", name, 4)[0] not in (1, 4):
-            raise ConnectionError(f"another connection has the name {name}")
-
-    def serve(self, path: str, interface: str, members: Members) -> None:
-        """Serves an interface of an object, which has Peer, Introspectable and Properties too."""
-        self._objects.served.setdefault(path, {})[interface] = members
-
-    def emit(self, path: str, interface: str, member: str, *values: Any) -> None:
-        """Sends a signal of an object that is served."""
-        types = self._objects.served[path][interface][member].gives
-        self._send(signal(self._side.serial(), path, interface, member, types, *values))
-
-    def changed(self, path: str, interface: str, *names: str) -> None:
-        """Sends PropertiesChanged, with the values of these properties. One that a caller sets
-        needs none."""
-        values = "sa{sv}as", interface, self._objects.values(path, interface, *names), []
-        self._send(signal(self._side.serial(), path, PROPERTIES, "PropertiesChanged", *values))
+        _check_owned(name, *self.ask("RequestName", "su", name, 4))
 
     def run(self) -> None:
         """Answers calls until the bus is gone."""
@@ -109,18 +161,27 @@ class Bus:
 
     def __iter__(self) -> Iterator[Message]:
         """The signals that come until the bus is gone. Calls are answered meanwhile."""
-        while True:
-            try:
-                message = self._later.popleft() if self._later else self._receive(None)[1]
-            except ConnectionError:
-                return
-            if message.type == MessageType.METHOD_CALL:
-                self._answer(message)
-            elif message.type == MessageType.SIGNAL:
-                yield message
+        try:
+            while True:
+                yield from self._next()
+        except ConnectionError:
+            return
 
-    def close(self) -> None:
-        self._socket.close()
+    def heard(self) -> Iterator[Message]:
+        """The signals that came so far. Calls are answered meanwhile."""
+        while self._later or select.select([self], [], [], 0)[0]:
+            yield from self._next()
+
+    def _next(self) -> Iterator[Message]:
+        it = self._later.popleft() if self._later else self._link.receive()
+        if it.message.type == MessageType.METHOD_CALL:
+            try:
+                self._answer(it).send(None)
+            except StopIteration:
+                return
+        if it.message.type == MessageType.SIGNAL:
+            yield it.message
+        it.close()
 
     def __enter__(self) -> Bus:
         return self
@@ -128,40 +189,104 @@ class Bus:
     def __exit__(self, *error: object) -> None:
         self.close()
 
-    def _answer(self, asked: Message) -> None:
-        serial = self._side.serial()
+
+class AsyncBus(_Side):
+    """The same for asyncio, within a running loop. A method that is served may be awaited too; it
+    looks at `asked`, `asked_fds` and `given_fds` before it first waits.
+
+        bus = AsyncBus.session()
+        [names] = await bus.ask("ListNames")
+    """
+
+    def __init__(self, addresses: str) -> None:
+        """As of Bus: it blocks until the bus has said its name."""
+        super().__init__(addresses)
+        self._link.socket.setblocking(False)
+        self._loop, self._numbers = asyncio.get_running_loop(), itertools.count()
+        self._waiting: dict[int, asyncio.Future[Incoming]] = {}
+        self._signals: asyncio.Queue[Message | None] = asyncio.Queue()
+        self._tasks, self._unsent = set[asyncio.Task[None]](), deque[tuple[memoryview, list[int]]]()
+        self._loop.add_reader(self, self._on_readable)
+
+    async def call(
+        self, destination: str, path: str, interface: str | None, member: str, signature: str | None = None, *values: Any
+    ) -> list[Any]:
+        """As of Bus; asyncio.wait_for gives it a time. File descriptors of the reply are closed."""
+        number = next(self._numbers)
+        serial, waiting = self._link.side.call(destination, number), self._loop.create_future()
+        self._waiting[number] = waiting
         try:
-            types, values = self._objects.answer(asked)
-            reply = reply_to(asked, serial, types, *values)
-        except ErrorReply as error:
-            reply = error_to(asked, serial, error.name, "s", *error.values)
-        except Exception as error:
-            logging.getLogger(__name__).exception("the method %s failed", asked.member)
-            reply = error_to(asked, serial, f"{DBUS}.Error.Failed", "s", f"{type(error).__name__}: {error}")
-        if asked.wants_reply:
-            self._send(reply)
+            self._send(call(serial, member, signature, *values, path=path, interface=interface, destination=destination))
+            (it := await waiting).close()
+            return self._values_of(it)
+        finally:
+            self._link.side.give_up(serial)
+            del self._waiting[number]
 
-    def _send(self, message: Message) -> None:
-        self._socket.settimeout(None)
-        self._socket.sendall(bytes(message))
+    async def ask(self, member: str, signature: str | None = None, *values: Any) -> list[Any]:
+        """Calls a method of the bus itself, such as AddMatch."""
+        return await self.call(DBUS, "/org/freedesktop/DBus", DBUS, member, signature, *values)
 
-    def _receive(self, end: float | None) -> tuple[Came, Message]:
-        """The next message, if it comes until then, and what is told of it."""
-        came, data = self._take(16, end)
-        return came, Message.parse(data)
+    async def request_name(self, name: str) -> None:
+        """Asks the bus for a name. Raises ConnectionError if another connection has it."""
+        _check_owned(name, *await self.ask("RequestName", "su", name, 4))
 
-    def _take(self, wanted: int, end: float | None) -> tuple[Came, bytes]:
-        """What comes next, which has so many bytes at least, and its bytes."""
-        while True:
-            while len(self._input) < wanted:
-                self._socket.settimeout(None if end is None else max(end - time.monotonic(), 1e-6))
-                if not (piece := self._socket.recv(_PIECE)):
-                    raise ConnectionError("the bus ended the connection")
-                self._input += piece
-            # No more than it wants, so that no byte is copied twice.
-            data = bytes(self._input[: max(wanted, 1)])
-            came = self._side.take(data)
-            del self._input[: came.count]
-            if came.event != Event.WANTS:
-                return came, data
-            wanted = came.wanted
+    async def run(self) -> None:
+        """Answers calls until the bus is gone. It does so without this too."""
+        async for _ in self:
+            pass
+
+    async def __aiter__(self) -> AsyncIterator[Message]:
+        """The signals that come until the bus is gone."""
+        while (message := await self._signals.get()) is not None:
+            yield message
+
+    def close(self) -> None:
+        self._loop.remove_reader(self)
+        self._loop.remove_writer(self)
+        super().close()
+        for waiting in self._waiting.values():
+            if not waiting.done():
+                waiting.set_exception(ConnectionError("the bus ended the connection"))
+        self._signals.put_nowait(None)
+
+    def _on_readable(self) -> None:
+        try:
+            it = self._link.receive()
+        except BlockingIOError:
+            return
+        except (OSError, NotAMessage):
+            return self.close()
+        if it.call is not None and not self._waiting[it.call].done():
+            self._waiting[it.call].set_result(it)
+        elif it.message.type == MessageType.METHOD_CALL:
+            self._tasks.add(task := self._loop.create_task(self._answer(it)))
+            task.add_done_callback(self._tasks.discard)
+        else:
+            it.close()
+            if it.message.type == MessageType.SIGNAL:
+                self._signals.put_nowait(it.message)
+
+    def _send(self, message: Message, fds: Sequence[int] = ()) -> None:
+        self._unsent.append((memoryview(bytes(message)), [os.dup(fd) for fd in fds]))
+        self._on_writable()
+
+    def _on_writable(self) -> None:
+        while self._unsent:
+            data, fds = self._unsent.popleft()
+            try:
+                sent = socket.send_fds(self._link.socket, [data], fds) if fds else self._link.socket.send(data)
+            except BlockingIOError:
+                self._unsent.appendleft((data, fds))
+                return self._loop.add_writer(self, self._on_writable)
+            for fd in fds:
+                os.close(fd)
+            if data[sent:]:
+                self._unsent.appendleft((data[sent:], []))
+        self._loop.remove_writer(self)
+
+
+def _check_owned(name: str, answer: int) -> None:
+    # PRIMARY_OWNER and ALREADY_OWNER, since the flag DBUS_NAME_FLAG_DO_NOT_QUEUE was set.
+    if answer not in (1, 4):
+        raise ConnectionError(f"another connection has the name {name}")

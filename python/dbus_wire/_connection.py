@@ -4,8 +4,10 @@ from __future__ import annotations
 
 import ctypes
 import enum
+import os
 import threading
 import weakref
+from collections import deque
 from ctypes import byref, c_uint32, c_uint64
 from typing import NamedTuple
 
@@ -17,7 +19,7 @@ from ._library import Bytes, as_bytes, library
 from ._limits import Limits, limits_struct
 from ._values import text_of, uint32_of, uint64_of
 
-_REFUSED, _ENDS = 4, (5, 6)
+_REFUSED, _ENDS, _TOO_FEW = 4, (5, 6), 8
 
 
 class Event(enum.IntEnum):
@@ -45,9 +47,11 @@ class Came(NamedTuple):
     call: int | None
     """Of a message that answers a call: the number that the call was given."""
     unix_fds: int
-    """Of a message: how many of the Unix file descriptors that came are its own."""
+    """Of a message: how many Unix file descriptors are its own, which `Connection.fds` returns."""
     agreed: bool
     """Of BEGUN: whether both ends agreed to pass Unix file descriptors."""
+    guid: str | None
+    """Of BEGUN: the GUID of the server that accepted this client."""
     type: int
     """Of PASSED: the message's type."""
     flags: int
@@ -60,7 +64,7 @@ class Connection:
     """One side of a connection. Pass it the bytes that come, and send those that it has to send. It
     may be shared by threads, whose calls wait for each other."""
 
-    __slots__ = ("_handle", "_lock", "_free", "__weakref__")
+    __slots__ = ("_handle", "_lock", "_free", "_is_client", "_fds", "_own", "__weakref__")
 
     def __init__(
         self, end: Client | Server, limits: Limits | None = None, calls: int = 128, longest: int = 0xFFFF_FFFF
@@ -70,27 +74,53 @@ class Connection:
         `longest` bytes is passed over; from that of the limits on this has no effect. Raises
         ValueError if the end is closed or a client's has started, and MemoryError."""
         self._handle, self._lock = _library.Connection(), threading.Lock()
+        self._is_client, self._fds, self._own = isinstance(end, Client), deque[int](), 0
         with end._lock:
             numbers = uint32_of("longest", longest), uint32_of("calls", calls)
             given = byref(limits_struct(limits)), *numbers, byref(self._handle)
             _raise_if_failed(library.dbus_wire_connection_new(byref(end._handle), *given))
-        self._free = weakref.finalize(self, library.dbus_wire_connection_free, byref(self._handle))
+        self._free = weakref.finalize(self, _free, self._handle, self._fds)
 
     def take(self, data: Bytes) -> Came:
         """Takes what the bytes begin with, which follow those that were taken, and returns what
         that is: at most one line of the handshake, or one message once all of it is there. While
         there are bytes to send it takes none.
 
-        Raises Refused if they are no message, ConnectionError if the handshake fails, and either
-        from then on; and MemoryError: then pass the same bytes again."""
+        Raises Refused if they are no message, ConnectionError if the handshake fails or a message
+        lacks file descriptors, and either from then on; and MemoryError: then pass the same bytes
+        again."""
+        for fd in self.fds():
+            os.close(fd)
         piece, told = as_bytes(data), _library.ConnectionStep()
         self._do(library.dbus_wire_connection_take, piece, len(piece), byref(told))
         if told.event == _REFUSED:
             raise refused(told.offset, told.reason, told.field)
+        if told.event == _TOO_FEW:
+            raise ConnectionError("fewer file descriptors came than the message says")
         if told.event in _ENDS:
             raise ConnectionError("the connection is over")
+        self._own = told.unix_fds
         call, header = told.call if told.is_reply else None, (told.kind, told.flags, told.serial)
-        return Came(Event(told.event), told.count, told.wanted, call, told.unix_fds, bool(told.descriptors), *header)
+        guid = bytes(told.guid).hex() if self._is_client and told.event == Event.BEGUN else None
+        return Came(Event(told.event), told.count, told.wanted, call, told.unix_fds, bool(told.descriptors), guid, *header)
+
+    def keep_fd(self, fd: int, at_hand: int) -> bool:
+        """Keeps a file descriptor that came with a read, until the message ends that it belongs to.
+        Call it before the read's bytes are passed; `at_hand` bytes were there before the read and
+        are not taken. False if it is closed, and no message has any from now on: they were not
+        agreed on, 253 wait, or a message was passed over, which may have had some."""
+        kept = self._do(library.dbus_wire_connection_descriptor, uint64_of("at_hand", at_hand)) != REFUSED
+        if kept:
+            self._fds.append(fd)
+        else:
+            os.close(fd)
+        return kept
+
+    def fds(self) -> list[int]:
+        """The file descriptors of the message that came last, once, which are then the caller's.
+        The next call of `take` closes those that are left, as `close` closes all."""
+        count, self._own = self._own, 0
+        return [self._fds.popleft() for _ in range(count)]
 
     def unsent(self) -> bytes:
         """The bytes to send, which are then sent."""
@@ -139,6 +169,12 @@ class Connection:
             answer: int = call(byref(self._handle), *words)
         _raise_if_failed(answer)
         return answer
+
+
+def _free(handle: _library.Connection, fds: deque[int]) -> None:
+    library.dbus_wire_connection_free(byref(handle))
+    while fds:
+        os.close(fds.popleft())
 
 
 def _raise_if_failed(answer: int) -> None:

@@ -144,6 +144,7 @@ class ConnectionStep(ctypes.Structure):
         *((name, c_uint64) for name in ("count", "wanted", "call", "offset")),
         *((name, c_uint32) for name in ("event", "is_reply", "unix_fds", "descriptors", "reason", "field", "serial")),
         *((name, c_uint16) for name in ("kind", "flags")),
+        ("guid", c_uint8 * 16),
     ]
 
 
@@ -199,6 +200,7 @@ _CALLS = {
     "rules_add": (c_uint32, POINTER(Rules), c_char_p, c_size_t, POINTER(RuleId), POINTER(RuleRefused)),
     "rules_remove": (c_uint32, POINTER(Rules), POINTER(RuleId)),
     "rules_owner": (c_uint32, POINTER(Rules), c_char_p, c_size_t, c_char_p, c_size_t),
+    "rules_as_bus": (c_uint32, POINTER(Rules), c_uint32),
     "rules_matching": (c_uint32, POINTER(Rules), *_MESSAGE, POINTER(RuleId), c_size_t, POINTER(c_uint64), POINTER(Checked)),
     "rules_may_match": (c_uint32, POINTER(Rules), *_MESSAGE, c_char_p, c_size_t, POINTER(c_uint32), POINTER(Checked)),
     "rules_text": (c_uint32, POINTER(Rules), POINTER(RuleId), c_char_p, c_size_t, POINTER(c_uint64)),
@@ -213,6 +215,7 @@ _CALLS = {
     "handshake_free": (None, POINTER(Handshake)),
     "connection_new": (c_uint32, POINTER(Handshake), POINTER(Limits), c_uint32, c_uint32, POINTER(Connection)),
     "connection_take": (c_uint32, POINTER(Connection), c_char_p, c_size_t, POINTER(ConnectionStep)),
+    "connection_descriptor": (c_uint32, POINTER(Connection), c_uint64),
     "connection_unsent": (c_uint32, POINTER(Connection), c_char_p, c_size_t, POINTER(c_uint64)),
     "connection_serial": (c_uint32, POINTER(Connection), POINTER(c_uint32)),
     "connection_call": (c_uint32, POINTER(Connection), c_char_p, c_size_t, c_uint64, POINTER(c_uint32)),

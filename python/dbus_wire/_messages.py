@@ -116,6 +116,12 @@ class Message:
         )
         return message
 
+    @property
+    def types(self) -> str:
+        """The types of the body's values, which is never None: of a message without values some
+        senders write an empty SIGNATURE, and others none."""
+        return self.signature or ""
+
     @cached_property
     def body(self) -> list[Any]:
         """The values of the body, read when they are first asked for. What each type becomes, by

@@ -88,6 +88,12 @@ class RuleSet:
         if answer == REFUSED:
             raise ValueError(f"{name!r} or {owner!r} is no bus name")
 
+    def ask_as_bus(self, as_bus: bool = True) -> None:
+        """Asks the rules as a bus asks them from now on, or not: of a message with a DESTINATION it
+        asks only rules with `eavesdrop='true'`."""
+        with self._changed():
+            _raise_if_failed(library.dbus_wire_rules_as_bus(byref(self._handle), as_bus))
+
     def matching(self, message: Message) -> list[int]:
         """The numbers of the rules each key of which holds of the message. A `sender` that is a
         well-known name matches a message whose sender is that name itself, or the owner of it that

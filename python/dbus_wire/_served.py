@@ -29,6 +29,11 @@ class Method(NamedTuple):
     gives: str
     call: Callable[..., Any]
 
+    def values(self, value: Any) -> tuple[Any, ...]:
+        """Of what was returned the values."""
+        types = len(_types_of(self.gives))
+        return () if types == 0 else (value,) if types == 1 else value
+
 
 class Signal(NamedTuple):
     """A signal, by the types of its values."""
@@ -54,9 +59,8 @@ class Objects:
         self.served: dict[str, dict[str, Members]] = {}
         self._changed = changed
 
-    def answer(self, call: Message) -> tuple[str, tuple[Any, ...]]:
-        """The types and the values of the reply to a call. Raises ErrorReply, and what the method
-        raises."""
+    def method(self, call: Message) -> Method:
+        """The method that is called. Raises ErrorReply if there is none of these types."""
         path, name, member = call.path or "/", call.interface, call.member or ""
         # Of a call that names no interface the object's own come first.
         tables = {**self.served.get(path, {}), **self._standard(path)}
@@ -68,12 +72,9 @@ class Objects:
         method = next((it for it in found if isinstance(it, Method)), None)
         if method is None:
             raise _error("UnknownMethod", f"{path} has no method {member} of these")
-        # Some callers send an empty signature with no values, and others none.
-        if (call.signature or "") != method.takes:
+        if call.types != method.takes:
             raise _error("InvalidArgs", f"{member} takes the types '{method.takes}'")
-        values = method.call(*call.body)
-        types = len(_types_of(method.gives))
-        return method.gives, () if types == 0 else (values,) if types == 1 else values
+        return method
 
     def values(self, path: str, interface: str, *names: str) -> dict[str, Variant]:
         """Of these properties their values."""

@@ -519,6 +519,10 @@ class Rules(unittest.TestCase):
                     rules.may_match(message, message.sender),
                     any(rule.may_match(message, message.sender) for rule in numbers.values()),
                 )
+            rules.ask_as_bus()
+            for message in captured:
+                asked = {it for it, rule in numbers.items() if message.destination is None or "eavesdrop='true'" in str(rule)}
+                self.assertEqual(set(rules.matching(message)), {it for it in asked if numbers[it].matches(message)})
 
 
 class Handshakes(unittest.TestCase):

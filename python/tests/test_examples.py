@@ -15,12 +15,12 @@ import unittest
 from inputs import ROOT, SAMPLES
 
 import dbus_wire
-from dbus_wire import Client, MessageType, Rule, Server, Variant, build, messages, reply_to
+from dbus_wire import Bus, Client, ErrorReply, MessageType, Rule, Server, Variant, build, messages, reply_to
 
 EXAMPLES = ROOT / "examples/python"
 GUID = "0" * 32
 DBUS = "org.freedesktop.DBus"
-LAB, OTHER, LATE = (f"org.example.{it}" for it in ("Lab", "Other", "Late"))
+LAB, OTHER, LATE, ECHO = (f"org.example.{it}" for it in ("Lab", "Other", "Late", "Echo"))
 # What stands for the unique name of a service that has the first two names.
 OWN = ""
 # What the proxy denies of these rules, or allows, and calls with whether they get through.
@@ -168,31 +168,6 @@ class AtABus(unittest.TestCase):
                 reply = asked(service, incoming, 8, "Take", "v", Variant("d", 1.0), **parts)
                 self.assertEqual(reply, f"{DBUS}.Error.UnknownMethod")
 
-    def test_descriptors(self):
-        listening = self.listen()
-        self.example("descriptors.py", f"unix:path={self.bus}")
-        service, _ = listening.accept()
-        with service:
-            service.settimeout(20)
-            server = Server(GUID, os.getuid(), descriptors=True)
-            server.shake_hands(service)
-            self.assertTrue(server.agreed)
-            with service.makefile("rb") as file:
-                incoming = messages(file)
-                hello, request = next(incoming), next(incoming)
-                self.assertEqual((hello.member, request.body), ("Hello", ["org.example.Echo", 0]))
-                service.sendall(bytes(reply_to(hello, 1, "s", ":1.1")))
-                read, write = os.pipe()
-                call = build(MessageType.METHOD_CALL, 7, "ah", [1, 0], member="Echo", path="/", sender=":1.7", unix_fds=2)
-                socket.send_fds(service, [bytes(call)], [read, write])
-                data, fds, _, _ = socket.recv_fds(service, 4096, 16)
-                [reply] = messages(data)
-                self.assertEqual((reply.reply_serial, reply.body, reply.unix_fds, len(fds)), (7, [[1, 0]], 2, 2))
-                os.write(fds[1], b"through both")
-                self.assertEqual(os.read(fds[0], 100), b"through both")
-                for fd in (read, write, *fds):
-                    os.close(fd)
-
     def test_clients_that_ask_for_descriptors(self):
         listening, address = self.listen(), f"unix:path={self.bus}"
         for words, member in (
@@ -217,8 +192,8 @@ class AtABus(unittest.TestCase):
             with client, client.makefile("rb") as file:
                 Server(GUID, os.getuid()).shake_hands(client)
                 for call in messages(file):
-                    body = ("as", []) if call.member == "ListNames" else (call.signature, *call.body)
-                    client.sendall(bytes(reply_to(call, call.serial, *body)))
+                    body = {"Hello": ("s", ":1.1"), "ListNames": ("as", [])}.get(call.member, (call.signature, *call.body))
+                    client.sendall(bytes(reply_to(call, call.serial, *body, sender=DBUS)))
 
         def serve():
             # That of the client, and one by which the proxy asks for owners.
@@ -265,6 +240,26 @@ class AtABus(unittest.TestCase):
                 parts = {"path": "/org/example/Load", "destination": "org.example.Load"}
                 [entries] = asked(client, incoming, 100, "Get", **parts)
                 self.assertEqual(list(entries), ["Load"])
+
+    @unittest.skipUnless(shutil.which("dbus-daemon"), "dbus-daemon is not there")
+    def test_descriptors_through_a_proxy(self):
+        self.start("dbus-daemon", "--session", "--nofork", f"--address=unix:path={self.bus}")
+        connected(self.bus).close()
+        self.example("descriptors.py")
+        proxy = [PROXY] if PROXY else [sys.executable, EXAMPLES / "proxy.py"]
+        self.start(*proxy, "deny", self.door, f"unix:path={self.bus}", "member='GetId'")
+        connected(self.door).close()
+        with Bus(f"unix:path={self.door}") as bus:
+            while bus.ask("NameHasOwner", "s", ECHO) == [False]:
+                time.sleep(0.1)
+            self.assertRaises(ErrorReply, bus.ask, "GetId")
+            for _ in range(100):
+                pipe = os.pipe()
+                self.assertEqual(bus.call(ECHO, "/", ECHO, "Swap", "hh", 0, 1, fds=pipe), [0, 1])
+                os.write(bus.reply_fds[0], b"through both")
+                self.assertEqual(os.read(bus.reply_fds[1], 100), b"through both")
+                for fd in (*pipe, *bus.reply_fds):
+                    os.close(fd)
 
     @unittest.skipUnless(BUS or shutil.which("dbus-daemon"), "dbus-daemon is not there")
     def test_ways_past_a_policy(self):

@@ -1,19 +1,21 @@
 //! A connection to a message bus, over a Unix socket that blocks.
 
-use std::collections::{BTreeMap, BTreeSet, VecDeque};
+use std::collections::{BTreeMap, VecDeque};
 use std::error::Error;
-use std::io::{self, ErrorKind, Read, Write};
+use std::io::{self, ErrorKind};
+use std::os::fd::OwnedFd;
 use std::os::unix::net::UnixStream;
 use std::rc::Rc;
-use std::{env, fmt};
+use std::{env, fmt, mem};
 
+use crate::passing::{receive_with_fds, send_with_fds};
+use crate::served::{Member, Objects, PROPERTIES};
 use crate::typed::types_in;
-use crate::{connect, Bounds, Client, Connection, ConnectionError, End, Event, External, FromValue, Kind};
+use crate::{connect, BadValue, Bounds, Client, Connection, ConnectionError, End, Event, External, FromValue, Kind};
 use crate::{Limits, Message, OwnedMessage, OwnedValue, Parts, ToValue, Typed};
 
-const DBUS: &str = "org.freedesktop.DBus";
-const PROPERTIES: &str = "org.freedesktop.DBus.Properties";
-const PIECE: usize = 1 << 16;
+pub(crate) const DBUS: &str = "org.freedesktop.DBus";
+const PIECE: usize = 1 << 20;
 
 /// The reply to a call is the error of this name. A method that returns it is answered by it.
 #[derive(Clone, Debug, PartialEq, Eq)]
@@ -32,16 +34,13 @@ impl fmt::Display for ErrorReply {
 
 impl Error for ErrorReply {}
 
-type Result<T> = std::result::Result<T, Box<dyn Error>>;
+pub(crate) type Result<T> = std::result::Result<T, Box<dyn Error>>;
 
-#[derive(Clone)]
-enum Member {
-    Method { takes: String, gives: String, call: Rc<dyn Fn(&mut Bus, &Message<'_>, u32) -> Result<Vec<u8>>> },
-    Signal { gives: String },
-    Property { gives: String, get: Rc<dyn Fn() -> Result<OwnedValue>>, set: Option<Rc<dyn Fn(&OwnedValue) -> Result<()>>> },
+struct Incoming {
+    message: OwnedMessage,
+    fds: Vec<OwnedFd>,
+    is_reply: bool,
 }
-
-type Interfaces = BTreeMap<String, BTreeMap<String, Member>>;
 
 /// A connection to a message bus, and the objects that it serves.
 ///
@@ -58,11 +57,19 @@ type Interfaces = BTreeMap<String, BTreeMap<String, Member>>;
 /// Calls are answered in [`Bus::run`] and [`Bus::next_signal`] alone: one that comes while
 /// [`Bus::call`] waits for its reply is answered later.
 pub struct Bus {
+    /// The file descriptors that came with the call that is answered, which are closed after its
+    /// reply, or with the signal that came last. A [`UnixFd`](crate::UnixFd) is an index into them.
+    pub asked_fds: Vec<OwnedFd>,
+    /// Those that are sent with the reply to that call.
+    pub given_fds: Vec<OwnedFd>,
+    /// Those that came with the reply to the last call of this side.
+    pub reply_fds: Vec<OwnedFd>,
+    /// Those that are sent with the next call or signal of this side.
+    pub sent_fds: Vec<OwnedFd>,
+    pub(crate) objects: Objects,
     stream: UnixStream,
     connection: Connection,
-    input: Vec<u8>,
-    later: VecDeque<OwnedMessage>,
-    objects: BTreeMap<String, Interfaces>,
+    later: VecDeque<Incoming>,
 }
 
 impl Bus {
@@ -91,20 +98,14 @@ impl Bus {
     ///
     /// If none does.
     pub fn open(addresses: &str) -> Result<Self> {
-        let mut client = Client::new(Some(External::AsReported), None).map_err(io::Error::other)?;
+        let mut client = Client::with_descriptors(Some(External::AsReported), None).map_err(io::Error::other)?;
         client.set_bounds(Bounds { rejections: 6, errors: 6 });
         let connection = Connection::new(End::Client(client), &Limits::default(), u32::MAX, 128)?;
-        let stream = connect(addresses)?;
-        let mut bus = Self { stream, connection, input: Vec::new(), later: VecDeque::new(), objects: BTreeMap::new() };
-        loop {
-            let came = bus.connection.take(&bus.input)?;
-            bus.input.drain(..came.count);
-            match came.event {
-                Event::Send(bytes) => bus.stream.write_all(&bytes)?,
-                Event::Begun { send, .. } => break bus.stream.write_all(&send)?,
-                _ => bus.read()?,
-            }
-        }
+        let [asked_fds, given_fds, reply_fds, sent_fds] = Default::default();
+        let (stream, objects, later) = (connect(addresses)?, Objects::new(), VecDeque::new());
+        let mut bus = Self { asked_fds, given_fds, reply_fds, sent_fds, objects, stream, connection, later };
+        // It returns as the handshake ends.
+        bus.receive()?;
         bus.ask("Hello", ())?;
         Ok(bus)
     }
@@ -116,22 +117,27 @@ impl Bus {
     /// If the reply is an error, there is no such message, or the bus is gone.
     pub fn call(&mut self, to: &str, path: &str, interface: &str, member: &str, values: impl ToValue) -> Result<OwnedMessage> {
         let serial = self.connection.call(Some(to), 1)?;
-        let (path, interface, member) = (Some(path), Some(interface), Some(member));
-        let call = Parts { destination: Some(to), path, interface, member, ..Parts::new(Kind::MethodCall, serial) }.build(values);
+        let (path, interface, member, fds) = (Some(path), Some(interface), Some(member), mem::take(&mut self.sent_fds));
+        let parts = Parts { path, interface, member, unix_fds: fds.len() as u32, ..Parts::new(Kind::MethodCall, serial) };
+        let call = Parts { destination: Some(to), ..parts }.build(values);
         if call.is_err() {
             self.connection.give_up(serial);
         }
-        self.stream.write_all(&call?)?;
+        send_with_fds(&self.stream, &call?, &fds)?;
         loop {
-            let (message, is_reply) = self.receive()?;
+            let Incoming { message, fds, is_reply } = self.receive()?.ok_or(ConnectionError::Over)?;
             if !is_reply {
-                self.later.push_back(message);
-            } else if let Some(name) = message.message().error_name() {
-                let text = message.message().body().next().and_then(|it| it.as_str().map(str::to_owned));
-                return Err(ErrorReply { name: name.to_owned(), text: text.unwrap_or_default() }.into());
-            } else {
-                return Ok(message);
+                self.later.push_back(Incoming { message, fds, is_reply });
+                continue;
             }
+            self.reply_fds = fds;
+            return match message.error_name() {
+                Some(name) => {
+                    let text = message.body().next().and_then(|it| it.as_str().map(str::to_owned));
+                    Err(ErrorReply { name: name.to_owned(), text: text.unwrap_or_default() }.into())
+                }
+                None => Ok(message),
+            };
         }
     }
 
@@ -150,15 +156,10 @@ impl Bus {
     ///
     /// As of [`Bus::call`], and with `AddrInUse` if another connection has it.
     pub fn request_name(&mut self, name: &str) -> Result<()> {
-        match self.ask("RequestName", (name, 4u32))?.message().body_as::<u32>()? {
+        match self.ask("RequestName", (name, 4u32))?.body_as::<u32>()? {
             1 | 4 => Ok(()),
             _ => Err(io::Error::from(ErrorKind::AddrInUse).into()),
         }
-    }
-
-    fn member(&mut self, path: &str, interface: &str, name: &str, member: Member) {
-        let interfaces = self.objects.entry(path.into()).or_default();
-        interfaces.entry(interface.into()).or_default().insert(name.into(), member);
     }
 
     /// Serves a method of an object, which also has `Peer`, `Introspectable` and `Properties`.
@@ -169,36 +170,39 @@ impl Bus {
     {
         let (takes, gives) = (types_in(A::signature()).into(), types_in(R::signature()).into());
         let call = Rc::new(move |bus: &mut Bus, asked: &Message<'_>, serial| {
-            let given = call(bus, asked.body_as()?)?;
-            Ok(asked.reply(serial, given)?)
+            let values = call(bus, asked.body_as()?)?;
+            Ok(asked.answer(Parts { unix_fds: bus.given_fds.len() as u32, ..Parts::new(Kind::MethodReturn, serial) }, values)?)
         });
-        self.member(path, interface, name, Member::Method { takes, gives, call });
+        self.objects.serve(path, interface, name, Member::Method { takes, gives, call });
     }
 
     /// Declares a signal of these types, for those who look at the object.
     pub fn signal<A: Typed>(&mut self, path: &str, interface: &str, name: &str) {
-        self.member(path, interface, name, Member::Signal { gives: types_in(A::signature()).into() });
+        self.objects.serve(path, interface, name, Member::Signal { gives: types_in(A::signature()).into() });
     }
 }
 
 impl Bus {
-    /// Serves a property, which callers may set if `set` is given.
-    pub fn property<T>(
+    /// Serves a property that callers read.
+    pub fn property<T: ToValue>(&mut self, path: &str, interface: &str, name: &str, get: impl Fn() -> T + 'static) {
+        let get = Rc::new(move || Ok(OwnedValue::new(get())?));
+        self.objects.serve(path, interface, name, Member::Property { gives: T::signature().into(), get, set: None });
+    }
+
+    /// Serves a property that callers read and set.
+    pub fn writable_property<T>(
         &mut self,
         path: &str,
         interface: &str,
         name: &str,
         get: impl Fn() -> T + 'static,
-        set: Option<fn(T) -> Result<()>>,
+        set: impl Fn(T) -> Result<()> + 'static,
     ) where
-        T: ToValue + for<'a> FromValue<'a> + 'static,
+        T: ToValue + for<'a> FromValue<'a>,
     {
-        let set: Option<Rc<dyn Fn(&OwnedValue) -> Result<()>>> = match set {
-            Some(set) => Some(Rc::new(move |value| set(T::from_value(value.value())?))),
-            None => None,
-        };
         let get = Rc::new(move || Ok(OwnedValue::new(get())?));
-        self.member(path, interface, name, Member::Property { gives: T::signature().into(), get, set });
+        let set = Some(Rc::new(move |value: &OwnedValue| set(T::from_value(value.value())?)) as _);
+        self.objects.serve(path, interface, name, Member::Property { gives: T::signature().into(), get, set });
     }
 
     /// Sends a signal.
@@ -207,9 +211,9 @@ impl Bus {
     ///
     /// If there is no such signal, or the bus is gone.
     pub fn emit(&mut self, path: &str, interface: &str, member: &str, values: impl ToValue) -> Result<()> {
-        let (path, interface, member) = (Some(path), Some(interface), Some(member));
-        let signal = Parts { path, interface, member, ..Parts::new(Kind::Signal, self.connection.serial()) };
-        Ok(self.stream.write_all(&signal.build(values)?)?)
+        let (path, interface, member, fds) = (Some(path), Some(interface), Some(member), mem::take(&mut self.sent_fds));
+        let parts = Parts { path, interface, member, ..Parts::new(Kind::Signal, self.connection.serial()) };
+        Ok(send_with_fds(&self.stream, &Parts { unix_fds: fds.len() as u32, ..parts }.build(values)?, &fds)?)
     }
 
     /// Sends `PropertiesChanged` of a property, with its value. One that a caller sets needs none.
@@ -218,7 +222,7 @@ impl Bus {
     ///
     /// If there is no such property, or the bus is gone.
     pub fn changed(&mut self, path: &str, interface: &str, name: &str) -> Result<()> {
-        let values = BTreeMap::from([(name, self.value(path, interface, name)?)]);
+        let values = BTreeMap::from([(name, self.objects.value(path, interface, name)?)]);
         self.emit(path, PROPERTIES, "PropertiesChanged", (interface, values, [""; 0]))
     }
 
@@ -239,11 +243,16 @@ impl Bus {
     /// As of [`Bus::run`].
     pub fn next_signal(&mut self) -> Result<Option<OwnedMessage>> {
         loop {
-            let message = match self.later.pop_front().map_or_else(|| self.receive().map(|it| it.0), Ok) {
+            let came = self.later.pop_front().map_or_else(|| self.receive(), |it| Ok(Some(it)));
+            let message = match came {
                 Err(error) if error.is::<io::Error>() => return Ok(None),
-                message => message?,
+                came => {
+                    let it = came?.ok_or(ConnectionError::Over)?;
+                    self.asked_fds = it.fds;
+                    it.message
+                }
             };
-            match message.message().kind() {
+            match message.kind() {
                 Kind::MethodCall => self.answer(&message.message())?,
                 Kind::Signal => return Ok(Some(message)),
                 _ => {}
@@ -251,179 +260,66 @@ impl Bus {
         }
     }
 
-    fn read(&mut self) -> Result<()> {
-        let length = self.input.len();
-        self.input.resize(length + PIECE, 0);
-        let count = self.stream.read(&mut self.input[length..]);
-        self.input.truncate(length + *count.as_ref().unwrap_or(&0));
-        if count? == 0 {
-            Err(io::Error::from(ErrorKind::UnexpectedEof).into())
-        } else {
-            Ok(())
-        }
-    }
-
-    // The next message, and whether it answers the call that waits.
-    fn receive(&mut self) -> Result<(OwnedMessage, bool)> {
+    // The next message, or `None` as the handshake ends. No byte is read beyond either.
+    fn receive(&mut self) -> Result<Option<Incoming>> {
+        let mut bytes = Vec::new();
         loop {
-            let came = self.connection.take(&self.input)?;
+            let came = self.connection.take(&bytes)?;
             match came.event {
+                Event::Message { call, .. } => {
+                    let fds = self.connection.fds();
+                    return Ok(Some(Incoming { message: OwnedMessage::known(bytes), fds, is_reply: call.is_some() }));
+                }
                 Event::Wants(count) => {
-                    while self.input.len() < count {
-                        self.read()?;
+                    bytes.drain(..came.count);
+                    while bytes.len() < count {
+                        self.read(count, &mut bytes)?;
                     }
                 }
-                Event::Message { call, .. } => {
-                    let bytes = self.input.drain(..came.count).collect();
-                    return Ok((OwnedMessage::known(bytes), call.is_some()));
+                Event::Send(sent) => {
+                    bytes.drain(..came.count);
+                    send_with_fds(&self.stream, &sent, &[])?;
+                }
+                Event::Begun { send, .. } => {
+                    send_with_fds(&self.stream, &send, &[])?;
+                    return Ok(None);
                 }
                 _ => return Err(ConnectionError::Over.into()),
             }
         }
     }
 
+    // Reads more bytes, until there are so many at most, and the descriptors beside them.
+    fn read(&mut self, most: usize, bytes: &mut Vec<u8>) -> io::Result<()> {
+        let (length, mut fds) = (bytes.len(), Vec::new());
+        bytes.resize(most.min(length + PIECE), 0);
+        let count = receive_with_fds(&self.stream, &mut bytes[length..], &mut fds)?;
+        bytes.truncate(length + count);
+        if count == 0 || !fds.into_iter().all(|fd| self.connection.keep_fd(fd, length)) {
+            return Err(ErrorKind::UnexpectedEof.into());
+        }
+        Ok(())
+    }
+
     fn answer(&mut self, asked: &Message<'_>) -> Result<()> {
         let serial = self.connection.serial();
-        let reply = match self.reply(asked, serial) {
+        let reply = match self.objects.method(asked).and_then(|answer| answer(self, asked, serial)) {
             Ok(reply) => reply,
-            Err(error) => match error.downcast_ref::<ErrorReply>() {
-                Some(ErrorReply { name, text }) => asked.reply_error(serial, name, text.as_str())?,
-                None => asked.reply_error(serial, "org.freedesktop.DBus.Error.Failed", error.to_string())?,
-            },
-        };
-        if asked.wants_reply() {
-            Ok(self.stream.write_all(&reply)?)
-        } else {
-            Ok(())
-        }
-    }
-
-    fn reply(&mut self, asked: &Message<'_>, serial: u32) -> Result<Vec<u8>> {
-        let (path, name) = (asked.path().unwrap_or("/"), asked.member().unwrap_or_default());
-        let interface = asked.interface().unwrap_or_default();
-        let standard = [PROPERTIES, "org.freedesktop.DBus.Introspectable", "org.freedesktop.DBus.Peer"];
-        // Of a call that names no interface the object's own come first.
-        let is_own = self.objects.get(path).is_some_and(|it| it.values().any(|it| it.contains_key(name)));
-        let is_standard = standard.contains(&interface) || (interface.is_empty() && !is_own);
-        match (name, asked.signature().unwrap_or_default()) {
-            ("Ping", "") if is_standard => return Ok(asked.reply(serial, ())?),
-            _ if !self.objects.contains_key(path) && self.below(path).is_empty() && path != "/" => {
-                return Err(error("UnknownObject", format!("there is no object {path}")))
-            }
-            ("Introspect", "") if is_standard => return Ok(asked.reply(serial, self.described(path))?),
-            ("Get", "ss") if is_standard => {
-                let (interface, name) = asked.body_as()?;
-                return Ok(asked.reply(serial, self.value(path, interface, name)?)?);
-            }
-            ("GetAll", "s") if is_standard => return Ok(asked.reply(serial, self.values(path, asked.body_as()?)?)?),
-            ("Set", "ssv") if is_standard => {
-                let (interface, name, value): (String, String, OwnedValue) = asked.body_as()?;
-                self.set(path, &interface, &name, &value)?;
-                return Ok(asked.reply(serial, ())?);
-            }
-            _ => {}
-        }
-        let interfaces = self.objects.get(path);
-        if !standard.contains(&interface) && !interface.is_empty() && !interfaces.is_some_and(|it| it.contains_key(interface)) {
-            return Err(error("UnknownInterface", format!("{path} has no interface {interface}")));
-        }
-        let mut found = interfaces.into_iter().flatten().filter(|it| interface.is_empty() || it.0 == interface);
-        match found.find_map(|it| it.1.get(name)).cloned() {
-            Some(Member::Method { takes, .. }) if takes != asked.signature().unwrap_or_default() => {
-                Err(error("InvalidArgs", format!("{name} takes the types '{takes}'")))
-            }
-            Some(Member::Method { call, .. }) => call(self, asked, serial),
-            _ => Err(error("UnknownMethod", format!("{path} has no method {name} of these"))),
-        }
-    }
-
-    fn interface(&self, path: &str, interface: &str) -> Result<&BTreeMap<String, Member>> {
-        let found = self.objects.get(path).and_then(|it| it.get(interface));
-        found.ok_or_else(|| error("UnknownInterface", format!("{path} has no interface {interface}")))
-    }
-
-    fn value(&self, path: &str, interface: &str, name: &str) -> Result<OwnedValue> {
-        match self.interface(path, interface)?.get(name) {
-            Some(Member::Property { get, .. }) => get(),
-            _ => Err(error("UnknownProperty", format!("{interface} has no property {name}"))),
-        }
-    }
-
-    fn values(&self, path: &str, interface: &str) -> Result<BTreeMap<String, OwnedValue>> {
-        let mut found = BTreeMap::new();
-        for (name, member) in self.interface(path, interface)? {
-            if let Member::Property { get, .. } = member {
-                found.insert(name.clone(), get()?);
-            }
-        }
-        Ok(found)
-    }
-
-    fn set(&mut self, path: &str, interface: &str, name: &str, value: &OwnedValue) -> Result<()> {
-        match self.interface(path, interface)?.get(name) {
-            Some(Member::Property { set: Some(set), .. }) => set(value)?,
-            Some(Member::Property { .. }) => return Err(error("PropertyReadOnly", format!("{name} cannot be set"))),
-            _ => return Err(error("UnknownProperty", format!("{interface} has no property {name}"))),
-        }
-        self.changed(path, interface, name)
-    }
-
-    // The names right below a path.
-    fn below(&self, path: &str) -> BTreeSet<&str> {
-        let front = path.trim_end_matches('/');
-        let below = self.objects.keys().filter_map(|it| it.strip_prefix(front)?.strip_prefix('/')?.split('/').next());
-        below.filter(|it| !it.is_empty()).collect()
-    }
-
-    // What Introspect returns.
-    fn described(&self, path: &str) -> String {
-        let mut text = "<node>".to_owned();
-        for name in self.below(path) {
-            text += &format!("<node name='{name}'/>");
-        }
-        if self.objects.contains_key(path) {
-            text += STANDARD;
-        }
-        for (name, members) in self.objects.get(path).into_iter().flatten() {
-            text += &format!("<interface name='{name}'>");
-            for (name, member) in members {
-                text += &match member {
-                    Member::Method { takes, gives, .. } => {
-                        format!("<method name='{name}'>{}{}</method>", args(takes, "in"), args(gives, "out"))
-                    }
-                    Member::Signal { gives } => format!("<signal name='{name}'>{}</signal>", args(gives, "out")),
-                    Member::Property { gives, set, .. } => {
-                        let access = if set.is_some() { "readwrite" } else { "read" };
-                        format!("<property name='{name}' type='{gives}' access='{access}'/>")
-                    }
+            Err(error) => {
+                self.given_fds.clear();
+                let (name, text) = match error.downcast::<ErrorReply>() {
+                    Ok(it) => (it.name, it.text),
+                    Err(error) if error.is::<BadValue>() => (format!("{DBUS}.Error.InvalidArgs"), error.to_string()),
+                    Err(error) => (format!("{DBUS}.Error.Failed"), error.to_string()),
                 };
+                asked.reply_error(serial, &name, text)?
             }
-            text += "</interface>";
+        };
+        let fds = mem::take(&mut self.given_fds);
+        if asked.wants_reply() {
+            send_with_fds(&self.stream, &reply, &fds)?;
         }
-        text + "</node>"
+        self.asked_fds.clear();
+        Ok(())
     }
-}
-
-const STANDARD: &str = "<interface name='org.freedesktop.DBus.Peer'><method name='Ping'/></interface>\
-    <interface name='org.freedesktop.DBus.Introspectable'><method name='Introspect'><arg type='s' direction='out'/></method></interface>\
-    <interface name='org.freedesktop.DBus.Properties'>\
-    <method name='Get'><arg type='s' direction='in'/><arg type='s' direction='in'/><arg type='v' direction='out'/></method>\
-    <method name='GetAll'><arg type='s' direction='in'/><arg type='a{sv}' direction='out'/></method>\
-    <method name='Set'><arg type='s' direction='in'/><arg type='s' direction='in'/><arg type='v' direction='in'/></method>\
-    <signal name='PropertiesChanged'><arg type='s'/><arg type='a{sv}'/><arg type='as'/></signal></interface>";
-
-fn error(name: &str, text: String) -> Box<dyn Error> {
-    ErrorReply { name: format!("{DBUS}.Error.{name}"), text }.into()
-}
-
-fn args(types: &str, side: &str) -> String {
-    let (mut text, mut depth, mut start) = (String::new(), 0, 0);
-    for (at, code) in types.char_indices() {
-        depth += i32::from(matches!(code, '(' | '{')) - i32::from(matches!(code, ')' | '}'));
-        if depth == 0 && code != 'a' {
-            text += &format!("<arg type='{}' direction='{side}'/>", &types[start..=at]);
-            start = at + 1;
-        }
-    }
-    text
 }

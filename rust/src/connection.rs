@@ -1,8 +1,10 @@
 //! One side of a connection: its handshake, and then messages, with no input and output.
 
+use std::collections::VecDeque;
 use std::error::Error;
 use std::fmt;
-use std::ptr;
+use std::os::fd::OwnedFd;
+use std::{mem, ptr};
 
 use crate::{sys, Client, Fault, Kind, Limits, OutOfMemory, Server};
 
@@ -20,6 +22,8 @@ pub enum Event {
         send: Vec<u8>,
         /// Whether both sides agreed to pass Unix file descriptors.
         descriptors: bool,
+        /// The GUID of the server that accepted this client, as text. `None` at a server.
+        guid: Option<String>,
     },
     /// A message, whose bytes are the last of those that were taken.
     Message {
@@ -27,7 +31,7 @@ pub enum Event {
         length: usize,
         /// The call that it answers, which waits no longer.
         call: Option<u64>,
-        /// How many of the Unix file descriptors that came are its own.
+        /// How many Unix file descriptors are its own, which [`Connection::fds`] returns.
         unix_fds: u32,
     },
     /// A message that is longer than those that are given. The next calls take its bytes, which need
@@ -59,6 +63,8 @@ pub struct Came {
 pub enum ConnectionError {
     /// The bytes that follow those that were taken are no message. The connection is to be closed.
     Refused(Fault),
+    /// A message lacks Unix file descriptors. The connection is to be closed.
+    TooFew,
     /// The handshake failed, or the connection was refused before. It is to be closed.
     Over,
     /// The client's end has started.
@@ -75,6 +81,7 @@ impl fmt::Display for ConnectionError {
     fn fmt(&self, f: &mut fmt::Formatter<'_>) -> fmt::Result {
         match self {
             ConnectionError::Refused(fault) => fault.fmt(f),
+            ConnectionError::TooFew => f.write_str("fewer file descriptors came than the message says"),
             ConnectionError::Over => f.write_str("the connection is over"),
             ConnectionError::Started => f.write_str("the end has started"),
             ConnectionError::BadName => f.write_str("the destination is no bus name"),
@@ -114,6 +121,10 @@ pub enum End {
 pub struct Connection {
     // A connection of the library's, from `new` until `drop`.
     raw: sys::dbus_wire_connection,
+    is_client: bool,
+    // Those that no message has, behind those of the message that came last.
+    fds: VecDeque<OwnedFd>,
+    own: usize,
 }
 
 // SAFETY: the header allows calls on a connection from any thread, if one returns before the next
@@ -129,6 +140,7 @@ impl Connection {
     ///
     /// If a client's end has started, or if there is no memory.
     pub fn new(mut end: End, limits: &Limits, longest: u32, calls: u16) -> Result<Self, ConnectionError> {
+        let is_client = matches!(end, End::Client(_));
         let handshake = match &mut end {
             End::Client(client) => client.raw(),
             End::Server(server) => server.raw(),
@@ -136,7 +148,7 @@ impl Connection {
         let mut raw = sys::dbus_wire_connection { inner: ptr::null_mut() };
         // SAFETY: references, as `sys` says, to what is no connection yet.
         match unsafe { sys::dbus_wire_connection_new(handshake, &limits.raw(), longest, calls.into(), &raw mut raw) } {
-            sys::DBUS_WIRE_OK => Ok(Self { raw }),
+            sys::DBUS_WIRE_OK => Ok(Self { raw, is_client, fds: VecDeque::new(), own: 0 }),
             sys::DBUS_WIRE_NO_HANDSHAKE => Err(ConnectionError::Started),
             _ => Err(ConnectionError::OutOfMemory),
         }
@@ -151,6 +163,7 @@ impl Connection {
     /// no memory.
     pub fn take(&mut self, bytes: &[u8]) -> Result<Came, ConnectionError> {
         let mut told = sys::dbus_wire_connection_step::default();
+        drop(self.fds());
         // SAFETY: a slice and references, as `sys` says; only calls write `raw` from `new` on.
         let answer = unsafe { sys::dbus_wire_connection_take(&raw mut self.raw, bytes.as_ptr(), bytes.len(), &raw mut told) };
         if answer != sys::DBUS_WIRE_OK {
@@ -159,9 +172,14 @@ impl Connection {
         let event = match told.event {
             sys::DBUS_WIRE_EVENT_WANTS => Event::Wants(told.wanted as usize),
             sys::DBUS_WIRE_EVENT_UNSENT => Event::Send(self.unsent()),
-            sys::DBUS_WIRE_EVENT_BEGUN => Event::Begun { send: self.unsent(), descriptors: told.descriptors == 1 },
+            sys::DBUS_WIRE_EVENT_BEGUN => {
+                let digits = || told.guid.iter().map(|byte| format!("{byte:02x}")).collect();
+                let guid = self.is_client.then(digits);
+                Event::Begun { send: self.unsent(), descriptors: told.descriptors == 1, guid }
+            }
             sys::DBUS_WIRE_EVENT_MESSAGE => {
                 let call = (told.is_reply == 1).then_some(told.call);
+                self.own = told.unix_fds as usize;
                 Event::Message { length: told.wanted as usize, call, unix_fds: told.unix_fds }
             }
             sys::DBUS_WIRE_EVENT_PASSED => Event::Passed {
@@ -173,9 +191,30 @@ impl Connection {
             sys::DBUS_WIRE_EVENT_REFUSED => {
                 return Err(ConnectionError::Refused(Fault::new(told.offset, told.reason, told.field)))
             }
+            sys::DBUS_WIRE_EVENT_TOO_FEW => return Err(ConnectionError::TooFew),
             _ => return Err(ConnectionError::Over),
         };
         Ok(Came { count: told.count as usize, event })
+    }
+
+    /// Keeps a descriptor that came with a read, until the message ends that it belongs to. Call it
+    /// before the read's bytes are passed; `at_hand` bytes were there before the read and are not
+    /// taken. False if it is closed, and no message has any from now on: they were not agreed on, 253
+    /// wait, or a message was passed over, which may have had some.
+    pub fn keep_fd(&mut self, fd: OwnedFd, at_hand: usize) -> bool {
+        // SAFETY: a reference, as `sys` says; only calls write `raw` from `new` on.
+        let answer = unsafe { sys::dbus_wire_connection_descriptor(&raw mut self.raw, at_hand as u64) };
+        if answer == sys::DBUS_WIRE_OK {
+            self.fds.push_back(fd);
+        }
+        answer == sys::DBUS_WIRE_OK
+    }
+
+    /// The descriptors of the message that came last, once. The next call of [`Connection::take`]
+    /// closes those that are left.
+    pub fn fds(&mut self) -> Vec<OwnedFd> {
+        let own = mem::take(&mut self.own);
+        self.fds.drain(..own).collect()
     }
 
     /// The serial of a message that is sent now and waits for no reply. It is never 0, nor that of

@@ -238,6 +238,13 @@ impl<'a> Message<'a> {
         self.field(&self.parts.signature)
     }
 
+    /// The types of the body's values. Of a message without values some senders write an empty
+    /// SIGNATURE, and others none: it is "" of both.
+    #[must_use]
+    pub fn types(&self) -> &'a str {
+        self.signature().unwrap_or_default()
+    }
+
     /// The number in the UNIX_FDS field, or 0 if there is none.
     #[must_use]
     pub fn unix_fds(&self) -> u32 {

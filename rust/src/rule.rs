@@ -138,6 +138,20 @@ impl RuleSet {
         }
     }
 
+    /// Asks the rules as a bus asks them from now on, or not: of a message with a DESTINATION it
+    /// asks only rules with `eavesdrop='true'`.
+    ///
+    /// # Errors
+    ///
+    /// If memory runs out. The set is then asked as before.
+    pub fn ask_as_bus(&mut self, as_bus: bool) -> Result<(), OutOfMemory> {
+        // SAFETY: a reference, as `sys` says; only calls write `raw`.
+        match unsafe { sys::dbus_wire_rules_as_bus(&raw mut self.raw, u32::from(as_bus)) } {
+            sys::DBUS_WIRE_OK => Ok(()),
+            _ => Err(OutOfMemory),
+        }
+    }
+
     /// The rules each key of which holds of the message. A `sender` that is a well-known name
     /// matches a message whose SENDER is that name itself, or that of its owner, which
     /// [`RuleSet::set_owner`] noted.

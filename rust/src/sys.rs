@@ -139,6 +139,7 @@ pub const DBUS_WIRE_EVENT_REFUSED: u32 = 4;
 pub const DBUS_WIRE_EVENT_FAILED: u32 = 5;
 pub const DBUS_WIRE_EVENT_OVER: u32 = 6;
 pub const DBUS_WIRE_EVENT_PASSED: u32 = 7;
+pub const DBUS_WIRE_EVENT_TOO_FEW: u32 = 8;
 
 pub const DBUS_WIRE_LINE_OTHER: u32 = 0;
 pub const DBUS_WIRE_LINE_AUTH: u32 = 1;
@@ -375,6 +376,7 @@ pub struct dbus_wire_connection_step {
     pub serial: u32,
     pub kind: u16,
     pub flags: u16,
+    pub guid: [u8; 16],
 }
 
 #[repr(C)]
@@ -430,7 +432,7 @@ const _: () = assert!(size_of::<dbus_wire_mechanisms>() == 16);
 const _: () = assert!(size_of::<dbus_wire_handshake>() == 8);
 const _: () = assert!(size_of::<dbus_wire_handshake_step>() == 16);
 const _: () = assert!(size_of::<dbus_wire_connection>() == 8);
-const _: () = assert!(size_of::<dbus_wire_connection_step>() == 64);
+const _: () = assert!(size_of::<dbus_wire_connection_step>() == 80);
 const _: () = assert!(size_of::<dbus_wire_watch>() == 16);
 const _: () = assert!(size_of::<dbus_wire_line>() == 72);
 const _: () = assert!(size_of::<dbus_wire_addresses>() == 24);
@@ -598,6 +600,7 @@ extern "C" {
         owner: *const u8,
         owner_length: usize,
     ) -> u32;
+    pub fn dbus_wire_rules_as_bus(rules: *mut dbus_wire_rules, as_bus: u32) -> u32;
     pub fn dbus_wire_rules_matching(
         rules: *const dbus_wire_rules,
         bytes: *const u8,
@@ -664,6 +667,7 @@ extern "C" {
         length: usize,
         out: *mut dbus_wire_connection_step,
     ) -> u32;
+    pub fn dbus_wire_connection_descriptor(connection: *mut dbus_wire_connection, at_hand: u64) -> u32;
     pub fn dbus_wire_connection_unsent(connection: *mut dbus_wire_connection, out: *mut u8, room: usize, count: *mut u64) -> u32;
     pub fn dbus_wire_connection_serial(connection: *mut dbus_wire_connection, serial: *mut u32) -> u32;
     pub fn dbus_wire_connection_call(

@@ -494,6 +494,13 @@ fn rules_match_messages_by_their_keys_and_owners() {
     assert_eq!(rules.matching(&message).unwrap(), [all]);
     assert!(rules.remove(all) && !rules.may_match(&message, None));
     assert_eq!(rules.text(errors).unwrap().unwrap(), "type='error'");
+
+    let [all, eavesdrops] = ["", "eavesdrop='true'"].map(|text| rules.add(text).unwrap());
+    rules.ask_as_bus(true).unwrap();
+    for message in messages(CAPTURES[0]) {
+        let found = rules.matching(&message).unwrap();
+        assert!(found.contains(&all) == message.destination().is_none() && found.contains(&eavesdrops));
+    }
 }
 
 #[test]

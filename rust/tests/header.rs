@@ -72,7 +72,10 @@ fn in_rust(declaration: &str) -> Vec<String> {
             let (kind, first) = declared(field.split(',').next().unwrap());
             let others = field.split(',').skip(1).map(|name| name.trim().to_owned());
             for name in std::iter::once(first).chain(others) {
-                body += &format!("pub {name}: {kind},");
+                body += &match name.trim_end_matches(']').split_once('[') {
+                    Some((name, count)) => format!("pub {name}: [{kind}; {count}],"),
+                    None => format!("pub {name}: {kind},"),
+                };
             }
         }
         return vec![format!("pub {head} {{ {body} }}")];

@@ -1,13 +1,14 @@
 -- What is told by numbers of one side of a connection.
 -- D-Bus Specification, "Authentication Protocol" and "Message Protocol".
-use Rattle.std.specs.Prelude.{◌≡◌, ℕ, min, nat_le, Bool, true, false, List, [], ◌∷◌, length, Option, Some, None, Result, Ok, Err, MatchResult, if◌then◌else◌}
+use Rattle.std.specs.Prelude.{◌≡◌, ℕ, min, replicate, nat_le, Bool, true, false, List, [], ◌∷◌, length, Option, Some, None, Result, Ok, Err, MatchResult, if◌then◌else◌}
 use Rattle.std.specs.declared.alloc.AllocError.{AllocError}
+use Rattle.dbus_auth_lines.specs.declared.lines.Guid.{Guid}
 use Rattle.dbus_connection.specs.Standing.{Stand}
 use Rattle.dbus_connection.specs.declared.settings.Settings.{Settings}
-use Rattle.dbus_c_connection.specs.Kept.{Calls, GivesUp, IsSame, Numbers, Takes}
-use Rattle.dbus_c_connection.specs.declared.came.Came.{Came}
-use Rattle.dbus_c_connection.specs.declared.came.What.{What}
-use Rattle.dbus_c_connection.specs.declared.came.What.TheVariants as what
+use Rattle.dbus_c_connection.specs.Kept.{Calls, GivesUp, IsSame, KeepsOne, Numbers, Takes}
+use Rattle.dbus_c_connection.specs.declared.kept_step.KeptStep.{KeptStep}
+use Rattle.dbus_c_connection.specs.declared.kept_step.What.{What}
+use Rattle.dbus_c_connection.specs.declared.kept_step.What.TheVariants as what
 use Rattle.dbus_c_connection.specs.declared.kept_connection.NoCall.{NoCall}
 use Rattle.dbus_c_connection.specs.declared.kept_connection.NoCall.TheVariants.{Full, Memory}
 use Rattle.dbus_c_handle.specs.Connections.{Changes, Connects, SendsFrom, connection_of}
@@ -53,13 +54,20 @@ taken_told taken = record {
   serial = 0;
   kind = 0;
   flags = 0;
+  guid = replicate 16 0;
 }
+
+-- the bytes of a GUID, or zeros
+abbrev pub guid_told : Option Guid → List ℕ
+guid_told None = replicate 16 0
+guid_told (Some guid) = guid.0
 
 -- what came, by its number
 abbrev pub what_told : ConnectionStep → What → ConnectionStep
 what_told taken (what.Wants n) = record taken { wanted = n }
 what_told taken what.Unsent = record taken { event = event.UNSENT }
-what_told taken (what.Begun guid agreed) = record taken { event = event.BEGUN; descriptors = if agreed then 1 else 0 }
+what_told taken (what.Begun guid agreed) =
+    record taken { event = event.BEGUN; descriptors = if agreed then 1 else 0; guid = guid_told guid }
 what_told taken (what.Message size fds None) =
     record taken { event = event.MESSAGE; wanted = size; unix_fds = fds }
 what_told taken (what.Message size fds (Some call)) =
@@ -74,22 +82,33 @@ what_told taken (what.Passed p) =
     }
 what_told taken (what.Refused fault) =
     record taken { event = event.NO_MESSAGE; offset = fault.at; reason = reason_number fault.reason; field = field_named fault.reason }
+what_told taken what.TooFew = record taken { event = event.TOO_FEW }
 what_told taken what.Failed = record taken { event = event.FAILED }
 what_told taken what.Over = record taken { event = event.OVER }
 
-abbrev pub came_told : Came → ConnectionStep
+abbrev pub came_told : KeptStep → ConnectionStep
 came_told came = what_told (taken_told came.taken) came.what
 
 -- what came is told; or memory ran out, or there is no connection, and nothing is
-abbrev pub IsCameTold : Option (Result Came AllocError) → ℕ → (old new : ConnectionStep) → Type 0
+abbrev pub IsCameTold : Option (Result KeptStep AllocError) → ℕ → (old new : ConnectionStep) → Type 0
 IsCameTold None answer old new = (answer ≡ NO_CONNECTION) × (new ≡ old)
 IsCameTold (Some (Err e)) answer old new = (answer ≡ NO_MEMORY) × (new ≡ old)
 IsCameTold (Some (Ok came)) answer old new = (answer ≡ WHOLE) × (new ≡ came_told came)
 
 pub record TellsCame (before after : Option Kept) (bytes : List ℕ) (answer : ℕ) (old new : ConnectionStep) : Type 0 where
-  pub result : Option (Result Came AllocError)
+  pub result : Option (Result KeptStep AllocError)
   pub changes : Changes (λ k n r. MatchResult r (Takes k n bytes) (λ _. IsSame k n)) (connection_of before) before after result
   pub is_told : IsCameTold result answer old new
+
+-- whether a descriptor that came is kept
+abbrev pub descriptor_told : Option Bool → ℕ
+descriptor_told None = NO_CONNECTION
+descriptor_told (Some kept) = if kept then WHOLE else REFUSED
+
+pub record TellsDescriptor (at_hand : ℕ) (before after : Option Kept) (answer : ℕ) : Type 0 where
+  pub result : Option Bool
+  pub changes : Changes (λ k n r. KeepsOne k n at_hand r) (connection_of before) before after result
+  pub is_told : answer ≡ descriptor_told result
 
 -- how many bytes there are to send is told, and whether there was room for them
 abbrev pub IsSentTold : Option ℕ → (room : ℕ) → ℕ → (old new : ℕ) → Type 0

@@ -1,6 +1,6 @@
 -- What is told by numbers of match rules: of a rule's text, of a message that they may match, and a
 -- rule's canonical text. D-Bus Specification, "Match Rules".
-use Rattle.std.specs.Prelude.{◌≡◌, ℕ, List, [], codes, nat_eq, if◌then◌else◌, ◌⊎◌, ◌+◌, ◌<◌, ◌≤◌, ◌∷◌, ◌++◌, length, drop, Option, Some, None, IsUtf8}
+use Rattle.std.specs.Prelude.{◌≡◌, ℕ, List, [], codes, nat_eq, not, if◌then◌else◌, ◌⊎◌, ◌+◌, ◌<◌, ◌≤◌, ◌∷◌, ◌++◌, length, drop, Option, Some, None, IsUtf8}
 use Rattle.std.specs.Str.Lossy.{utf8_valid_len}
 use Rattle.std.specs.declared.alloc.Global.{Global}
 use Rattle.dbus_rule.specs.Faults.{rule_reason_text, IsFault}
@@ -15,10 +15,8 @@ use Rattle.dbus_header.specs.MessageOutcomes.{IsWhole}
 use Rattle.dbus_rule.specs.Rules.{canonical}
 use Rattle.dbus_rule.specs.RuleViews.{rule_pairs}
 use Rattle.dbus_rule.specs.declared.rule.Rule.{Rule}
-use Rattle.dbus_rule_set.specs.Held.{Collects, EntryMatches}
-use Rattle.dbus_rule_set.specs.Owners.{OwnerSet}
 use Rattle.dbus_rule_set.specs.declared.handle.RuleHandle.{RuleHandle}
-use Rattle.dbus_c_handle.specs.Rules.{Adds, KeepsAll, SetsOwner}
+use Rattle.dbus_c_handle.specs.Rules.{Adds, Finds, KeepsAll, SetsAsBus, SetsOwner}
 use Rattle.dbus_c_handle.specs.declared.kept.Kept.{Kept}
 use Rattle.dbus_c.specs.Outcomes.{IsTold}
 use Rattle.dbus_c.specs.declared.answers.TheConstants.{WHOLE, REFUSED, NO_MEMORY, NO_ROOM, NO_RULE}
@@ -78,21 +76,26 @@ pub data TellsOwner (name owner : List ℕ) (before after : Option Kept) (answer
   no_name : (IsKind BusName name → IsOwner owner → ⊥) → after ≡ before → answer ≡ REFUSED → TellsOwner name owner before after answer
   no_memory : KeepsAll before after → answer ≡ NO_MEMORY → TellsOwner name owner before after answer
 
+-- the rules are asked as a bus asks them, or, at 0, not; or memory ran out, and all that is kept
+-- stays
+pub data TellsAsBus (as_bus : ℕ) (before after : Option Kept) (answer : ℕ) : Type 0 where
+  asked : SetsAsBus (not (nat_eq as_bus 0)) before after → answer ≡ WHOLE → TellsAsBus as_bus before after answer
+  no_memory : KeepsAll before after → answer ≡ NO_MEMORY → TellsAsBus as_bus before after answer
+
 -- all handles are told, at the start of a room that has room for them; or it has not
 pub data TellsAll (handles : List RuleHandle) (answer : ℕ) (old new : List RuleHandle) : Type 0 where
   written : length handles ≤ length old → answer ≡ WHOLE → new ≡ handles ++ drop (length handles) old → TellsAll handles answer old new
   no_room : length old < length handles → answer ≡ NO_ROOM → new ≡ old → TellsAll handles answer old new
 
 -- what stands for each rule that matches the message is told, and how many there are
-abbrev pub TellsFound : List (RuleHandle × Rule Global) → MessageTree → OwnerSet → ℕ → (old new : List RuleHandle) → (count : ℕ) → Type 0
-TellsFound rules m os answer old new count =
-    (found : List RuleHandle) × Collects (EntryMatches m os) rules [] found × TellsAll found answer old new × (count ≡ length found)
+abbrev pub TellsFound : Option Kept → MessageTree → ℕ → (old new : List RuleHandle) → (count : ℕ) → Type 0
+TellsFound own m answer old new count =
+    (found : List RuleHandle) × Finds own m found × TellsAll found answer old new × (count ≡ length found)
 
--- what is told of rules, with the owners of names, that are asked of the message that bytes begin
--- with
-pub record TellsMatching (rules : List (RuleHandle × Rule Global)) (os : OwnerSet) (limits : Limits) (b : List ℕ) (answer : ℕ) (old new : List RuleHandle)
+-- what is told of the rules that are kept, that are asked of the message that bytes begin with
+pub record TellsMatching (own : Option Kept) (limits : Limits) (b : List ℕ) (answer : ℕ) (old new : List RuleHandle)
     (count_old count_new : ℕ) : Type 0 where
-  pub found : IsTold answer → (order : Order) (m : MessageTree) (n : ℕ) → IsWhole limits b order m n → TellsFound rules m os answer old new count_new
+  pub found : IsTold answer → (order : Order) (m : MessageTree) (n : ℕ) → IsWhole limits b order m n → TellsFound own m answer old new count_new
   pub unchanged : (IsTold answer → ⊥) → (new ≡ old) × (count_new ≡ count_old)
 
 -- a text and a 0 after it are written, or there is no room for both, and its length is told; or

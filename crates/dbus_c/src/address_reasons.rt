@@ -2,7 +2,7 @@
 #![tactic(auto)]
 
 ghost use Rattle.std.specs.Prelude.{◌≡◌, ◌<◌, ◌≤◌, ◌+◌, ◌∷◌, ◌++◌, drop, length};
-ghost use Rattle.dbus_c.specs.Addresses.{AddressNamesAreTexts, address_name_at};
+ghost use Rattle.dbus_c.specs.Addresses.{address_name_at};
 ghost use Rattle.dbus_c.specs.Addresses.{address_reason_number};
 
 use crate::names::put_text;
@@ -51,8 +51,3 @@ fn address_name_numbered(number: u32) -> &'static str
         _ => "",
     }
 }
-
-/// The text of a reason is the name at its number.
-pub fn address_names_are_texts()
-    ensures { AddressNamesAreTexts }
-{}

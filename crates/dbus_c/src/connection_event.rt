@@ -25,3 +25,6 @@ pub const OVER: u32 = 6;
 
 /// A message that is longer than those that are given. Its bytes are taken as they come.
 pub const PASSED: u32 = 7;
+
+/// A message lacks descriptors at its end. The connection is to be closed.
+pub const TOO_FEW: u32 = 8;

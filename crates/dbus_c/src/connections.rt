@@ -4,7 +4,7 @@
 ghost use Rattle.std.specs.Prelude.{◌≡◌, None, MatchOption, option_map};
 ghost use Rattle.dbus_c_handle.specs.Checkers.{handshake_of};
 ghost use Rattle.dbus_c_handle.specs.Connections.{start_of};
-ghost use Rattle.dbus_c.specs.Connections.{IsConnectionMade, TellsCall, TellsCame, TellsGivenUp, TellsSent, TellsSerial, came_told, connected_told, destination_given, settings_given, taken_told};
+ghost use Rattle.dbus_c.specs.Connections.{IsConnectionMade, TellsCall, TellsCame, TellsDescriptor, TellsGivenUp, TellsSent, TellsSerial, came_told, connected_told, destination_given, guid_told, settings_given, taken_told};
 ghost use Rattle.dbus_c.specs.Rules.{IsOwner};
 
 use crate::answers::{NO_CONNECTION, NO_HANDSHAKE, NO_MEMORY, NO_ROOM, NO_VALUE, REFUSED, WHOLE};
@@ -12,7 +12,8 @@ use crate::connection_event as event;
 use crate::given_limits::{WireLimits, at_most, given_limits};
 use crate::reasons::{field_named, reason_number};
 use crate::rules::bus_name;
-use dbus_c_connection::{Came, NoCall, What};
+use dbus_auth_lines::Guid;
+use dbus_c_connection::{KeptStep, NoCall, What};
 use dbus_c_handle::WireHandle;
 use dbus_connection::Settings;
 use std::alloc::{AllocError, Global};
@@ -34,7 +35,8 @@ pub struct ConnectionStep {
     pub event: u32,
     /// Of a message: 1 if it answers a call.
     pub is_reply: u32,
-    /// Of a message: how many of the Unix file descriptors that come beside the bytes are its own.
+    /// Of a message: how many of the Unix file descriptors that came are its own: the first of those
+    /// that no message has.
     pub unix_fds: u32,
     /// Of [`event::BEGUN`]: 1 if both ends agreed to pass Unix file descriptors.
     pub descriptors: u32,
@@ -48,6 +50,8 @@ pub struct ConnectionStep {
     pub kind: u16,
     /// Of [`event::PASSED`]: its flags.
     pub flags: u16,
+    /// Of [`event::BEGUN`] at a client: the server's GUID.
+    pub guid: [u8; 16],
 }
 
 /// Makes the side of a connection of an end that has not started, which `handshake` then keeps no
@@ -92,6 +96,23 @@ pub extern "C" fn dbus_wire_connection_take(
             *out = came_told(came);
             WHOLE
         }
+    }
+}
+
+/// Tells the connection that a Unix file descriptor came with a read, before which so many bytes
+/// were at hand that are not taken: [`WHOLE`]. Tell each before the bytes of its read. It goes to a
+/// message of which [`ConnectionStep::unix_fds`] counts it, in order. [`REFUSED`] if more than
+/// [`dbus_c_connection::MOST_DESCRIPTORS`] would wait, or if no message has any from now on: one was
+/// passed over that may have had some, they were not agreed on, or one was refused before.
+/// [`NO_CONNECTION`] if there is no connection. D-Bus Specification, "Header Fields" (UNIX_FDS).
+#[unsafe(no_mangle)]
+pub extern "C" fn dbus_wire_connection_descriptor(connection: &mut WireHandle, at_hand: u64) -> u32
+    ensures { TellsDescriptor at_hand connection.old.state connection.new.state result }
+{
+    match connection.keep_descriptor(at_hand) {
+        None => NO_CONNECTION,
+        Some(false) => REFUSED,
+        Some(true) => WHOLE,
     }
 }
 
@@ -225,7 +246,7 @@ fn destination_given(text: &[u8]) -> Option<Option<&str>>
 }
 
 // What is told of what came.
-fn came_told(came: Came) -> ConnectionStep
+fn came_told(came: KeptStep) -> ConnectionStep
     ensures { result ≡ came_told came }
 {
     let taken = taken_told(came.taken as u64);
@@ -235,9 +256,10 @@ fn came_told(came: Came) -> ConnectionStep
             event: event::UNSENT,
             ..taken
         },
-        What::Begun { agreed, .. } => ConnectionStep {
+        What::Begun { guid, agreed } => ConnectionStep {
             event: event::BEGUN,
             descriptors: u32::from(agreed),
+            guid: guid_told(guid),
             ..taken
         },
         What::Message { length, fds, call } => ConnectionStep {
@@ -261,6 +283,10 @@ fn came_told(came: Came) -> ConnectionStep
             serial: passed.header.serial,
             kind: u16::from(passed.header.kind),
             flags: u16::from(passed.header.flags),
+            ..taken
+        },
+        What::TooFew => ConnectionStep {
+            event: event::TOO_FEW,
             ..taken
         },
         What::Failed => ConnectionStep {
@@ -292,5 +318,19 @@ fn taken_told(count: u64) -> ConnectionStep
         serial: 0,
         kind: 0,
         flags: 0,
+        guid: [0; 16],
+    }
+}
+
+// The bytes of a GUID, or zeros.
+fn guid_told(guid: Option<Guid>) -> [u8; 16]
+    ensures { result ≡ guid_told guid }
+{
+    match guid {
+        Some(guid) => {
+            let Guid(bytes) = guid;
+            bytes
+        }
+        None => [0; 16],
     }
 }

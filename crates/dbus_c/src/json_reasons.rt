@@ -2,7 +2,7 @@
 #![tactic(auto)]
 
 ghost use Rattle.std.specs.Prelude.{◌≡◌};
-ghost use Rattle.dbus_c.specs.JsonReasons.{JsonNamesAreTexts, OneJsonNumber, json_field_named, json_reason_number};
+ghost use Rattle.dbus_c.specs.JsonReasons.{json_field_named, json_reason_number};
 
 use dbus_json_lines::JsonReason;
 
@@ -57,13 +57,3 @@ pub fn json_field_named(reason: JsonReason) -> u32
         _ => 0,
     }
 }
-
-/// Two reasons that have one number and name one field are the same.
-pub fn json_reasons_have_one_number()
-    ensures { OneJsonNumber }
-{}
-
-/// The text of a reason is the name at its number, and the code of the field if one is missing.
-pub fn json_names_are_texts()
-    ensures { JsonNamesAreTexts }
-{}

@@ -12,8 +12,8 @@
 //! [`dbus_wire_flatten_whole`] gives the header fields and the values of the body before the fault.
 //! [`dbus_wire_checker_new`] makes a checker that takes one
 //! piece after another, and [`dbus_wire_rules_add`] keeps match rules,
-//! [`dbus_wire_rules_owner`] the owners of names, and [`dbus_wire_rules_may_match`] says whether one
-//! may match a message;
+//! [`dbus_wire_rules_owner`] the owners of names, [`dbus_wire_rules_as_bus`] asks as a bus asks, and
+//! [`dbus_wire_rules_may_match`] says whether one may match a message;
 //! [`dbus_wire_server_new`] and [`dbus_wire_client_new`] make an end of a handshake, and
 //! [`dbus_wire_connection_new`] a side of a connection of it;
 //! [`dbus_wire_client_line`] and [`dbus_wire_server_line`] give the lines of one between others, of
@@ -43,6 +43,7 @@ mod handshake_lines;
 mod handshakes;
 mod json_lines;
 mod json_reasons;
+pub mod laws;
 pub mod line_command;
 mod names;
 mod parts;
@@ -59,7 +60,6 @@ mod whole_parts;
 mod writers;
 mod written;
 
-pub use address_reasons::address_names_are_texts;
 pub use address_reasons::address_reason_number;
 pub use address_reasons::dbus_wire_address_reason_name;
 pub use addresses::AddressesTold;
@@ -90,6 +90,7 @@ pub use checking::Checked;
 pub use checking::dbus_wire_check;
 pub use connections::ConnectionStep;
 pub use connections::dbus_wire_connection_call;
+pub use connections::dbus_wire_connection_descriptor;
 pub use connections::dbus_wire_connection_free;
 pub use connections::dbus_wire_connection_give_up;
 pub use connections::dbus_wire_connection_new;
@@ -122,24 +123,20 @@ pub use handshakes::dbus_wire_server_new;
 pub use json_lines::WireLinePlace;
 pub use json_lines::dbus_wire_json;
 pub use json_reasons::json_field_named;
-pub use json_reasons::json_names_are_texts;
 pub use json_reasons::json_reason_number;
-pub use json_reasons::json_reasons_have_one_number;
 pub use names::dbus_wire_reason_name;
-pub use names::names_are_texts;
 pub use parts::TextPlace;
 pub use parts::WireParts;
 pub use parts::dbus_wire_parts_of;
 pub use reading::dbus_wire_read;
 pub use reasons::field_named;
 pub use reasons::reason_number;
-pub use reasons::reasons_have_one_number;
 pub use rule_reasons::NOT_UTF8;
 pub use rule_reasons::dbus_wire_rule_reason_name;
-pub use rule_reasons::rule_names_are_texts;
 pub use rule_reasons::rule_reason_number;
 pub use rules::RuleRefused;
 pub use rules::dbus_wire_rules_add;
+pub use rules::dbus_wire_rules_as_bus;
 pub use rules::dbus_wire_rules_free;
 pub use rules::dbus_wire_rules_matching;
 pub use rules::dbus_wire_rules_may_match;

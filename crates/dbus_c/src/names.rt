@@ -2,7 +2,7 @@
 #![tactic(auto)]
 
 ghost use Rattle.std.specs.Prelude.{◌≡◌, ◌<◌, ◌≤◌, ◌+◌, ◌∷◌, ◌++◌, drop, length};
-ghost use Rattle.dbus_c.specs.Reasons.{NamesAreTexts, name_at};
+ghost use Rattle.dbus_c.specs.Reasons.{name_at};
 
 /// Writes the name of the reason of this number, and a 0 after it, at the start of `out`, if that
 /// has room for both; else `out` stays as it is. Returns the name's length, 0 if there is no such
@@ -83,8 +83,3 @@ fn name_numbered(number: u32) -> &'static str
         _ => "",
     }
 }
-
-/// The text of a reason is the name at its number, and the code of the field if one is missing.
-pub fn names_are_texts()
-    ensures { NamesAreTexts }
-{}

@@ -2,7 +2,7 @@
 #![tactic(auto)]
 
 ghost use Rattle.std.specs.Prelude.{◌≡◌};
-ghost use Rattle.dbus_c.specs.Reasons.{OneNumber, field_named, reason_number};
+ghost use Rattle.dbus_c.specs.Reasons.{field_named, reason_number};
 
 use dbus_value_model::Reason;
 
@@ -51,8 +51,3 @@ pub fn field_named(reason: Reason) -> u32
         _ => 0,
     }
 }
-
-/// Two reasons that have one number and name one field are the same.
-pub fn reasons_have_one_number()
-    ensures { OneNumber }
-{}

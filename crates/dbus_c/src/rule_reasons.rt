@@ -2,7 +2,7 @@
 #![tactic(auto)]
 
 ghost use Rattle.std.specs.Prelude.{◌≡◌, ◌<◌, ◌≤◌, ◌+◌, ◌∷◌, ◌++◌, drop, length};
-ghost use Rattle.dbus_c.specs.Rules.{RuleNamesAreTexts, rule_name_at, rule_reason_number};
+ghost use Rattle.dbus_c.specs.Rules.{rule_name_at, rule_reason_number};
 
 use crate::names::put_text;
 use dbus_match::RuleReason;
@@ -53,8 +53,3 @@ fn rule_name_numbered(number: u32) -> &'static str
         _ => "",
     }
 }
-
-/// The text of a reason is the name at its number.
-pub fn rule_names_are_texts()
-    ensures { RuleNamesAreTexts }
-{}

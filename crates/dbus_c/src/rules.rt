@@ -6,8 +6,8 @@ ghost use Rattle.dbus_c.specs.Checking.{IsChecked};
 ghost use Rattle.dbus_c.specs.GivenLimits.{limits_of};
 ghost use Rattle.dbus_c.specs.MayMatch.{TellsMay};
 ghost use Rattle.dbus_c.specs.Outcomes.{with_memory, with_room};
-ghost use Rattle.dbus_c.specs.Rules.{IsOwner, TellsAll, TellsMatching, TellsOwner, TellsRule, TellsRuleText, removal_told, rule_fault_told};
-ghost use Rattle.dbus_c_handle.specs.Rules.{given_of, owners_of, rules_of};
+ghost use Rattle.dbus_c.specs.Rules.{IsOwner, TellsAll, TellsAsBus, TellsMatching, TellsOwner, TellsRule, TellsRuleText, removal_told, rule_fault_told};
+ghost use Rattle.dbus_c_handle.specs.Rules.{as_bus_of, given_of, owners_of, rules_of};
 ghost use Rattle.dbus_texts.specs.Kinds.{IsKind};
 ghost use Rattle.dbus_texts.specs.declared.text_kind.TextKind.TheVariants.{BusName};
 ghost use Rattle.dbus_rule_set.specs.Held.{rule_at, without};
@@ -77,6 +77,7 @@ pub extern "C" fn dbus_wire_rules_remove(rules: &mut WireHandle, id: &RuleHandle
     ensures told { result ≡ removal_told (rule_at id.now (rules_of rules.old.state)) }
     ensures removed { rules_of rules.new.state ≡ without id.now (rules_of rules.old.state) }
     ensures given { given_of rules.new.state ≡ given_of rules.old.state }
+    ensures asked { as_bus_of rules.new.state ≡ as_bus_of rules.old.state }
     ensures owners { owners_of rules.new.state ≡ owners_of rules.old.state }
 {
     if rules.remove_rule(*id) {
@@ -111,6 +112,19 @@ pub extern "C" fn dbus_wire_rules_owner(
     }
 }
 
+/// Asks the rules as a bus asks them from now on, or, if `as_bus` is 0, not: [`WHOLE`]. A bus asks
+/// of a message with a DESTINATION only rules with `eavesdrop='true'`. [`NO_MEMORY`] if memory runs
+/// out; then what is kept stays. D-Bus Specification, "Eavesdropping".
+#[unsafe(no_mangle)]
+pub extern "C" fn dbus_wire_rules_as_bus(alloc: Global, rules: &mut WireHandle, as_bus: u32) -> u32
+    ensures { TellsAsBus as_bus rules.old.state rules.new.state result }
+{
+    match rules.ask_as_bus(alloc, as_bus != 0) {
+        Ok(()) => WHOLE,
+        Err(_) => NO_MEMORY,
+    }
+}
+
 /// Writes the id of each rule that matches the message within the limits that the bytes begin with,
 /// from the start of `ids` on: [`WHOLE`]. [`NO_ROOM`] if `ids` is too short for them, and then it
 /// stays as it is. In both cases `count` is their number. [`crate::PARTIAL`] and [`REFUSED`] as
@@ -132,8 +146,7 @@ pub extern "C" fn dbus_wire_rules_matching(
 ) -> u32
     ensures same { rules.new.state ≡ rules.old.state }
     ensures checked { IsChecked (limits_of limits.now) bytes.now (with_room (with_memory result)) told.new }
-    ensures matching { TellsMatching (rules_of rules.old.state) (owners_of rules.old.state) (limits_of limits.now) bytes.now result
-        ids.old ids.new count.old count.new }
+    ensures matching { TellsMatching rules.old.state (limits_of limits.now) bytes.now result ids.old ids.new count.old count.new }
 {
     let validated = match first_validated(bytes, limits, told) {
         Ok(validated) => validated,
@@ -166,8 +179,7 @@ pub extern "C" fn dbus_wire_rules_may_match(
 ) -> u32
     ensures same { rules.new.state ≡ rules.old.state }
     ensures checked { IsChecked (limits_of limits.now) bytes.now result told.new }
-    ensures may { TellsMay (rules_of rules.old.state) (owners_of rules.old.state) (limits_of limits.now)
-        bytes.now sender.now result may.old may.new }
+    ensures may { TellsMay rules.old.state (limits_of limits.now) bytes.now sender.now result may.old may.new }
 {
     let validated = match first_validated(bytes, limits, told) {
         Ok(validated) => validated,

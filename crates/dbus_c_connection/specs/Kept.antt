@@ -1,7 +1,7 @@
 -- One side of a connection, as it is kept for calls that tell no bytes. D-Bus Specification,
 -- "Authentication Protocol" and "Message Protocol".
-use Rattle.std.specs.Prelude.{◌≡◌, ◌≤◌, ◌<◌, ◌+◌, ◌++◌, nat_eq, ℕ, List, [], ◌∷◌, length, drop, Option, Some, None, Result, Ok, Err, option_map, is_some, string_bytes, if◌then◌else◌}
-use Rattle.dbus_value_model.specs.declared.limits.Limits.{Limits}
+use Rattle.std.specs.Prelude.{◌≡◌, ◌≤◌, ◌<◌, ◌+◌, ◌-◌, ◌^◌, ◌++◌, ◌⊎◌, min, nat_eq, ℕ, Bool, false, List, [], ◌∷◌, length, drop, Option, Some, None, Result, Ok, Err, option_map, string_bytes, if◌then◌else◌}
+use Rattle.std.specs.Bool.{OnTrue, OnFalse}
 use Rattle.dbus_value_model.specs.declared.order.Order.{Order}
 use Rattle.dbus_message_model.specs.Messages.{MessageTree}
 use Rattle.dbus_view.specs.Views.{ViewState, Views}
@@ -12,20 +12,24 @@ use Rattle.dbus_pending.specs.declared.pending.Pending.{Pending}
 use Rattle.dbus_replies.specs.Replies.{answered_by, waiting_after}
 use Rattle.dbus_c_auth.specs.declared.handshake.Handshake.{Handshake}
 use Rattle.dbus_c_auth.specs.declared.handshake.Handshake.TheVariants as end
+use Rattle.dbus_descriptors.specs.Kept.{HasRoom, Kept, closed, kept}
+use Rattle.dbus_descriptors.specs.declared.descriptors.NotTaken.{NotTaken}
 use Rattle.dbus_connection.specs.Answers.{Answers, gone_on}
-use Rattle.dbus_connection.specs.Shown.{IsNew, settings_of, stand, taken_of, told}
+use Rattle.dbus_connection.specs.Handing.{Hands, IsLacking}
+use Rattle.dbus_connection.specs.Shown.{IsAsBefore, IsNew, settings_of, stand, taken_of, told}
 use Rattle.dbus_connection.specs.Standing.{Client, Server, Stand, Told, Wants, Sends as SendsBytes, Begins, Gives, Passes, Refuses, Fails, IsOver, stands_by}
 use Rattle.dbus_connection.specs.declared.event.Incoming.{Incoming}
 use Rattle.dbus_connection.specs.declared.sending.Asked.{Asked}
 use Rattle.dbus_connection.specs.declared.settings.Settings.{Settings}
-use Rattle.dbus_c_connection.specs.declared.came.Came.{Came}
-use Rattle.dbus_c_connection.specs.declared.came.What.{What}
-use Rattle.dbus_c_connection.specs.declared.came.What.TheVariants as what
+use Rattle.dbus_c_connection.specs.declared.kept_step.KeptStep.{KeptStep}
+use Rattle.dbus_c_connection.specs.declared.kept_step.What.{What}
+use Rattle.dbus_c_connection.specs.declared.kept_step.What.TheVariants as what
 use Rattle.dbus_c_connection.specs.declared.kept_connection.KeptConnection.{KeptConnection}
+use Rattle.dbus_c_connection.specs.declared.kept_connection.TheConstants.{MOST_DESCRIPTORS}
 use Rattle.dbus_c_connection.specs.declared.kept_connection.NoCall.{NoCall}
 use Rattle.dbus_c_connection.specs.declared.kept_connection.NoCall.TheVariants.{Full, Memory}
 
--- where it stands, what it has to send, and the calls that wait
+-- where it stands, what it has to send, the calls that wait, and the descriptors that do
 abbrev pub stands : KeptConnection → Stand
 stands k = stand k.connection
 
@@ -34,6 +38,9 @@ unsent k = k.unsent.items
 
 abbrev pub calls : KeptConnection → Pending (Asked ℕ)
 calls k = k.connection.pending
+
+abbrev pub descriptors : KeptConnection → Kept (Unit {0})
+descriptors k = kept k.descriptors
 
 -- where a connection of an end stands; of a client's that has started there is none
 abbrev pub unstarted : Handshake → Option Stand
@@ -44,7 +51,9 @@ unstarted (end.Server e) = Some (Server e)
 abbrev pub IsMade : Option Stand → Settings → Option KeptConnection → Type 0
 IsMade None settings made = made ≡ None
 IsMade (Some there) settings None = ⊥
-IsMade (Some there) settings (Some k) = IsNew there settings k.connection × (unsent k ≡ [])
+IsMade (Some there) settings (Some k) =
+    IsNew there settings k.connection × (unsent k ≡ [])
+    × (descriptors k ≡ record { waiting = []; most = MOST_DESCRIPTORS; passed = 0; over = false })
 
 -- whom a call was sent to
 abbrev pub sent_to : Asked ℕ → Option (List ℕ)
@@ -83,11 +92,12 @@ abbrev pub told_message : Incoming → Told
 told_message m = Gives m.view m.fds
 
 module _ (old new : KeptConnection) where
-  -- it stands there, and has taken so many bytes
+  -- it stands there, and has taken so many bytes, and these descriptors wait
   pub record IsSide : Type 0 where
     pub stands : stands new ≡ stands old
     pub keeps : settings_of new.connection ≡ settings_of old.connection
     pub taken : taken_of new.connection ≡ taken_of old.connection
+    pub descriptors : descriptors new ≡ descriptors old
 
   -- nothing is changed
   pub record IsSame : Type 0 where
@@ -96,21 +106,45 @@ module _ (old new : KeptConnection) where
     pub calls : calls new ≡ calls old
 
   -- what the bytes begin with is taken, and told
-  pub record Took (bytes : List ℕ) (came : Came) : Type 0 where
+  pub record Took (bytes : List ℕ) (came : KeptStep) : Type 0 where
     pub told : Told
     pub answers : Answers (settings_of old.connection) (stands old) bytes (record { taken = came.taken; told = told })
     pub what : IsWhat (calls old) (calls new) told came.what
     pub stands : stands new ≡ stands_by (gone_on (stands old) bytes) told
     pub unsent : unsent new ≡ sent_by told
     pub keeps : settings_of new.connection ≡ settings_of old.connection
+    pub taken : taken_of new.connection ≡ min (2 ^ 64 - 1) (taken_of old.connection + came.taken)
+    pub own : List (Unit {0})
+    pub hands : Hands (taken_of new.connection) told (descriptors old) (descriptors new) [] own
+
+  -- or a message lacks descriptors, and the connection is closed
+  pub record Lacked (bytes : List ℕ) (came : KeptStep) : Type 0 where
+    pub why : NotTaken
+    pub lacks : IsLacking old.connection new.connection bytes (descriptors old) (descriptors new) why
+    pub what : came ≡ record { taken = 0; what = what.TooFew }
+    pub unsent : unsent new ≡ unsent old
+    pub calls : calls new ≡ calls old
+    pub keeps : settings_of new.connection ≡ settings_of old.connection
 
   -- nothing is, while there are bytes to send
-  abbrev pub TakesAfter : (unsent : List ℕ) → (bytes : List ℕ) → Came → Type 0
-  TakesAfter [] bytes came = Took bytes came
+  abbrev pub TakesAfter : (unsent : List ℕ) → (bytes : List ℕ) → KeptStep → Type 0
+  TakesAfter [] bytes came = Took bytes came ⊎ Lacked bytes came
   TakesAfter (b ∷ bs) bytes came = (came ≡ record { taken = 0; what = what.Unsent }) × IsSame
 
-  abbrev pub Takes : (bytes : List ℕ) → Came → Type 0
+  abbrev pub Takes : (bytes : List ℕ) → KeptStep → Type 0
   Takes bytes came = TakesAfter (unsent old) bytes came
+
+  -- one more descriptor waits, which came so many bytes behind those that are taken, or it does not,
+  -- and no message takes any from then on
+  pub record KeepsOne (at_hand : ℕ) (yes : Bool) : Type 0 where
+    pub place : ℕ
+    pub place_is : place ≡ min (2 ^ 64 - 1) (taken_of old.connection + at_hand)
+    pub kept : OnTrue yes (HasRoom (descriptors old) place × (descriptors new ≡ record (descriptors old)
+        { waiting = (descriptors old).waiting ++ record { place = place; descriptor = tt } ∷ [] }))
+    pub over : OnFalse yes ((HasRoom (descriptors old) place → ⊥) × (descriptors new ≡ closed (descriptors old)))
+    pub side : IsAsBefore old.connection new.connection
+    pub unsent : unsent new ≡ unsent old
+    pub calls : calls new ≡ calls old
 
   -- the bytes to send are written over the room's first, if it has place for so many
   pub record Sends (before after : List ℕ) (number : ℕ) : Type 0 where

@@ -1,13 +1,17 @@
 //! One side of a connection that is kept from call to call.
 #![tactic(auto)]
 
-use crate::came::{Came, What};
+use crate::kept_step::{KeptStep, What};
 use dbus_c_auth::Handshake;
 use dbus_calls::EventView;
 use dbus_connection::{Asked, Begun, Connection, Event, Incoming, Settings, Step};
+use dbus_descriptors::{Came, Descriptors, NotTaken};
 use dbus_pending::NotWaiting;
 use dbus_replies::reply_of;
 use std::alloc::{AllocError, Global};
+
+/// How many descriptors may wait for their messages: as many as Linux passes at once.
+pub const MOST_DESCRIPTORS: usize = 253;
 
 /// Why a call does not wait.
 #[derive(Clone, Copy, Drop)]
@@ -29,50 +33,89 @@ impl From<AllocError> for NoCall {
     }
 }
 
-/// One side of a connection, with what it has to send, and a number for each call that waits.
+/// One side of a connection, with what it has to send, a number for each call that waits, and where
+/// the descriptors came that no message has. These themselves its caller keeps, in order.
 #[derive(Drop)]
 pub struct KeptConnection {
     connection: Connection<u64>,
     unsent: Vec<u8>,
+    descriptors: Descriptors<()>,
+    own: Vec<()>,
 }
 
 impl KeptConnection {
-    ghost use Rattle.std.specs.Prelude.{◌≡◌, [], MatchResult, option_map};
+    ghost use Rattle.std.specs.Prelude.{◌≡◌, [], IfOk, MatchResult, option_map};
     ghost use Rattle.dbus_connection.specs.Shown.{told};
-    ghost use Rattle.dbus_c_connection.specs.Kept.{Calls, GivesUp, IsMade, IsSame, IsSide, IsWhat, Numbers, Sends, Takes, calls, sent_by, told_message, unsent, unstarted};
+    ghost use Rattle.dbus_c_connection.specs.Kept.{Calls, GivesUp, IsMade, IsSame, IsSide, IsWhat, KeepsOne, Numbers, Sends, Takes, calls, sent_by, told_message, unsent, unstarted};
 
-    /// The side of an end. `None` of a client's that has started.
-    pub fn new(alloc: Global, end: Handshake, settings: Settings) -> Option<Self>
-        ensures { IsMade (unstarted end) settings result }
+    /// The side of an end. `None` of a client's that has started. `AllocError`: the allocation failed
+    /// of room for [`MOST_DESCRIPTORS`].
+    pub fn new(
+        alloc: Global,
+        end: Handshake,
+        settings: Settings,
+    ) -> Result<Option<Self>, AllocError>
+        ensures { IfOk result (λ made. IsMade (unstarted end) settings made) }
     {
         let connection = match end {
             Handshake::Client(side) => {
-                Connection::client(alloc, side.into_unstarted()?, settings)
+                let Some(end) = side.into_unstarted() else {
+                    return Ok(None);
+                };
+                Connection::client(alloc, end, settings)
             }
             Handshake::Server(side) => Connection::server(alloc, side.into_end(), settings),
         };
-        Some(KeptConnection {
+        Ok(Some(KeptConnection {
             connection,
             unsent: Vec::new(alloc),
-        })
+            descriptors: Descriptors::new(alloc, MOST_DESCRIPTORS)?,
+            own: Vec::new(alloc),
+        }))
     }
 
-    /// Takes what the bytes begin with, as [`Connection::take`] does, and takes the call that a
+    /// Keeps that a descriptor came with a read, before which so many bytes were at hand that are not
+    /// taken, as [`Descriptors::keep`] does: tell each before the bytes of its read are handed in.
+    /// Whether it is kept; if not, close it, and no message has any from then on.
+    pub fn keep_descriptor(&mut self, at_hand: u64) -> bool
+        ensures { KeepsOne self.old self.new at_hand result }
+    {
+        let place = self.connection.taken().saturating_add(at_hand);
+        let came = Came {
+            place,
+            descriptor: (),
+        };
+        self.descriptors.keep(came).is_ok()
+    }
+
+    /// Takes what the bytes begin with, as [`Connection::take_with`] does, and takes the call that a
     /// message answers, as [`reply_of`] does. Nothing is taken while there are bytes to send.
     ///
     /// `AllocError`: an allocation failed. Then nothing is changed: hand in the same bytes again.
-    pub fn take(&mut self, bytes: &[u8]) -> Result<Came, AllocError>
+    pub fn take(&mut self, bytes: &[u8]) -> Result<KeptStep, AllocError>
         ensures { MatchResult result (λ came. Takes self.old self.new bytes.now came) (λ _. IsSame self.old self.new) }
     {
         if !self.unsent.is_empty() {
-            return Ok(Came {
+            return Ok(KeptStep {
                 taken: 0,
                 what: What::Unsent,
             });
         }
-        let Step { taken, event } = self.connection.take(bytes)?;
-        let what = self.keep(event);
-        Ok(Came { taken, what })
+        self.own.clear();
+        match self
+            .connection
+            .take_with(bytes, &mut self.descriptors, &mut self.own)
+        {
+            Ok(Step { taken, event }) => {
+                let what = self.keep(event);
+                Ok(KeptStep { taken, what })
+            }
+            Err(NotTaken::Memory) => Err(AllocError),
+            Err(NotTaken::TooFew | NotTaken::Over) => Ok(KeptStep {
+                taken: 0,
+                what: What::TooFew,
+            }),
+        }
     }
 
     // What is told of what came. The bytes to send are kept.

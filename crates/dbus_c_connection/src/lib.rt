@@ -3,8 +3,8 @@
 //! "Authentication Protocol" and "Message Protocol".
 #![tactic(auto)]
 
-mod came;
 mod kept_connection;
+mod kept_step;
 
-pub use came::{Came, What};
-pub use kept_connection::{KeptConnection, NoCall};
+pub use kept_connection::{KeptConnection, MOST_DESCRIPTORS, NoCall};
+pub use kept_step::{KeptStep, What};

@@ -117,7 +117,7 @@ module _ {M : Type 1} {𝓤 : Ura M} {𝓛 : Logic 𝓤} {K : Type 0} {Γ : List
 
 pub all_kept : (old mid new : Option Kept) → KeepsAll old mid → KeepsAll mid new → KeepsAll old new
 all_kept old mid new a b = record {
-  stay = record { rules = b.stay.rules ∙ a.stay.rules; given = b.stay.given ∙ a.stay.given; owners = b.stay.owners ∙ a.stay.owners };
+  stay = record { rules = b.stay.rules ∙ a.stay.rules; given = b.stay.given ∙ a.stay.given; asked = b.stay.asked ∙ a.stay.asked; owners = b.stay.owners ∙ a.stay.owners };
   other = b.other ∙ a.other;
 }
 
@@ -131,6 +131,7 @@ added_to w rule old mid new spelled same (Ok h) a = (
     unheld = ap (rule_at h) (sym same.stay.rules) ∙ a.unheld;
     number = a.number ∙ same.stay.given;
     given = a.given ∙ ap (λ n. n + 1) same.stay.given;
+    asked = a.asked ∙ same.stay.asked;
     owners = a.owners ∙ same.stay.owners;
   },
 )

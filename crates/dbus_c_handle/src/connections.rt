@@ -4,13 +4,13 @@
 use crate::handle::WireHandle;
 use crate::kept::Kept;
 use dbus_c_auth::Handshake;
-use dbus_c_connection::{Came, KeptConnection, NoCall};
+use dbus_c_connection::{KeptConnection, KeptStep, NoCall};
 use dbus_connection::Settings;
 use std::alloc::{AllocError, Global};
 
 impl WireHandle {
     ghost use Rattle.std.specs.Prelude.{◌≡◌, None, MatchResult, option_map};
-    ghost use Rattle.dbus_c_connection.specs.Kept.{Calls, GivesUp, IsSame, Numbers, Takes};
+    ghost use Rattle.dbus_c_connection.specs.Kept.{Calls, GivesUp, IsSame, KeepsOne, Numbers, Takes};
     ghost use Rattle.dbus_c_handle.specs.Checkers.{handshake_of};
     ghost use Rattle.dbus_c_handle.specs.Connections.{Changes, Connects, SendsFrom, connection_of, start_of};
 
@@ -32,7 +32,7 @@ impl WireHandle {
         let Some(end) = handshake.take_end(alloc) else {
             return Ok(false);
         };
-        match KeptConnection::new(alloc, end, settings) {
+        match KeptConnection::new(alloc, end, settings)? {
             None => Ok(false),
             Some(connection) => {
                 *self = WireHandle::of(Box::new(alloc, Kept::Connection(connection))?);
@@ -54,12 +54,24 @@ impl WireHandle {
 
     /// Hands the connection what came, as [`KeptConnection::take`] takes it; `None` if the handle
     /// keeps no connection, and then it stays as it is.
-    pub fn take_bytes(&mut self, bytes: &[u8]) -> Option<Result<Came, AllocError>>
+    pub fn take_bytes(&mut self, bytes: &[u8]) -> Option<Result<KeptStep, AllocError>>
         ensures { Changes (λ k n r. MatchResult r (Takes k n bytes.now) (λ _. IsSame k n))
             (connection_of self.old.state) self.old.state self.new.state result }
     {
         match self.kept()? {
             Kept::Connection(connection) => Some(connection.take(bytes)),
+            _ => None,
+        }
+    }
+
+    /// Keeps that a descriptor came, as [`KeptConnection::keep_descriptor`] does; `None` if the handle
+    /// keeps no connection, and then it stays as it is.
+    pub fn keep_descriptor(&mut self, at_hand: u64) -> Option<bool>
+        ensures { Changes (λ k n r. KeepsOne k n at_hand r)
+            (connection_of self.old.state) self.old.state self.new.state result }
+    {
+        match self.kept()? {
+            Kept::Connection(connection) => Some(connection.keep_descriptor(at_hand)),
             _ => None,
         }
     }

@@ -17,14 +17,15 @@ pub struct KeptRules {
 }
 
 impl KeptRules {
-    ghost use Rattle.std.specs.Prelude.{◌≡◌, []};
+    ghost use Rattle.std.specs.Prelude.{◌≡◌, [], false};
     ghost use Rattle.std.specs.FinSet.{empty};
-    ghost use Rattle.dbus_rule_set.specs.Held.{held, given};
+    ghost use Rattle.dbus_rule_set.specs.Held.{asks_as_bus, held, given};
 
     /// No rule, and no owner of a name. It allocates nothing.
     pub fn new(alloc: Global) -> KeptRules
         ensures rules { held result.rules ≡ [] }
         ensures given { given result.rules ≡ 0 }
+        ensures asked { asks_as_bus result.rules ≡ false }
         ensures owners { result.owners ≡ empty }
     {
         KeptRules {

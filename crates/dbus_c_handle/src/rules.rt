@@ -3,7 +3,7 @@
 
 ghost use Rattle.std.specs.Prelude.{◌≡◌, Some, MatchResult};
 ghost use Rattle.dbus_rule.specs.declared.fault.RuleFault.TheVariants.{Memory};
-ghost use Rattle.dbus_c_handle.specs.Rules.{AddsRule, KeepsAll, SetsOwner};
+ghost use Rattle.dbus_c_handle.specs.Rules.{AddsRule, KeepsAll, SetsAsBus, SetsOwner};
 
 use crate::handle::WireHandle;
 use crate::kept::{Kept, KeptRules};
@@ -13,13 +13,13 @@ use dbus_view::MessageView;
 use std::alloc::{AllocError, Global};
 
 impl WireHandle {
-    ghost use Rattle.std.specs.Prelude.{◌≡◌, ◌↔◌, [], IfOk, IsTrue, MatchResult, is_some, option_map};
+    ghost use Rattle.std.specs.Prelude.{◌≡◌, ◌↔◌, IfOk, IsTrue, MatchResult, is_some, option_map};
     ghost use Rattle.dbus_value_model.specs.declared.order.Order.{Order};
     ghost use Rattle.dbus_message_model.specs.Messages.{MessageTree};
     ghost use Rattle.dbus_rule.specs.RuleViews.{IsRuleFault};
-    ghost use Rattle.dbus_rule_set.specs.Held.{Collects, EntryMatches, EntryMayMatch, HoldsOfAny, rule_at, without};
+    ghost use Rattle.dbus_rule_set.specs.Held.{rule_at, without};
     ghost use Rattle.dbus_view.specs.Views.{Views};
-    ghost use Rattle.dbus_c_handle.specs.Rules.{Adds, IsWritten, KeepsAll, SetsOwner, given_of, owners_of, rules_of};
+    ghost use Rattle.dbus_c_handle.specs.Rules.{Adds, AnyMay, Finds, IsWritten, KeepsAll, SetsAsBus, SetsOwner, as_bus_of, given_of, owners_of, rules_of};
 
     /// Keeps the rule that the text spells, as [`parse_rule`] reads it, beside the rules that it
     /// keeps, and returns its handle in the set. The fault of the text if there is one, or `Memory`
@@ -52,6 +52,7 @@ impl WireHandle {
         ensures was { result ≡ is_some (rule_at handle (rules_of self.old.state)) }
         ensures removed { rules_of self.new.state ≡ without handle (rules_of self.old.state) }
         ensures given { given_of self.new.state ≡ given_of self.old.state }
+        ensures asked { as_bus_of self.new.state ≡ as_bus_of self.old.state }
         ensures owners { owners_of self.new.state ≡ owners_of self.old.state }
     {
         let Some(kept) = self.kept() else {
@@ -76,6 +77,19 @@ impl WireHandle {
         set
     }
 
+    /// Asks the rules that it keeps as a bus asks them from then on, or not, as
+    /// [`dbus_rule_set::RuleSet::ask_as_bus`] says. An error if memory runs out: then it keeps all
+    /// that it kept. Else a handle that keeps something else frees that.
+    pub fn ask_as_bus(&mut self, alloc: Global, as_bus: bool) -> Result<(), AllocError>
+        ensures { MatchResult result (λ _. SetsAsBus as_bus self.old.state self.new.state)
+            (λ _. KeepsAll self.old.state self.new.state) }
+    {
+        let mut kept = self.take_or_make(alloc)?;
+        ask_as_bus_in(alloc, &mut kept, as_bus);
+        *self = WireHandle::of(kept);
+        Ok(())
+    }
+
     /// The handle in the set of each rule that matches the message that the view is of, with the
     /// owners of names that it keeps, as [`dbus_rule_set::RuleSet::matching`] says; an error only
     /// if memory runs out.
@@ -86,7 +100,7 @@ impl WireHandle {
     ) -> Result<Vec<RuleHandle>, AllocError>
         ensures same { self.new.state ≡ self.old.state }
         ensures found { (order : Order) (m : MessageTree) → Views view.now order m →
-            IfOk result (λ found. Collects (EntryMatches m (owners_of self.old.state)) (rules_of self.old.state) [] found.items) }
+            IfOk result (λ found. Finds self.old.state m found.items) }
     {
         match self.kept() {
             Some(kept) => kept.matching(alloc, view),
@@ -99,8 +113,7 @@ impl WireHandle {
     pub fn any_may_match(&mut self, view: &MessageView, sender: Option<&str>) -> bool
         ensures same { self.new.state ≡ self.old.state }
         ensures may { (order : Order) (m : MessageTree) → Views view.now order m →
-            IsTrue result ↔ HoldsOfAny (EntryMayMatch m (option_map (λ s. s.now) sender.entry)
-            (owners_of self.old.state)) (rules_of self.old.state) }
+            IsTrue result ↔ AnyMay self.old.state m (option_map (λ s. s.now) sender.entry) }
     {
         match self.kept() {
             Some(kept) => kept.any_may_match(view, sender),
@@ -129,14 +142,14 @@ impl Kept {
     ghost use Rattle.std.specs.Prelude.{◌≡◌, ◌↔◌, [], Some, IfOk, IsTrue, MatchOption, option_map};
     ghost use Rattle.dbus_value_model.specs.declared.order.Order.{Order};
     ghost use Rattle.dbus_message_model.specs.Messages.{MessageTree};
-    ghost use Rattle.dbus_rule_set.specs.Held.{Collects, EntryMatches, EntryMayMatch, HoldsOfAny, held, rule_at};
+    ghost use Rattle.dbus_rule_set.specs.Held.{asks_as_bus, held, rule_at};
     ghost use Rattle.dbus_view.specs.Views.{Views};
-    ghost use Rattle.dbus_c_handle.specs.Rules.{IsWritten, owners_of, rules_of};
+    ghost use Rattle.dbus_c_handle.specs.Rules.{AnyMay, Finds, IsWritten, as_bus_of, owners_of, rules_of};
 
     // As `WireHandle::matching`.
     fn matching(&self, alloc: Global, view: &MessageView) -> Result<Vec<RuleHandle>, AllocError>
         ensures { (order : Order) (m : MessageTree) → Views view.now order m →
-            IfOk result (λ found. Collects (EntryMatches m (owners_of (Some self.now))) (rules_of (Some self.now)) [] found.items) }
+            IfOk result (λ found. Finds (Some self.now) m found.items) }
     {
         let mut found = Vec::new(alloc);
         if let Some(own) = self.rules() {
@@ -148,8 +161,7 @@ impl Kept {
     // As `WireHandle::any_may_match`.
     fn any_may_match(&self, view: &MessageView, sender: Option<&str>) -> bool
         ensures { (order : Order) (m : MessageTree) → Views view.now order m →
-            IsTrue result ↔ HoldsOfAny (EntryMayMatch m (option_map (λ s. s.now) sender.entry)
-            (owners_of (Some self.now))) (rules_of (Some self.now)) }
+            IsTrue result ↔ AnyMay (Some self.now) m (option_map (λ s. s.now) sender.entry) }
     {
         match self.rules() {
             Some(own) => own.rules.any_may_match(view, sender, &own.owners),
@@ -172,6 +184,7 @@ impl Kept {
     /// The rules with the owners of names; `None` if something else is kept.
     pub(crate) fn rules(&self) -> Option<&KeptRules>
         ensures rules { MatchOption result (rules_of (Some self.now) ≡ []) (λ own. held own.now.rules ≡ rules_of (Some self.now)) }
+        ensures asked { MatchOption result (Unit {0}) (λ own. asks_as_bus own.now.rules ≡ as_bus_of (Some self.now)) }
         ensures owners { MatchOption result (Unit {0}) (λ own. own.now.owners ≡ owners_of (Some self.now)) }
     {
         match self {
@@ -200,6 +213,21 @@ fn add_to(alloc: Global, kept: &mut Kept, rule: Rule) -> Result<RuleHandle, Rule
     match added {
         Ok(handle) => Ok(handle),
         Err(_) => Err(RuleFault::Memory),
+    }
+}
+
+// Asks the rules that are kept as a bus asks them, or not; in place of what is kept otherwise, there
+// are none.
+fn ask_as_bus_in(alloc: Global, kept: &mut Kept, as_bus: bool)
+    ensures { SetsAsBus as_bus (Some kept.old) (Some kept.new) }
+{
+    match kept {
+        Kept::Rules(own) => own.rules.ask_as_bus(as_bus),
+        _ => {
+            let mut own = KeptRules::new(alloc);
+            own.rules.ask_as_bus(as_bus);
+            *kept = Kept::Rules(own);
+        }
     }
 }
 

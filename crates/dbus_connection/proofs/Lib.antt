@@ -1,5 +1,6 @@
 pub mod AnyCut
 pub mod Courses
+pub mod HandedOnce
 pub mod Given
 pub mod Handed
 pub mod Passing

@@ -5,12 +5,14 @@ ghost use Rattle.std.specs.Prelude.{◌≡◌, ◌≢◌, ◌∷◌, ◌+◌, �
 
 use crate::client_side::ClientSide;
 use crate::event::Step;
+use crate::handing::hand_out;
 use crate::phase::Phase;
 use crate::sending::{Asked, Outgoing, Unsent, destination_of};
 use crate::settings::Settings;
 use dbus_auth::{ClientEnd, ServerEnd};
 use dbus_build::BuildFault;
 use dbus_compose::MessageBuilder;
+use dbus_descriptors::{Descriptors, NotTaken};
 use dbus_encode::encode;
 use dbus_message_model::Message;
 use dbus_pending::{NotWaiting, Pending};
@@ -90,7 +92,9 @@ impl<T: Drop> Connection<T> {
     ghost use Rattle.dbus_value_model.specs.declared.order.Order.{Order};
     ghost use Rattle.dbus_view.specs.Views.{Views};
     ghost use Rattle.dbus_pending.specs.Waiting.{Stays, last};
+    ghost use Rattle.dbus_descriptors.specs.Kept.{kept};
     ghost use Rattle.dbus_connection.specs.Answers.{Answers, gone_on};
+    ghost use Rattle.dbus_connection.specs.Handing.{Hands, IsUnhanded};
     ghost use Rattle.dbus_connection.specs.Sending.{IsNextOf, IsSent, IsUnsent, Waits};
     ghost use Rattle.dbus_connection.specs.declared.sending.Unsent.TheVariants.{Full};
     ghost use Rattle.dbus_connection.specs.Shown.{IsAsBefore, IsNew, answer, phase_stand, settings_of, stand, taken_of, told};
@@ -151,6 +155,54 @@ impl<T: Drop> Connection<T> {
                 Ok(step)
             }
             Err(failed) => Err(failed),
+        }
+    }
+
+    /// Takes what the bytes begin with, as [`Connection::take`] does, and appends a message's own
+    /// descriptors to others. Keep those that came with a read before its bytes are handed in, by
+    /// [`Descriptors::keep`]: their place is [`Connection::taken`] and the number of bytes that were
+    /// there before the read and are not taken.
+    ///
+    /// Of a message that is passed over nobody knows how many are its own: those that came before
+    /// its end are nobody's, as [`Descriptors::pass`] says. So are all if the ends of the handshake
+    /// did not agree to pass any. D-Bus Specification, "Header Fields" (UNIX_FDS) and
+    /// "NEGOTIATE_UNIX_FD Command".
+    ///
+    /// `TooFew`, `Over`: a message lacks descriptors at its end. It is taken, and the connection is
+    /// closed. `Memory`: an allocation failed. Then nothing is changed: hand in the same bytes again.
+    pub fn take_with<'a, D: Drop>(
+        &mut self,
+        bytes: &'a [u8],
+        descriptors: &mut Descriptors<D>,
+        others: &mut Vec<D>,
+    ) -> Result<Step<'a>, NotTaken>
+        ensures answers { IfOk result (λ s.
+            Answers (settings_of self.old) (stand self.old) bytes.now (answer s)) }
+        ensures stands { IfOk result (λ s. stand self.new ≡
+            stands_by (gone_on (stand self.old) bytes.now) (told s.event)) }
+        ensures taken { IfOk result (λ s.
+            taken_of self.new ≡ min (2 ^ 64 - 1) (taken_of self.old + s.taken)) }
+        ensures handed { IfOk result (λ s. Hands (taken_of self.new) (told s.event)
+            (kept descriptors.old) (kept descriptors.new) others.old.items others.new.items) }
+        ensures refused { IfErr result (λ why. IsUnhanded self.old self.new bytes.now
+            (kept descriptors.old) (kept descriptors.new) why) }
+        ensures others { OnErr result (others.new.items ≡ others.old.items) }
+        ensures settings { settings_of self.new ≡ settings_of self.old }
+        ensures pending { self.new.pending ≡ self.old.pending }
+    {
+        // The room for all that wait: once bytes are taken nothing may fail for want of it.
+        if others.reserve(descriptors.waiting()).is_err() {
+            return Err(NotTaken::Memory);
+        }
+        let Ok(step) = self.take(bytes) else {
+            return Err(NotTaken::Memory);
+        };
+        match hand_out(&step.event, self.taken, descriptors, others) {
+            Ok(()) => Ok(step),
+            Err(why) => {
+                self.phase = Phase::Closed;
+                Err(why)
+            }
         }
     }
 

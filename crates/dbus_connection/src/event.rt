@@ -20,7 +20,7 @@ pub enum Event<'a> {
     Message(Incoming<'a>),
     /// A message that is longer than those that are given begins. The next calls take its bytes,
     /// which need not be at hand at once, and tell nothing of them.
-    Passed(Passed),
+    Passed(PassedOver),
     /// The bytes are no message within the limits. The place counts from the first that was not
     /// taken. The connection is closed.
     Refused(Fault),
@@ -42,7 +42,7 @@ pub struct Incoming<'a> {
 
 /// A message that is passed over. D-Bus Specification, "Message Format".
 #[derive(Clone, Copy, Drop)]
-pub struct Passed {
+pub struct PassedOver {
     /// How many bytes it has.
     pub length: u64,
     /// What its first 16 bytes say: its type, flags and serial, and lengths.

@@ -2,6 +2,7 @@
 //! are the laws, over the definitions that the calls of the crate are specified by.
 #![tactic(auto)]
 
+ghost use Rattle.dbus_connection.specs.Handing.{EachOnce};
 ghost use Rattle.dbus_connection.specs.Runs.{AnyCut, Bounded, TakesMessages};
 
 /// However bytes are cut, the same comes of them, wherever a connection stands, in its handshake or
@@ -22,4 +23,11 @@ pub fn takes_messages()
 /// that is less, however long the messages are that come. D-Bus Specification, "Message Protocol".
 pub fn bounded()
     ensures { Bounded }
+{}
+
+/// Each descriptor that was kept is handed out once, with one message, or is left, and all stay in
+/// order. So messages and their UNIX_FDS decide which are whose, and no cut of the bytes does. D-Bus
+/// Specification, "Header Fields" (UNIX_FDS).
+pub fn each_once<D>()
+    ensures { EachOnce D }
 {}

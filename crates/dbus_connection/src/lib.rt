@@ -4,6 +4,7 @@
 mod client_side;
 mod connection;
 mod event;
+mod handing;
 pub mod laws;
 mod phase;
 mod reading;
@@ -11,6 +12,6 @@ mod sending;
 mod settings;
 
 pub use connection::Connection;
-pub use event::{Begun, Event, Incoming, Passed, Step};
+pub use event::{Begun, Event, Incoming, PassedOver, Step};
 pub use sending::{Asked, Outgoing, Unsent};
 pub use settings::Settings;

@@ -9,7 +9,7 @@ ghost use Rattle.dbus_header.specs.NoMessage.{BeginsWithNone};
 ghost use Rattle.dbus_header.specs.StatedLengths.{StatesLength};
 ghost use Rattle.dbus_validate.specs.Validating.{IsValidated};
 
-use crate::event::{Event, Incoming, Passed, Step};
+use crate::event::{Event, Incoming, PassedOver, Step};
 use crate::settings::Settings;
 use dbus_check::fault_of;
 use dbus_header::{FIXED_HEADER_LENGTH, read_fixed_header, stated_length_within};
@@ -71,7 +71,7 @@ fn passed(bytes: &[u8], settings: Settings, length: u64) -> Step<'_>
     ensures taken { result.taken ≡ 0 }
 {
     match read_fixed_header(bytes, settings.limits) {
-        Ok(header) => not_taken(Event::Passed(Passed { length, header })),
+        Ok(header) => not_taken(Event::Passed(PassedOver { length, header })),
         // Bytes that state a length have a header.
         Err(_) => not_taken(Event::Wants(length)),
     }

@@ -2,7 +2,7 @@
 use Rattle.std.proofs.Common.{◌≡◌, suc, ◌<◌, ◌≤◌, List, [], ◌∷◌, ◌++◌, length, refl, sym, ◌∙◌, ap, append_assoc, arith}
 use Rattle.std.proofs.lemmas.List.{append-nil}
 use Rattle.std.specs.List.{flat_map}
-use Rattle.dbus_descriptors.specs.Sharing.{AreOf, AreOfEach, AreShared, CameBefore, CameBehind, CannotTake, EachOnce, Keeps, Leaves}
+use Rattle.dbus_descriptors.specs.Sharing.{AreOf, AreOfEach, CameBefore, CameBehind, EachOnce, Keeps, Leaves}
 use Rattle.dbus_descriptors.specs.Sharing.{OneSharing, Refusal, Row, Takes, Told, came_of, messages_of, shares_of}
 use Rattle.dbus_descriptors.specs.declared.descriptors.Came.{Came}
 use Rattle.dbus_descriptors.specs.declared.descriptors.MessageEnd.{MessageEnd}

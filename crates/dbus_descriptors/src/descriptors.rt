@@ -2,7 +2,7 @@
 #![tactic(auto)]
 
 ghost use Rattle.std.specs.Bool.{OnTrue, OnFalse};
-ghost use Rattle.std.specs.Prelude.{◌≡◌, ◌≤◌, ◌<◌, ◌+◌, ◌++◌, ◌∷◌, [], ◌↔◌, true, false, Ok, Err, IsOk, IfErr, OnOk, OnErr, IfOk, option_map, slice_get, drop, take, vec_len, vec_capacity};
+ghost use Rattle.std.specs.Prelude.{◌≡◌, ◌≤◌, ◌<◌, ◌+◌, ◌++◌, ◌∷◌, [], ◌↔◌, true, false, Ok, Err, IsOk, IfErr, OnOk, OnErr, IfOk, option_map, slice_get, drop, take, length, vec_len, vec_capacity};
 ghost use Rattle.std.specs.VecDeque.{deque_capacity, deque_len};
 ghost use Rattle.dbus_descriptors.specs.Sharing.{AreOf, CannotTake, descriptors_of};
 
@@ -37,8 +37,8 @@ pub enum NotTaken {
     /// An allocation failed. Nothing is changed.
     #[error("allocation failed")]
     Memory,
-    /// Nothing more is taken: a message was refused, a descriptor was not kept, or some were left.
-    /// Nothing is changed.
+    /// Nothing more is taken: a message was refused, a descriptor was not kept or is nobody's, or
+    /// some were left. Nothing is changed.
     #[error("no more file descriptors are taken")]
     Over,
 }
@@ -49,7 +49,7 @@ pub enum NotTaken {
 /// lacks some: messages take theirs in order, each as many as its header says. Tell a read's
 /// descriptors by [`Descriptors::keep`] before the messages that end in it, and each message by
 /// [`Descriptors::take`] as it ends, if it has some. If a message is passed over, take its
-/// descriptors too, and close them.
+/// descriptors too, and close them; or tell it by [`Descriptors::pass`] if its UNIX_FDS is not read.
 ///
 /// Once one is refused, all that wait are left: close what [`Descriptors::leave`] gives, as at the
 /// end of the stream. D-Bus Specification, "Header Fields" (UNIX_FDS).
@@ -71,40 +71,43 @@ pub enum NotTaken {
 pub struct Descriptors<T> {
     waiting: VecDeque<Came<T>>,
     most: usize,
+    passed: u64,
     over: bool,
     ghost roomy: { most ≤ deque_capacity waiting },
 }
 
 impl<T: Drop> Descriptors<T> {
-    ghost use Rattle.dbus_descriptors.specs.Kept.{HasRoom, Kept, TakesOwn, closed, kept};
+    ghost use Rattle.dbus_descriptors.specs.Kept.{HasRoom, Kept, TakesOwn, closed, kept, passed_over};
 
     /// No descriptor came yet, and at most so many may wait. It allocates room for these.
     ///
     /// `AllocError`: the allocation failed.
     pub fn new(alloc: Global, most: usize) -> Result<Self, AllocError>
         ensures { IfOk result (λ new.
-            kept new ≡ record { waiting = []; most = most; over = false }) }
+            kept new ≡ record { waiting = []; most = most; passed = 0; over = false }) }
     {
         Ok(Descriptors {
             waiting: VecDeque::with_capacity(alloc, most)?,
             most,
+            passed: 0,
             over: false,
         })
     }
 
     /// Keeps a descriptor that came, behind those that wait.
     ///
-    /// It gives the descriptor back, to be closed, if as many wait as may, or if nothing more is
-    /// kept: a message was refused, a descriptor was not kept, or some were left. Then nothing more
-    /// is kept or taken, since it is missing from now on.
+    /// It gives the descriptor back, to be closed, if as many wait as may, if it came before the end
+    /// of what was passed over, or if nothing more is kept: a message was refused, a descriptor was
+    /// not kept or is nobody's, or some were left. Then nothing more is kept or taken, since it is
+    /// missing from now on.
     pub fn keep(&mut self, came: Came<T>) -> Result<(), T>
-        ensures room { IsOk result ↔ HasRoom (kept self.old) }
+        ensures room { IsOk result ↔ HasRoom (kept self.old) came.place }
         ensures kept { OnOk result (kept self.new ≡ record (kept self.old)
             { waiting = (kept self.old).waiting ++ came ∷ [] }) }
         ensures given_back { IfErr result (λ back. back ≡ came.descriptor) }
         ensures over { OnErr result (kept self.new ≡ closed (kept self.old)) }
     {
-        if !self.over && self.waiting.len() < self.most {
+        if !self.over && self.passed <= came.place && self.waiting.len() < self.most {
             self.waiting.push_back_reserved(came);
             Ok(())
         } else {
@@ -126,7 +129,7 @@ impl<T: Drop> Descriptors<T> {
             (kept self.new ≡ closed (kept self.old)) }
         ensures memory { result ≡ Err NotTaken.Memory →
             (vec_capacity others.old < vec_len others.old + message.count) ×
-            (kept self.new ≡ kept self.old) }
+            (message.count ≤ length (kept self.old).waiting) × (kept self.new ≡ kept self.old) }
         ensures over { result ≡ Err NotTaken.Over →
             ((kept self.old).over ≡ true) × (kept self.new ≡ kept self.old) }
         ensures others { OnErr result (others.new.items ≡ others.old.items) }
@@ -143,6 +146,26 @@ impl<T: Drop> Descriptors<T> {
         }
         move_front(&mut self.waiting, message.count as usize, others);
         Ok(())
+    }
+
+    /// The stream up to this place is passed over, and nobody knows which descriptors that came there
+    /// are its own: they are nobody's. If one waits, nothing more is kept or taken.
+    pub fn pass(&mut self, end: u64)
+        ensures { kept self.new ≡ passed_over end (kept self.old) }
+    {
+        self.passed = self.passed.max(end);
+        if let Some(first) = self.waiting.front()
+            && first.place < self.passed
+        {
+            self.over = true;
+        }
+    }
+
+    /// How many wait.
+    pub fn waiting(&self) -> usize
+        ensures { result ≡ length (kept self.now).waiting }
+    {
+        self.waiting.len()
     }
 
     /// The descriptor that waits longest, to be closed: it is left. From then on nothing more is

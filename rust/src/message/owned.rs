@@ -75,6 +75,7 @@ calls! {
     destination() -> Option<&str>;
     sender() -> Option<&str>;
     signature() -> Option<&str>;
+    types() -> &str;
     unix_fds() -> u32;
     body_bytes() -> &[u8];
     body() -> Values<'_>;

@@ -113,7 +113,7 @@ impl Message<'_> {
         self.answer(Parts { error_name: Some(name), ..Parts::new(Kind::Error, serial) }, values)
     }
 
-    fn answer(&self, parts: Parts<'_>, values: impl ToValue) -> Result<Vec<u8>, MakeError> {
+    pub(crate) fn answer(&self, parts: Parts<'_>, values: impl ToValue) -> Result<Vec<u8>, MakeError> {
         let body = spell(self.order(), values)?;
         Ok(reply_to(self, &Parts { signature: body.signature(), body: body.bytes(), ..parts }, &Limits::default())?)
     }

@@ -2,7 +2,7 @@
 #![tactic(auto)]
 
 use dbus_auth::Guid;
-use dbus_connection::Passed;
+use dbus_connection::PassedOver;
 use dbus_value_model::Fault;
 
 /// What came of some bytes, as [`dbus_connection::Event`] has it, but without bytes.
@@ -23,15 +23,18 @@ pub enum What {
     Message {
         /// How many bytes it has.
         length: usize,
-        /// How many of the Unix file descriptors that come beside the bytes are its own.
+        /// How many of the Unix file descriptors that came are its own: the first of those that
+        /// no message has.
         fds: u32,
         /// The call that it answers, if it answers one.
         call: Option<u64>,
     },
     /// A message that is longer than those that are given, whose bytes the next calls take.
-    Passed(Passed),
+    Passed(PassedOver),
     /// The bytes are no message. The place counts from the first that was not taken.
     Refused(Fault),
+    /// A message lacks descriptors at its end.
+    TooFew,
     /// The handshake failed.
     Failed,
     /// The connection was closed before.
@@ -40,7 +43,7 @@ pub enum What {
 
 /// What a call made of its bytes.
 #[derive(Clone, Copy, Drop)]
-pub struct Came {
+pub struct KeptStep {
     /// The number of bytes that were taken. Pass the others again.
     pub taken: usize,
     /// What came of them.
