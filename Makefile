@@ -7,6 +7,8 @@
 # make graph       writes which crate uses which into docs/ARCHITECTURE.md; make definitions-check, and quick-test, check it
 # make definitions writes the tables of docs/DEFINITIONS.md and docs/WORKED-EXAMPLES.md out of the definitions and their examples, those of reasons out of
 #                  bench/reasons.txt, and docs/SPECIFICATION.md; make definitions-check, and quick-test, check them
+# make definitions-changed changes what N=30 rows of docs/SPECIFICATION.md, which SEED draws, cite of definitions, and sees that the prover notices: some 20
+#                  processor seconds a row, and a few minutes for one that its own crate does not notice, beside the libraries below
 # make doc-examples builds and runs the examples of doc comments, without proofs: a minute. make quick-test does it too
 # make readme-test runs the commands of README.md, by what make build made or else without proofs, and compares what they write;
 #                  those of docs/RECIPES.md too, if make build made dbus-wire
@@ -119,7 +121,7 @@ ARGS = check
 FILE = samples/session.dbus
 
 .PHONY: kit run quick-test build library test weight lint test-c test-python page test-page test-memory gate-times wrong-bodies promises promises-diff api graph definitions definitions-check \
-	doc-examples readme-test peers export-cases instructions bench bench-c bench-languages install install-program install-c install-shared install-dev install-python install-notices uninstall page-quick pictures deb tarball wheel test-wheel crate test-crate test-completions release test-release test-packages test-root
+	definitions-changed doc-examples readme-test peers export-cases instructions bench bench-c bench-languages install install-program install-c install-shared install-dev install-python install-notices uninstall page-quick pictures deb tarball wheel test-wheel crate test-crate test-completions release test-release test-packages test-root
 
 # What rt try builds is gone when it ends. What make build made runs at once, and needs no kit.
 IS_BUILT = [ -x $(PROGRAM) ] && [ -z "$$(find crates.txt crates/*/src -newer $(PROGRAM))" ]
@@ -264,6 +266,9 @@ definitions-check:
 	bench/worked_examples.py --check
 	bench/reasons.py --check
 	cases/specification.py --check
+
+definitions-changed: kit
+	cases/changed_definitions.py $(or $(N),30) $(SEED)
 
 readme-test: kit
 	bench/readme_test.py
