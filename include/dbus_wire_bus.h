@@ -30,6 +30,8 @@
 
 #define DBUS_WIRE_BUS "org.freedesktop.DBus"
 #define DBUS_WIRE_BUS_ERROR DBUS_WIRE_BUS ".Error."
+/* The most file descriptors that Linux passes at once. */
+#define DBUS_WIRE_BUS_FDS 253
 
 struct dbus_wire_bus;
 
@@ -37,8 +39,8 @@ struct dbus_wire_bus;
 struct dbus_wire_bus_member {
     char kind; /* 'm' a method, 's' a signal, 'p' a property */
     const char *interface, *name;
-    const char *takes,
-        *gives; /* the types of a method's values; `gives` is a signal's or a property's */
+    /* The types of a method's values; `gives` is a signal's or a property's. */
+    const char *takes, *gives;
     /* Puts the values of a method's reply or of a property, or fails. The call is bus->asked. */
     void (*get)(struct dbus_wire_bus *bus, void *data);
     /* Sets a property, which may be NULL, to the value that begins at bus->asked->items[3]. */
@@ -46,14 +48,14 @@ struct dbus_wire_bus_member {
 };
 
 /* A message that came, with all values of its body, as dbus_wire_read gives them, and its file
- * descriptors, which are closed with it. At most 253 come with a message: Linux passes no more. */
+ * descriptors, which are closed with it. */
 struct dbus_wire_bus_message {
     struct dbus_wire_bus_message *after; /* one that came later, and waits too */
     struct dbus_wire_parts parts;
     struct dbus_wire_flat_item *items;
     uint64_t count;
     uint8_t *bytes;
-    int fds[253];
+    int fds[DBUS_WIRE_BUS_FDS];
     uint32_t fd_count;
 };
 
@@ -62,9 +64,8 @@ struct dbus_wire_bus_body {
     struct dbus_wire_writer writer;
     uint8_t *bytes;
     size_t room;
-    uint32_t fault; /* why one was not put, or 0 */
-    uint32_t fd_count;
-    int fds[253];
+    uint32_t fault, fd_count; /* why one was not put, or 0 */
+    int fds[DBUS_WIRE_BUS_FDS];
 };
 
 struct dbus_wire_bus {
@@ -73,57 +74,48 @@ struct dbus_wire_bus {
     struct dbus_wire_bus_body given, sent; /* the reply to the call at hand, and another message */
     int socket, passes_fds;                /* whether both ends agreed to pass file descriptors */
     struct dbus_wire_connection connection;
-    int fds[253]; /* those that came, and no message has yet */
+    int fds[DBUS_WIRE_BUS_FDS]; /* those that came, and no message has yet */
     uint32_t fd_count;
     uint8_t *out;
-    size_t out_room;
+    size_t out_room, served_count;
     const char *error, *text;
-    /* Those that are served, and after them the standard ones of the object that is called. */
-    struct {
+    /* The members that are served: those of each object first, which have no path. */
+    struct dbus_wire_bus_served {
         const char *path;
-        const struct dbus_wire_bus_member *members;
+        const struct dbus_wire_bus_member *member;
         void *data;
-    } objects[33];
-    size_t object_count;
+    } * served;
 };
 
 static inline void *dbus_wire_bus_grown(void *of, size_t size) {
-    void *grown = realloc(of, size);
-    if (grown == NULL) abort();
-    return grown;
+    if ((of = realloc(of, size)) == NULL) abort();
+    return of;
 }
 
 /* A text of a message: its field, or an item of its body. It is "" if there is none, and never
  * null. */
-static inline const char *dbus_wire_bus_field(const struct dbus_wire_bus_message *it,
-                                              struct dbus_wire_text place) {
-    return dbus_wire_text_in(it->bytes, place);
-}
-static inline const char *dbus_wire_bus_text(const struct dbus_wire_bus_message *it,
-                                             uint64_t item) {
-    int is_text = item < it->count && strchr("sogv", (int)it->items[item].code) != NULL;
-    return is_text ? (const char *)it->bytes + it->items[item].offset : "";
+#define dbus_wire_bus_field(it, place) dbus_wire_text_in((it)->bytes, (it)->parts.place)
+static inline const char *dbus_wire_bus_text(const struct dbus_wire_bus_message *it, uint64_t at) {
+    int is_text = at < it->count && strchr("sogv", (int)it->items[at].code) != NULL;
+    return is_text ? (const char *)it->bytes + it->items[at].offset : "";
 }
 
 /* The file descriptor that an item is; -1 if it is none, or if it did not come. */
-static inline int dbus_wire_bus_fd(const struct dbus_wire_bus_message *it, uint64_t item) {
-    int is_there =
-        item < it->count && it->items[item].code == 'h' && it->items[item].number < it->fd_count;
-    return is_there ? it->fds[it->items[item].number] : -1;
+static inline int dbus_wire_bus_fd(const struct dbus_wire_bus_message *it, uint64_t at) {
+    int is_fd = at < it->count && it->items[at].code == 'h';
+    return is_fd && it->items[at].number < it->fd_count ? it->fds[it->items[at].number] : -1;
 }
 
 static inline void dbus_wire_bus_room(struct dbus_wire_bus_body *to) {
-    to->bytes = (uint8_t *)dbus_wire_bus_grown(to->bytes, to->room = 2 * to->room + 64);
+    to->bytes = dbus_wire_bus_grown(to->bytes, to->room = 2 * to->room + 64);
 }
 
 static inline void dbus_wire_bus_put_list(struct dbus_wire_bus_body *to, const char *types,
                                           va_list values) {
-    while (to->fault == DBUS_WIRE_OK) {
-        to->fault = dbus_wire_put_list(to->bytes, to->room, &to->writer, types, values);
-        if (to->fault != DBUS_WIRE_NO_ROOM) return;
-        to->fault = DBUS_WIRE_OK;
+    if (to->fault != DBUS_WIRE_OK) return;
+    while ((to->fault = dbus_wire_put_list(to->bytes, to->room, &to->writer, types, values)) ==
+           DBUS_WIRE_NO_ROOM)
         dbus_wire_bus_room(to);
-    }
 }
 
 /* Puts values of these types after those of the reply to the call at hand. */
@@ -138,10 +130,9 @@ static inline void dbus_wire_bus_put(struct dbus_wire_bus *bus, const char *type
  * is put for it. It has to be open until then; of -1 nothing is sent, and a call that is at hand
  * fails. */
 static inline uint32_t dbus_wire_bus_pass(struct dbus_wire_bus_body *with, int fd) {
-    if (fd < 0 || with->fd_count == sizeof with->fds / sizeof *with->fds)
-        with->fault = DBUS_WIRE_NO_VALUE;
-    else with->fds[with->fd_count++] = fd;
-    return with->fd_count - 1;
+    if (fd < 0 || with->fd_count == DBUS_WIRE_BUS_FDS) return with->fault = DBUS_WIRE_NO_VALUE;
+    with->fds[with->fd_count] = fd;
+    return with->fd_count++;
 }
 
 /* Has the reply to the call at hand be this error. Both texts have to last until it is sent. */
@@ -153,21 +144,18 @@ static inline void dbus_wire_bus_fail(struct dbus_wire_bus *bus, const char *err
 /* Room for file descriptors beside some bytes. */
 union dbus_wire_bus_beside {
     struct cmsghdr head;
-    char bytes[CMSG_SPACE(sizeof(int[253]))];
+    char bytes[CMSG_SPACE(sizeof(int[DBUS_WIRE_BUS_FDS]))];
 };
 
 static inline int dbus_wire_bus_send(int to, uint8_t *bytes, size_t length, const int *fds,
                                      size_t fd_count) {
-    union dbus_wire_bus_beside beside = {{0}};
+    const size_t size = fd_count * sizeof *fds;
+    union dbus_wire_bus_beside beside = {.head = {.cmsg_len = CMSG_LEN(size)}};
     struct iovec all = {bytes, length};
-    struct msghdr message = {.msg_iov = &all, .msg_iovlen = 1};
-    beside.head = (struct cmsghdr){.cmsg_len = CMSG_LEN(fd_count * sizeof(int)),
-                                   .cmsg_level = SOL_SOCKET,
-                                   .cmsg_type = SCM_RIGHTS};
-    if (fd_count > 0) {
-        memcpy(CMSG_DATA(&beside.head), fds, fd_count * sizeof(int));
-        message.msg_control = &beside, message.msg_controllen = CMSG_SPACE(fd_count * sizeof(int));
-    }
+    struct msghdr message = {.msg_iov = &all, .msg_iovlen = 1, .msg_control = &beside};
+    beside.head.cmsg_level = SOL_SOCKET, beside.head.cmsg_type = SCM_RIGHTS;
+    if (size > 0) memcpy(CMSG_DATA(&beside.head), fds, size);
+    message.msg_controllen = size > 0 ? CMSG_SPACE(size) : 0;
     for (ssize_t sent; all.iov_len > 0; all.iov_len -= (size_t)sent, message.msg_controllen = 0) {
         if ((sent = sendmsg(to, &message, MSG_NOSIGNAL)) <= 0) return 0;
         all.iov_base = (uint8_t *)all.iov_base + sent;
@@ -175,99 +163,100 @@ static inline int dbus_wire_bus_send(int to, uint8_t *bytes, size_t length, cons
     return 1;
 }
 
-/* Sends the draft, with these values, or as the reply to the call at hand. */
-static inline int dbus_wire_bus_send_draft(struct dbus_wire_bus *bus, struct dbus_wire_draft draft,
-                                           const char *types, struct dbus_wire_bus_body *values) {
-    struct dbus_wire_checked told = {0};
-    uint32_t answer = values->fault, fd_count = values->fd_count;
-    draft.order = 'l', draft.signature = dbus_wire_text_of(types), draft.unix_fds = fd_count;
-    draft.body = values->bytes, draft.body_length = values->writer.length;
-    values->writer = (struct dbus_wire_writer){0, 'l', 0}, values->fault = DBUS_WIRE_OK,
-    values->fd_count = 0;
-    if (fd_count > 0 && !bus->passes_fds) answer = DBUS_WIRE_NO_VALUE;
-    if (draft.serial == 0 && answer == DBUS_WIRE_OK)
-        answer = dbus_wire_connection_serial(&bus->connection, &draft.serial);
-    for (told.length = 4096; answer == DBUS_WIRE_OK; answer = DBUS_WIRE_OK) {
-        if (told.length > bus->out_room)
-            bus->out = (uint8_t *)dbus_wire_bus_grown(bus->out, bus->out_room = told.length);
-        answer = draft.kind != 0 ? dbus_wire_build(&draft, NULL, bus->out, bus->out_room, &told)
-                                 : dbus_wire_reply_to(bus->asked->bytes, bus->asked->parts.length,
-                                                      NULL, &draft, bus->out, bus->out_room, &told);
-        if (answer != DBUS_WIRE_NO_ROOM) break;
-    }
-    return answer == DBUS_WIRE_OK &&
-           dbus_wire_bus_send(bus->socket, bus->out, told.length, values->fds, fd_count);
+static inline void dbus_wire_bus_clear(struct dbus_wire_bus_body *it, uint32_t order) {
+    it->writer = (struct dbus_wire_writer){0, order, 0}, it->fault = it->fd_count = 0;
 }
 
+/* Sends the draft, or else the reply to the call at hand, with values of these types. */
+static inline int dbus_wire_bus_send_draft(struct dbus_wire_bus *bus, struct dbus_wire_draft draft,
+                                           const char *types, struct dbus_wire_bus_body *values) {
+    const struct dbus_wire_bus_message *to = bus->asked;
+    struct dbus_wire_checked told = {0};
+    uint32_t answer = values->fault;
+    draft.order = 'l', draft.signature = dbus_wire_text_of(types);
+    draft.unix_fds = values->fd_count, draft.body = values->bytes;
+    draft.body_length = values->writer.length;
+    dbus_wire_bus_clear(values, 'l');
+    if (answer != DBUS_WIRE_OK || (draft.unix_fds > 0 && !bus->passes_fds)) return 0;
+    if (draft.serial == 0) answer = dbus_wire_connection_serial(&bus->connection, &draft.serial);
+    do {
+        if (told.length > bus->out_room)
+            bus->out = dbus_wire_bus_grown(bus->out, bus->out_room = told.length);
+        answer = draft.kind != 0 ? dbus_wire_build(&draft, NULL, bus->out, bus->out_room, &told)
+                                 : dbus_wire_reply_to(to->bytes, to->parts.length, NULL, &draft,
+                                                      bus->out, bus->out_room, &told);
+    } while (answer == DBUS_WIRE_NO_ROOM);
+    return answer == DBUS_WIRE_OK &&
+           dbus_wire_bus_send(bus->socket, bus->out, told.length, values->fds, draft.unix_fds);
+}
+
+/* Frees a message and those after it. */
 static inline void dbus_wire_bus_drop(struct dbus_wire_bus_message *it) {
-    if (it == NULL) return;
-    while (it->fd_count > 0) close(it->fds[--it->fd_count]);
-    free(it->items), free(it->bytes), free(it);
+    for (struct dbus_wire_bus_message *after; it != NULL; it = after) {
+        after = it->after;
+        while (it->fd_count > 0) close(it->fds[--it->fd_count]);
+        free(it->items), free(it->bytes), free(it);
+    }
 }
 
 /* Reads bytes behind so many, up to those that are wanted, and the file descriptors beside them. */
 static inline size_t dbus_wire_bus_read(struct dbus_wire_bus *bus, uint8_t *bytes, size_t length,
                                         size_t wanted) {
-    union dbus_wire_bus_beside beside = {{0}};
+    union dbus_wire_bus_beside beside = {.bytes = {0}};
     struct iovec room = {bytes + length, wanted - length};
-    struct msghdr message = {
-        .msg_iov = &room, .msg_iovlen = 1, .msg_control = &beside, .msg_controllen = sizeof beside};
+    struct msghdr message = {.msg_iov = &room, .msg_iovlen = 1, .msg_control = &beside};
+    message.msg_controllen = sizeof beside;
     ssize_t got = recvmsg(bus->socket, &message, MSG_CMSG_CLOEXEC);
-    if (got <= 0) return 0;
-    if (message.msg_controllen >= sizeof beside.head && beside.head.cmsg_type == SCM_RIGHTS) {
-        size_t count = (beside.head.cmsg_len - CMSG_LEN(0)) / sizeof(int), at = 0;
-        for (const int *fds = (const int *)(const void *)CMSG_DATA(&beside.head); at < count; at++)
-            if (dbus_wire_connection_descriptor(&bus->connection, length) == DBUS_WIRE_OK)
-                bus->fds[bus->fd_count++] = fds[at];
-            else close(fds[at]), got = 0;
-    }
-    return (size_t)got;
+    const int *fds = (const int *)(const void *)CMSG_DATA(&beside.head);
+    size_t end = beside.head.cmsg_type == SCM_RIGHTS ? beside.head.cmsg_len : 0;
+    for (size_t at = CMSG_LEN(0); at < end; at += sizeof *fds, fds++)
+        if (dbus_wire_connection_descriptor(&bus->connection, length) == DBUS_WIRE_OK)
+            bus->fds[bus->fd_count++] = *fds;
+        else close(*fds), got = 0;
+    return got < 0 ? 0 : (size_t)got;
 }
 
 /* The next message. NULL if the bus is gone, or as a handshake ends: step->event says which. It
  * reads no byte beyond. */
 static inline struct dbus_wire_bus_message *
 dbus_wire_bus_receive(struct dbus_wire_bus *bus, struct dbus_wire_connection_step *step) {
-    struct dbus_wire_bus_message *it = (struct dbus_wire_bus_message *)calloc(1, sizeof *it);
+    struct dbus_wire_bus_message *it = dbus_wire_bus_grown(NULL, sizeof *it);
     uint8_t out[DBUS_WIRE_REPLY_ROOM];
+    size_t length = 0, got = 1;
     uint64_t count;
-    if (it == NULL) abort();
-    for (size_t length = 0, got;
-         dbus_wire_connection_take(&bus->connection, it->bytes, length, step) == DBUS_WIRE_OK;) {
+    *it = (struct dbus_wire_bus_message){0};
+    while (got > 0 &&
+           dbus_wire_connection_take(&bus->connection, it->bytes, length, step) == DBUS_WIRE_OK) {
         if (step->event == DBUS_WIRE_EVENT_MESSAGE) {
             it->fd_count = step->unix_fds, bus->fd_count -= step->unix_fds;
-            memcpy(it->fds, bus->fds, it->fd_count * sizeof(int));
-            memmove(bus->fds, bus->fds + it->fd_count, bus->fd_count * sizeof(int));
+            memcpy(it->fds, bus->fds, sizeof it->fds);
+            memmove(bus->fds, bus->fds + it->fd_count, bus->fd_count * sizeof *bus->fds);
             while (dbus_wire_read(it->bytes, length, NULL, &it->parts, it->items, it->count,
                                   &it->count, NULL) == DBUS_WIRE_NO_ROOM)
-                it->items = (struct dbus_wire_flat_item *)dbus_wire_bus_grown(
-                    it->items, it->count * sizeof *it->items);
+                it->items = dbus_wire_bus_grown(it->items, it->count * sizeof *it->items);
             return it;
         }
         length -= step->count;
-        if (step->event > DBUS_WIRE_EVENT_BEGUN) break;
         if (step->event == DBUS_WIRE_EVENT_WANTS) {
-            it->bytes = (uint8_t *)dbus_wire_bus_grown(it->bytes, step->wanted);
-            for (; length < step->wanted &&
-                   (got = dbus_wire_bus_read(bus, it->bytes, length, step->wanted)) > 0;)
-                length += got;
-            if (length < step->wanted) break;
-            continue;
-        }
-        if (dbus_wire_connection_unsent(&bus->connection, out, sizeof out, &count) != DBUS_WIRE_OK)
-            break;
-        if (!dbus_wire_bus_send(bus->socket, out, count, NULL, 0) ||
-            step->event == DBUS_WIRE_EVENT_BEGUN)
+            it->bytes = dbus_wire_bus_grown(it->bytes, step->wanted);
+            while (got > 0 && length < step->wanted)
+                length += got = dbus_wire_bus_read(bus, it->bytes, length, step->wanted);
+        } else if (dbus_wire_connection_unsent(&bus->connection, out, sizeof out, &count) !=
+                       DBUS_WIRE_OK ||
+                   !dbus_wire_bus_send(bus->socket, out, count, NULL, 0) ||
+                   step->event != DBUS_WIRE_EVENT_UNSENT)
             break;
     }
     return dbus_wire_bus_drop(it), (struct dbus_wire_bus_message *)NULL;
 }
 
-/* Sends the draft, with values of these types. */
-static inline int dbus_wire_bus_send_values(struct dbus_wire_bus *bus, struct dbus_wire_draft draft,
-                                            const char *types, va_list values) {
-    dbus_wire_bus_put_list(&bus->sent, types, values);
-    return dbus_wire_bus_send_draft(bus, draft, types, &bus->sent);
+/* A call to that name, or else a signal. */
+static inline struct dbus_wire_draft
+dbus_wire_bus_draft(const char *to, const char *path, const char *interface, const char *member) {
+    struct dbus_wire_draft it = {.kind = DBUS_WIRE_TYPE_SIGNAL, .path = dbus_wire_text_of(path)};
+    it.interface = dbus_wire_text_of(interface), it.member = dbus_wire_text_of(member);
+    if (to != NULL) it.kind = DBUS_WIRE_TYPE_METHOD_CALL, it.destination = dbus_wire_text_of(to);
+    return it;
 }
 
 /* Calls a method with values of these types, and waits for its reply, which is bus->reply. Whether
@@ -275,94 +264,111 @@ static inline int dbus_wire_bus_send_values(struct dbus_wire_bus *bus, struct db
 static inline int dbus_wire_bus_call(struct dbus_wire_bus *bus, const char *to, const char *path,
                                      const char *interface, const char *member, const char *types,
                                      ...) {
-    struct dbus_wire_draft draft = {.kind = DBUS_WIRE_TYPE_METHOD_CALL,
-                                    .path = dbus_wire_text_of(path)};
+    struct dbus_wire_draft draft = dbus_wire_bus_draft(to, path, interface, member);
     struct dbus_wire_connection_step step;
-    struct dbus_wire_bus_message *it, **end = &bus->later;
+    struct dbus_wire_bus_message *it = NULL, **end = &bus->later;
     uint64_t call;
     va_list values;
-    draft.interface = dbus_wire_text_of(interface), draft.member = dbus_wire_text_of(member),
-    draft.destination = dbus_wire_text_of(to);
+    va_start(values, types);
+    dbus_wire_bus_put_list(&bus->sent, types, values);
+    va_end(values);
     if (dbus_wire_connection_call(&bus->connection, to, strlen(to), 1, &draft.serial) !=
         DBUS_WIRE_OK)
-        return (int)(bus->sent.fd_count = 0);
-    va_start(values, types);
-    int well = dbus_wire_bus_send_values(bus, draft, types, values);
-    va_end(values);
+        bus->sent.fault = DBUS_WIRE_NO_VALUE;
+    int waits = dbus_wire_bus_send_draft(bus, draft, types, &bus->sent);
     while (*end != NULL) end = &(*end)->after;
-    while (well && (it = dbus_wire_bus_receive(bus, &step)) != NULL) {
-        if (step.is_reply) {
-            dbus_wire_bus_drop(bus->reply);
-            return (bus->reply = it)->parts.kind == DBUS_WIRE_TYPE_METHOD_RETURN;
-        }
+    while (waits && (it = dbus_wire_bus_receive(bus, &step)) != NULL && !step.is_reply)
         *end = it, end = &it->after;
-    }
+    dbus_wire_bus_drop(bus->reply), bus->reply = it;
+    if (it != NULL) return it->parts.kind == DBUS_WIRE_TYPE_METHOD_RETURN;
     return dbus_wire_connection_give_up(&bus->connection, draft.serial, &call) ==
            DBUS_WIRE_NO_CONNECTION;
 }
 
+/* Calls a method of the bus itself, such as AddMatch. */
+#define dbus_wire_bus_ask(bus, ...)                                                                \
+    dbus_wire_bus_call(bus, DBUS_WIRE_BUS, "/org/freedesktop/DBus", DBUS_WIRE_BUS, __VA_ARGS__)
+
 /* Has the bus give this connection a name. Whether it did; not if another connection has it. */
 static inline int dbus_wire_bus_request_name(struct dbus_wire_bus *bus, const char *name) {
-    return dbus_wire_bus_call(bus, DBUS_WIRE_BUS, "/org/freedesktop/DBus", DBUS_WIRE_BUS,
-                              "RequestName", "su", name, 4) &&
-           bus->reply->count == 1 &&
+    return dbus_wire_bus_ask(bus, "RequestName", "su", name, 4) && bus->reply->count == 1 &&
            (bus->reply->items[0].number == 1 || bus->reply->items[0].number == 4);
 }
 
 /* Serves members of an object, whose functions get `data`. */
 static inline void dbus_wire_bus_serve(struct dbus_wire_bus *bus, const char *path,
                                        const struct dbus_wire_bus_member *members, void *data) {
-    if (bus->object_count == 32) abort();
-    bus->objects[bus->object_count].path = path, bus->objects[bus->object_count].members = members;
-    bus->objects[bus->object_count++].data = data;
+    for (; members->kind != 0; members++) {
+        bus->served =
+            dbus_wire_bus_grown(bus->served, (bus->served_count + 1) * sizeof *bus->served);
+        bus->served[bus->served_count++] = (struct dbus_wire_bus_served){path, members, data};
+    }
 }
 
 /* Sends a signal with values of these types. */
 static inline int dbus_wire_bus_emit(struct dbus_wire_bus *bus, const char *path,
                                      const char *interface, const char *member, const char *types,
                                      ...) {
-    struct dbus_wire_draft draft = {.kind = DBUS_WIRE_TYPE_SIGNAL, .path = dbus_wire_text_of(path)};
+    struct dbus_wire_draft draft = dbus_wire_bus_draft(NULL, path, interface, member);
     va_list values;
-    draft.interface = dbus_wire_text_of(interface), draft.member = dbus_wire_text_of(member);
     va_start(values, types);
-    int is_sent = dbus_wire_bus_send_values(bus, draft, types, values);
+    dbus_wire_bus_put_list(&bus->sent, types, values);
     va_end(values);
-    return is_sent;
+    return dbus_wire_bus_send_draft(bus, draft, types, &bus->sent);
 }
 
-/* Of the members of an object the next one of the kind, or of any if it is 0, of the interface,
- * which may be "", and of the name, if that is not NULL; NULL if there is none. *of and *at are
- * where to look, and 0 first; they then say which object's it is and where the next one is. */
-static inline const struct dbus_wire_bus_member *
-dbus_wire_bus_member_after(const struct dbus_wire_bus *bus, const char *path, char kind,
-                           const char *interface, const char *name, size_t *of, size_t *at) {
-    for (; *of <= bus->object_count; ++*of, *at = 0)
-        for (const struct dbus_wire_bus_member *it; bus->objects[*of].path != NULL &&
-                                                    strcmp(bus->objects[*of].path, path) == 0 &&
-                                                    (it = &bus->objects[*of].members[*at])->kind;) {
-            ++*at;
-            if ((kind == 0 || it->kind == kind) &&
-                (*interface == 0 || strcmp(it->interface, interface) == 0) &&
-                (name == NULL || strcmp(it->name, name) == 0))
-                return it;
-        }
-    return NULL;
+/* Whether a member is of the object, and of the interface, which may be "". */
+static inline int dbus_wire_bus_is_of(const struct dbus_wire_bus_served *it, const char *path,
+                                      const char *interface) {
+    return (it->path == NULL || strcmp(it->path, path) == 0) &&
+           (*interface == 0 || strcmp(it->member->interface, interface) == 0);
+}
+
+/* What a path has behind another that it is or is below: "" or "/..", or NULL. */
+static inline const char *dbus_wire_bus_behind(const char *path, const char *front) {
+    const size_t length = strcmp(front, "/") == 0 ? 0 : strlen(front);
+    int is_below = path != NULL && strncmp(path, front, length) == 0;
+    return is_below && strchr("/", path[length]) != NULL ? path + length : NULL;
+}
+
+/* Of the object that is called the member of the kind, or any of the interface if that is 0. If
+ * there is none, the call fails. */
+static inline const struct dbus_wire_bus_served *
+dbus_wire_bus_find(struct dbus_wire_bus *bus, char kind, const char *interface, const char *name) {
+    static const char *const errors[][2] = {
+        {DBUS_WIRE_BUS_ERROR "UnknownObject", "there is no such object"},
+        {DBUS_WIRE_BUS_ERROR "UnknownInterface", "there is no such interface"},
+        {DBUS_WIRE_BUS_ERROR "UnknownMethod", "there is no such method"},
+        {DBUS_WIRE_BUS_ERROR "UnknownProperty", "there is no such property"}};
+    const char *path = dbus_wire_bus_field(bus->asked, path);
+    int known = strcmp(path, "/") == 0 || strcmp(interface, DBUS_WIRE_BUS ".Peer") == 0;
+    /* Of a call that names no interface the object's own come first, which were added last. */
+    for (size_t at = bus->served_count; at-- > 0;) {
+        const struct dbus_wire_bus_served *it = &bus->served[at];
+        if (known == 0) known = dbus_wire_bus_behind(it->path, path) != NULL;
+        if (known == 0 || !dbus_wire_bus_is_of(it, path, interface)) continue;
+        if (kind == 0 || (it->member->kind == kind && strcmp(it->member->name, name) == 0))
+            return it;
+        known = kind == 'm' ? 2 : 3;
+    }
+    return dbus_wire_bus_fail(bus, errors[known][0], errors[known][1]), NULL;
 }
 
 /* Puts the properties of an interface, or of these the one of the name, as a{sv}. How many. */
 static inline int dbus_wire_bus_put_properties(struct dbus_wire_bus *bus, const char *path,
                                                const char *interface, const char *name) {
-    const struct dbus_wire_bus_member *it;
     struct dbus_wire_bus_body *to = &bus->given;
     struct dbus_wire_array array;
     int count = 0;
     while (dbus_wire_open_array(to->bytes, to->room, &to->writer, 8, &array) == DBUS_WIRE_NO_ROOM)
         dbus_wire_bus_room(to);
-    for (size_t of = 0, at = 0;
-         (it = dbus_wire_bus_member_after(bus, path, 'p', interface, name, &of, &at)) != NULL;
-         count++) {
-        dbus_wire_bus_put(bus, "(sg)", it->name, it->gives);
-        it->get(bus, bus->objects[of].data);
+    for (const struct dbus_wire_bus_served *it = bus->served; it < bus->served + bus->served_count;
+         it++) {
+        if (it->member->kind != 'p' || !dbus_wire_bus_is_of(it, path, interface) ||
+            (name != NULL && strcmp(it->member->name, name) != 0))
+            continue;
+        dbus_wire_bus_put(bus, "(sg)", it->member->name, it->member->gives);
+        it->member->get(bus, it->data), count++;
     }
     if (to->fault == DBUS_WIRE_OK)
         to->fault = dbus_wire_close_array(to->bytes, to->room, &to->writer, &array);
@@ -372,218 +378,183 @@ static inline int dbus_wire_bus_put_properties(struct dbus_wire_bus *bus, const 
 /* Sends PropertiesChanged of a property, with its value. One that a caller sets needs none. */
 static inline int dbus_wire_bus_changed(struct dbus_wire_bus *bus, const char *path,
                                         const char *interface, const char *name) {
-    struct dbus_wire_draft draft = {.kind = DBUS_WIRE_TYPE_SIGNAL, .path = dbus_wire_text_of(path)};
+    struct dbus_wire_draft draft =
+        dbus_wire_bus_draft(NULL, path, DBUS_WIRE_BUS ".Properties", "PropertiesChanged");
     struct dbus_wire_bus_body given = bus->given;
-    draft.interface = dbus_wire_text_of(DBUS_WIRE_BUS ".Properties"),
-    draft.member = dbus_wire_text_of("PropertiesChanged");
     bus->given = bus->sent;
     dbus_wire_bus_put(bus, "s", interface);
-    int count = dbus_wire_bus_put_properties(bus, path, interface, name);
+    if (dbus_wire_bus_put_properties(bus, path, interface, name) == 0)
+        bus->given.fault = DBUS_WIRE_NO_VALUE;
     dbus_wire_bus_put(bus, "as", 0);
     bus->sent = bus->given, bus->given = given;
-    return count > 0 && dbus_wire_bus_send_draft(bus, draft, "sa{sv}as", &bus->sent);
+    return dbus_wire_bus_send_draft(bus, draft, "sa{sv}as", &bus->sent);
 }
 
-/* The member of the object that is called, and its data; or the call fails. */
-static inline const struct dbus_wire_bus_member *dbus_wire_bus_find(struct dbus_wire_bus *bus,
-                                                                    char kind,
-                                                                    const char *interface,
-                                                                    const char *name, void **data) {
-    const char *path = dbus_wire_bus_field(bus->asked, bus->asked->parts.path);
-    size_t of = 0, at = 0, any_of = 0, any_at = 0;
-    const struct dbus_wire_bus_member *it =
-        dbus_wire_bus_member_after(bus, path, kind, interface, name, &of, &at);
-    *data = bus->objects[it != NULL ? of : 0].data;
-    if (it == NULL &&
-        dbus_wire_bus_member_after(bus, path, 0, interface, NULL, &any_of, &any_at) == NULL)
-        dbus_wire_bus_fail(bus, DBUS_WIRE_BUS_ERROR "UnknownInterface",
-                           "there is no such interface");
-    else if (it == NULL && kind == 'm')
-        dbus_wire_bus_fail(bus, DBUS_WIRE_BUS_ERROR "UnknownMethod", "there is no such method");
-    else if (it == NULL)
-        dbus_wire_bus_fail(bus, DBUS_WIRE_BUS_ERROR "UnknownProperty", "there is no such property");
-    return it;
-}
-
-static inline void dbus_wire_bus_ping(struct dbus_wire_bus *bus, void *data) {
-    (void)bus, (void)data;
-}
-
-static inline void dbus_wire_bus_get(struct dbus_wire_bus *bus, void *data) {
-    const struct dbus_wire_bus_member *it = dbus_wire_bus_find(
-        bus, 'p', dbus_wire_bus_text(bus->asked, 0), dbus_wire_bus_text(bus->asked, 1), &data);
-    if (it == NULL) return;
-    dbus_wire_bus_put(bus, "g", it->gives);
-    it->get(bus, data);
-}
-
-static inline void dbus_wire_bus_get_all(struct dbus_wire_bus *bus, void *data) {
-    const char *path = dbus_wire_bus_field(bus->asked, bus->asked->parts.path),
-               *interface = dbus_wire_bus_text(bus->asked, 0);
-    size_t of = 0, at = 0;
+/* The methods of Properties. */
+static inline void dbus_wire_bus_properties(struct dbus_wire_bus *bus, void *data) {
+    const struct dbus_wire_bus_message *asked = bus->asked;
+    const char *interface = dbus_wire_bus_text(asked, 0), *name = dbus_wire_bus_text(asked, 1);
+    const char *path = dbus_wire_bus_field(asked, path);
+    const struct dbus_wire_bus_served *it =
+        dbus_wire_bus_find(bus, asked->count > 1 ? 'p' : 0, interface, name);
     (void)data;
-    if (dbus_wire_bus_member_after(bus, path, 0, interface, NULL, &of, &at) == NULL)
-        dbus_wire_bus_fail(bus, DBUS_WIRE_BUS_ERROR "UnknownInterface",
-                           "there is no such interface");
-    dbus_wire_bus_put_properties(bus, path, interface, NULL);
-}
-
-static inline void dbus_wire_bus_set(struct dbus_wire_bus *bus, void *data) {
-    const struct dbus_wire_bus_member *it = dbus_wire_bus_find(
-        bus, 'p', dbus_wire_bus_text(bus->asked, 0), dbus_wire_bus_text(bus->asked, 1), &data);
     if (it == NULL) return;
-    if (it->set == NULL)
-        dbus_wire_bus_fail(bus, DBUS_WIRE_BUS_ERROR "PropertyReadOnly",
-                           "the property cannot be set");
-    else if (strcmp(dbus_wire_bus_text(bus->asked, 2), it->gives) != 0)
+    if (asked->count == 1) dbus_wire_bus_put_properties(bus, path, interface, NULL);
+    else if (asked->count == 2)
+        dbus_wire_bus_put(bus, "g", it->member->gives), it->member->get(bus, it->data);
+    else if (it->member->set == NULL)
+        dbus_wire_bus_fail(bus, DBUS_WIRE_BUS_ERROR "PropertyReadOnly", "it cannot be set");
+    else if (strcmp(dbus_wire_bus_text(asked, 2), it->member->gives) != 0)
         dbus_wire_bus_fail(bus, DBUS_WIRE_BUS_ERROR "InvalidArgs", "the property has another type");
-    else it->set(bus, data);
-    if (bus->error == NULL)
-        dbus_wire_bus_changed(bus, dbus_wire_bus_field(bus->asked, bus->asked->parts.path),
-                              it->interface, it->name);
+    else it->member->set(bus, it->data);
+    if (asked->count > 2 && bus->error == NULL)
+        dbus_wire_bus_changed(bus, path, it->member->interface, name);
 }
 
-static inline void dbus_wire_bus_describe_types(FILE *out, const char *types, const char *side) {
-    for (const char *end; *types != 0; types = end) {
-        end = dbus_wire_type_end(types);
-        fprintf(out, "<arg type='%.*s' direction='%s'/>", (int)(end - types), types, side);
-    }
+static inline void dbus_wire_bus_machine(struct dbus_wire_bus *bus, void *data) {
+    char id[33] = "";
+    FILE *file = fopen("/etc/machine-id", "r");
+    (void)data;
+    if (file == NULL || fgets(id, sizeof id, file) == NULL)
+        dbus_wire_bus_fail(bus, DBUS_WIRE_BUS_ERROR "Failed", "the machine has no ID");
+    if (file != NULL) fclose(file);
+    dbus_wire_bus_put(bus, "s", id);
+}
+
+static inline void dbus_wire_bus_describe(FILE *out, const struct dbus_wire_bus_member *it) {
+    const char *kind = it->kind == 'm' ? "method" : it->kind == 's' ? "signal" : "property";
+    const char *types = it->kind == 'm' ? it->takes : "", *end;
+    fprintf(out, "<%s name='%s'", kind, it->name);
+    if (it->kind == 'p')
+        fprintf(out, " type='%s' access='read%s'", it->gives, it->set ? "write" : "");
+    fputs(">", out);
+    for (int is_out = 0; is_out < 2 && it->kind != 'p'; is_out++, types = it->gives)
+        for (; *types != 0; types = end) {
+            end = dbus_wire_type_end(types);
+            fprintf(out, "<arg type='%.*s' direction='%s'/>", (int)(end - types), types,
+                    is_out ? "out" : "in");
+        }
+    fprintf(out, "</%s>", kind);
 }
 
 static inline void dbus_wire_bus_introspect(struct dbus_wire_bus *bus, void *data) {
-    const char *path = dbus_wire_bus_field(bus->asked, bus->asked->parts.path), *now = "";
-    const size_t front = strcmp(path, "/") == 0 ? 0 : strlen(path);
-    const struct dbus_wire_bus_member *it;
+    const char *path = dbus_wire_bus_field(bus->asked, path), *now = "";
+    const struct dbus_wire_bus_served *it, *end = bus->served + bus->served_count;
+    size_t size, width = 0;
     char *text = NULL;
-    size_t size;
     FILE *out = open_memstream(&text, &size);
     if (out == NULL) abort();
     fputs("<node>", out);
-    for (size_t of = 0, at = 0;
-         (it = dbus_wire_bus_member_after(bus, path, 0, "", NULL, &of, &at)) != NULL;
-         now = it->interface) {
-        const char *kind = it->kind == 'm' ? "method" : it->kind == 's' ? "signal" : "property";
-        if (strcmp(now, it->interface) != 0)
-            fprintf(out, "%s<interface name='%s'>", *now ? "</interface>" : "", it->interface);
-        fprintf(out, "<%s name='%s'", kind, it->name);
-        if (it->kind == 'p')
-            fprintf(out, " type='%s' access='%s'", it->gives, it->set ? "readwrite" : "read");
-        fputs(">", out);
-        if (it->kind == 'm') dbus_wire_bus_describe_types(out, it->takes, "in");
-        if (it->kind != 'p') dbus_wire_bus_describe_types(out, it->gives, "out");
-        fprintf(out, "</%s>", kind);
+    for (it = bus->served; it < end; it++) {
+        if (!dbus_wire_bus_is_of(it, path, "")) continue;
+        if (strcmp(now, it->member->interface) != 0)
+            fprintf(out, "%s<interface name='%s'>", *now ? "</interface>" : "",
+                    it->member->interface);
+        dbus_wire_bus_describe(out, it->member), now = it->member->interface;
     }
-    if (*now) fputs("</interface>", out);
-    for (size_t i = 0; i < bus->object_count; i++) {
-        const char *below = bus->objects[i].path;
-        if (strncmp(below, path, front) == 0 && below[front] == '/' && below[front + 1] != 0)
-            fprintf(out, "<node name='%.*s'/>", (int)strcspn(below + front + 1, "/"),
-                    below + front + 1);
+    fputs("</interface>", out), now = "";
+    for (it = bus->served; it < end; it++) {
+        const char *below = dbus_wire_bus_behind(it->path, path);
+        const size_t length = below != NULL && *below != 0 ? strcspn(below + 1, "/") : 0;
+        if (length == 0 || (length == width && strncmp(now, below + 1, width) == 0)) continue;
+        now = below + 1, width = length;
+        fprintf(out, "<node name='%.*s'/>", (int)width, now);
     }
     fputs("</node>", out);
     if (fclose(out) != 0) abort();
     (void)data, dbus_wire_bus_put(bus, "s", text), free(text);
 }
 
+/* D-Bus Specification, "Standard Interfaces". */
 static const struct dbus_wire_bus_member dbus_wire_bus_standard[] = {
-    {'m', DBUS_WIRE_BUS ".Peer", "Ping", "", "", dbus_wire_bus_ping, NULL},
+    {'m', DBUS_WIRE_BUS ".Peer", "Ping", "", "", NULL, NULL},
+    {'m', DBUS_WIRE_BUS ".Peer", "GetMachineId", "", "s", dbus_wire_bus_machine, NULL},
     {'m', DBUS_WIRE_BUS ".Introspectable", "Introspect", "", "s", dbus_wire_bus_introspect, NULL},
-    {'m', DBUS_WIRE_BUS ".Properties", "Get", "ss", "v", dbus_wire_bus_get, NULL},
-    {'m', DBUS_WIRE_BUS ".Properties", "GetAll", "s", "a{sv}", dbus_wire_bus_get_all, NULL},
-    {'m', DBUS_WIRE_BUS ".Properties", "Set", "ssv", "", dbus_wire_bus_set, NULL},
+    {'m', DBUS_WIRE_BUS ".Properties", "Get", "ss", "v", dbus_wire_bus_properties, NULL},
+    {'m', DBUS_WIRE_BUS ".Properties", "GetAll", "s", "a{sv}", dbus_wire_bus_properties, NULL},
+    {'m', DBUS_WIRE_BUS ".Properties", "Set", "ssv", "", dbus_wire_bus_properties, NULL},
     {'s', DBUS_WIRE_BUS ".Properties", "PropertiesChanged", "", "sa{sv}as", NULL, NULL},
-    {0, NULL, NULL, NULL, NULL, NULL, NULL}};
+    {0}};
 
 /* Answers the call at hand. */
 static inline int dbus_wire_bus_answer(struct dbus_wire_bus *bus) {
     const struct dbus_wire_bus_message *asked = bus->asked;
-    const char *path = dbus_wire_bus_field(asked, asked->parts.path),
-               *interface = dbus_wire_bus_field(asked, asked->parts.interface);
-    const struct dbus_wire_bus_member *it = NULL;
     struct dbus_wire_draft reply = {0};
-    int is_there = strcmp(path, "/") == 0 || strcmp(interface, DBUS_WIRE_BUS ".Peer") == 0;
-    void *data;
-    for (size_t i = 0; i < bus->object_count; i++)
-        is_there |= strncmp(bus->objects[i].path, path, strlen(path)) == 0 &&
-                    strchr("/", bus->objects[i].path[strlen(path)]) != NULL;
-    bus->objects[bus->object_count].path = path,
-    bus->objects[bus->object_count].members = dbus_wire_bus_standard;
-    bus->given.writer = (struct dbus_wire_writer){0, asked->parts.order, 0}, bus->error = NULL;
-    if (!is_there)
-        dbus_wire_bus_fail(bus, DBUS_WIRE_BUS_ERROR "UnknownObject", "there is no such object");
-    else
-        it = dbus_wire_bus_find(bus, 'm', interface,
-                                dbus_wire_bus_field(asked, asked->parts.member), &data);
-    if (it != NULL && !dbus_wire_text_is(asked->bytes, asked->parts.signature, it->takes))
+    dbus_wire_bus_clear(&bus->given, asked->parts.order), bus->error = NULL;
+    const struct dbus_wire_bus_served *it = dbus_wire_bus_find(
+        bus, 'm', dbus_wire_bus_field(asked, interface), dbus_wire_bus_field(asked, member));
+    if (it != NULL && strcmp(dbus_wire_bus_field(asked, signature), it->member->takes) != 0)
         dbus_wire_bus_fail(bus, DBUS_WIRE_BUS_ERROR "InvalidArgs", "the method takes other types");
-    else if (it != NULL) it->get(bus, data);
+    else if (it != NULL && it->member->get != NULL) it->member->get(bus, it->data);
     if (bus->error == NULL && bus->given.fault != DBUS_WIRE_OK)
         dbus_wire_bus_fail(bus, DBUS_WIRE_BUS_ERROR "Failed", "the reply has no such values");
-    int is_error = bus->error != NULL,
-        wants_reply = !(asked->parts.flags & DBUS_WIRE_FLAG_NO_REPLY_EXPECTED);
-    if (is_error || !wants_reply)
-        bus->given.writer.length = 0, bus->given.fault = DBUS_WIRE_OK, bus->given.fd_count = 0;
-    if (!wants_reply) return 1;
-    if (is_error)
-        reply.error_name = dbus_wire_text_of(bus->error), dbus_wire_bus_put(bus, "s", bus->text);
-    return dbus_wire_bus_send_draft(bus, reply, is_error ? "s" : it->gives, &bus->given);
+    if (asked->parts.flags & DBUS_WIRE_FLAG_NO_REPLY_EXPECTED) return 1;
+    if (bus->error == NULL)
+        return dbus_wire_bus_send_draft(bus, reply, it->member->gives, &bus->given);
+    dbus_wire_bus_clear(&bus->given, asked->parts.order), dbus_wire_bus_put(bus, "s", bus->text);
+    reply.error_name = dbus_wire_text_of(bus->error);
+    return dbus_wire_bus_send_draft(bus, reply, "s", &bus->given);
 }
 
 /* Answers calls until another message comes, such as a signal, which is bus->asked then. 0 if the
  * bus is gone. */
 static inline int dbus_wire_bus_next(struct dbus_wire_bus *bus) {
     struct dbus_wire_connection_step step;
-    for (;;) {
+    do {
         dbus_wire_bus_drop(bus->asked);
-        if ((bus->asked = bus->later) != NULL) bus->later = bus->asked->after;
-        else if ((bus->asked = dbus_wire_bus_receive(bus, &step)) == NULL) return 0;
+        if ((bus->asked = bus->later) == NULL) bus->asked = dbus_wire_bus_receive(bus, &step);
+        if (bus->asked == NULL) return 0;
+        bus->later = bus->asked->after, bus->asked->after = NULL;
         if (bus->asked->parts.kind != DBUS_WIRE_TYPE_METHOD_CALL) return 1;
-        if (!dbus_wire_bus_answer(bus)) return 0;
-    }
+    } while (dbus_wire_bus_answer(bus));
+    return 0;
 }
 
 static inline void dbus_wire_bus_close(struct dbus_wire_bus *bus) {
     if (bus == NULL) return;
     if (bus->socket >= 0) close(bus->socket);
     while (bus->fd_count > 0) close(bus->fds[--bus->fd_count]);
-    for (struct dbus_wire_bus_message *it; (it = bus->later) != NULL; dbus_wire_bus_drop(it))
-        bus->later = it->after;
-    dbus_wire_bus_drop(bus->asked), dbus_wire_bus_drop(bus->reply),
-        dbus_wire_connection_free(&bus->connection);
-    free(bus->out), free(bus->given.bytes), free(bus->sent.bytes), free(bus);
+    dbus_wire_bus_drop(bus->asked), dbus_wire_bus_drop(bus->reply), dbus_wire_bus_drop(bus->later);
+    dbus_wire_connection_free(&bus->connection), free(bus->served), free(bus->out);
+    free(bus->given.bytes), free(bus->sent.bytes), free(bus);
 }
 
-static inline int dbus_wire_bus_value_of(const char *text, uint64_t number, const char *key,
-                                         char *out, size_t room, uint64_t *count) {
-    return dbus_wire_address_value(text, strlen(text), number, key, strlen(key), (uint8_t *)out,
-                                   room, count) == DBUS_WIRE_OK;
+/* Of an address the value of a key, with a 0 behind it: its length, or 0 if it is not there. */
+static inline size_t dbus_wire_bus_value_of(const char *text, uint64_t number, const char *key,
+                                            char *out, size_t room) {
+    uint64_t count;
+    uint32_t answer = dbus_wire_address_value(text, strlen(text), number, key, strlen(key),
+                                              (uint8_t *)out, room, &count);
+    return answer == DBUS_WIRE_OK ? count : 0;
 }
 
 /* A socket that is connected to the first of the server addresses that takes a connection, of those
  * that are Unix sockets; or -1. */
 static inline int dbus_wire_bus_connect(const char *text) {
-    struct dbus_wire_addresses told;
     const char *folder = getenv("XDG_RUNTIME_DIR");
+    const size_t before = offsetof(struct sockaddr_un, sun_path);
+    struct dbus_wire_addresses told;
+    uint64_t count;
+    uint8_t kind[8];
     if (dbus_wire_address_check(text, strlen(text), &told) != DBUS_WIRE_OK) return -1;
-    for (uint64_t number = 0, count = 0; number < told.count; number++) {
+    for (uint64_t number = 0; number < told.count; number++) {
         struct sockaddr_un address = {.sun_family = AF_UNIX};
-        char *name = address.sun_path, kind[8];
-        socklen_t size = sizeof address;
-        if (dbus_wire_address_transport(text, strlen(text), number, (uint8_t *)kind, sizeof kind,
-                                        &count) != DBUS_WIRE_OK ||
-            strcmp(kind, "unix") != 0)
-            continue;
-        if (dbus_wire_bus_value_of(text, number, "abstract", name + 1, sizeof address.sun_path - 1,
-                                   &count))
-            size = (socklen_t)(sizeof address - sizeof address.sun_path + 1 + count);
-        else if (dbus_wire_bus_value_of(text, number, "runtime", kind, sizeof kind, &count) &&
-                 strcmp(kind, "yes") == 0 && folder != NULL)
-            snprintf(name, sizeof address.sun_path, "%s/bus", folder);
-        else if (!dbus_wire_bus_value_of(text, number, "path", name, sizeof address.sun_path,
-                                         &count))
+        char *name = address.sun_path, yes[8];
+        size_t room = sizeof address.sun_path, length;
+        if ((length = dbus_wire_bus_value_of(text, number, "abstract", name + 1, room - 1)) > 0)
+            length++;
+        else if (dbus_wire_bus_value_of(text, number, "runtime", yes, sizeof yes) == 0)
+            length = dbus_wire_bus_value_of(text, number, "path", name, room);
+        else if (strcmp(yes, "yes") == 0 && folder != NULL)
+            length = (size_t)snprintf(name, room, "%s/bus", folder);
+        if (length == 0 || length > room ||
+            dbus_wire_address_transport(text, strlen(text), number, kind, sizeof kind, &count) !=
+                DBUS_WIRE_OK ||
+            strcmp((char *)kind, "unix") != 0)
             continue;
         int found = socket(AF_UNIX, SOCK_STREAM | SOCK_CLOEXEC, 0);
-        if (found >= 0 && connect(found, (const struct sockaddr *)&address, size) == 0)
+        if (found >= 0 &&
+            connect(found, (struct sockaddr *)&address, (socklen_t)(before + length)) == 0)
             return found;
         if (found >= 0) close(found);
     }
@@ -594,10 +565,10 @@ static inline int dbus_wire_bus_connect(const char *text) {
  * begun. NULL if there is no socket, or if the handshake failed. It closes the socket. */
 static inline struct dbus_wire_bus *dbus_wire_bus_over(int socket,
                                                        struct dbus_wire_handshake *end) {
-    struct dbus_wire_bus *bus = (struct dbus_wire_bus *)calloc(1, sizeof *bus);
+    struct dbus_wire_bus *bus = dbus_wire_bus_grown(NULL, sizeof *bus);
     struct dbus_wire_connection_step step = {0};
-    if (bus == NULL) abort();
-    bus->socket = socket;
+    *bus = (struct dbus_wire_bus){.socket = socket};
+    dbus_wire_bus_serve(bus, NULL, dbus_wire_bus_standard, NULL);
     if (socket >= 0 && dbus_wire_handshake_bound(end, 6, 6) == DBUS_WIRE_OK &&
         dbus_wire_connection_new(end, NULL, UINT32_MAX, 128, &bus->connection) == DBUS_WIRE_OK)
         dbus_wire_bus_receive(bus, &step);
@@ -608,19 +579,16 @@ static inline struct dbus_wire_bus *dbus_wire_bus_over(int socket,
 
 /* A connection to the bus at these addresses, which has not said Hello; NULL if there is none. */
 static inline struct dbus_wire_bus *dbus_wire_bus_join(const char *addresses, int passes_fds) {
-    struct dbus_wire_mechanisms mechanisms = {DBUS_WIRE_EXTERNAL_AS_USER, getuid(), 0,
-                                              passes_fds != 0};
+    struct dbus_wire_mechanisms own = {DBUS_WIRE_EXTERNAL_AS_USER, getuid(), 0, passes_fds != 0};
     struct dbus_wire_handshake client = {0};
-    if (dbus_wire_client_new(&mechanisms, NULL, 0, &client) != DBUS_WIRE_OK) abort();
+    if (dbus_wire_client_new(&own, NULL, 0, &client) != DBUS_WIRE_OK) abort();
     return dbus_wire_bus_over(dbus_wire_bus_connect(addresses), &client);
 }
 
 /* The same, which has said Hello. */
 static inline struct dbus_wire_bus *dbus_wire_bus_open(const char *addresses) {
     struct dbus_wire_bus *bus = dbus_wire_bus_join(addresses, 1);
-    if (bus == NULL ||
-        dbus_wire_bus_call(bus, DBUS_WIRE_BUS, "/org/freedesktop/DBus", DBUS_WIRE_BUS, "Hello", ""))
-        return bus;
+    if (bus == NULL || dbus_wire_bus_ask(bus, "Hello", "")) return bus;
     return dbus_wire_bus_close(bus), (struct dbus_wire_bus *)NULL;
 }
 

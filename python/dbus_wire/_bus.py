@@ -11,7 +11,8 @@ import select
 import socket
 import time
 from collections import deque
-from typing import Any, AsyncIterator, Iterator, Sequence, TypeVar
+from typing import Any, AsyncIterator, Awaitable, Callable, Generic, Iterator
+from typing import List, Sequence, TypeVar
 
 from ._addresses import connect
 from ._building import call, error_to, reply_to, signal
@@ -21,10 +22,13 @@ from ._link import Incoming, Link
 from ._messages import Message, MessageType
 from ._served import DBUS, PROPERTIES, ErrorReply, Members, Objects
 
-_Self = TypeVar("_Self", bound="_Side")
+_Self = TypeVar("_Self", bound="_Side[Any]")
+_Reply = TypeVar("_Reply")
+_Send = Callable[[int], None]
+_PATH = "/org/freedesktop/DBus"
 
 
-class _Side:
+class _Side(Generic[_Reply]):
     """What is common to a bus that blocks and one that does not."""
 
     asked: Message | None = None
@@ -38,11 +42,13 @@ class _Side:
     def __init__(self, addresses: str) -> None:
         """Connects to the first of the addresses that takes a connection, as the user of this
         process. Raises what `connect` raises, and ConnectionError if the handshake fails."""
-        self._link = Link(connect(addresses), Client(user=os.getuid(), descriptors=True, bounds=Bounds(6, 6)))
-        self._later, self._objects, self.given_fds = deque[Incoming](), Objects(self.changed), []
-        parts = {"path": "/org/freedesktop/DBus", "interface": DBUS, "destination": DBUS}
+        client = Client(user=os.getuid(), descriptors=True, bounds=Bounds(6, 6))
+        self._link = Link(connect(addresses), client)
+        self._later, self._objects = deque[Incoming](), Objects(self.changed)
+        self.given_fds = []
+        parts: Any = {"path": _PATH, "interface": DBUS, "destination": DBUS}
         self._link.send(call(self._link.side.call(DBUS, 0), "Hello", **parts))
-        [self.name] = self._values_of(self._link.receive())
+        [self.name] = _values_of(self._link.receive())
 
     @classmethod
     def session(cls: type[_Self]) -> _Self:
@@ -52,7 +58,32 @@ class _Side:
     @classmethod
     def system(cls: type[_Self]) -> _Self:
         """The system bus: of DBUS_SYSTEM_BUS_ADDRESS, or else of the specification."""
-        return cls(os.environ.get("DBUS_SYSTEM_BUS_ADDRESS") or "unix:path=/var/run/dbus/system_bus_socket")
+        own = os.environ.get("DBUS_SYSTEM_BUS_ADDRESS")
+        return cls(own or "unix:path=/var/run/dbus/system_bus_socket")
+
+    def call(
+        self,
+        destination: str,
+        path: str,
+        interface: str | None,
+        member: str,
+        signature: str | None = None,
+        *values: Any,
+        timeout: float | None = None,
+        fds: Sequence[int] = (),
+    ) -> _Reply:
+        """Calls a method, waits for the reply, and returns its values. Raises ErrorReply of an
+        error, TimeoutError after so many seconds, ConnectionError once the bus is gone, and what
+        `dbus_wire.call` raises. An AsyncBus has to be awaited, and closes the file descriptors of
+        the reply."""
+        parts: Any = {"path": path, "interface": interface, "unix_fds": len(fds)}
+        words, parts["destination"] = (member, signature, *values), destination
+        send: _Send = lambda it: self._send(call(it, *words, **parts), fds)
+        return self._wait(destination, send, timeout)
+
+    def ask(self, member: str, signature: str | None = None, *values: Any) -> _Reply:
+        """Calls a method of the bus itself, such as AddMatch."""
+        return self.call(DBUS, _PATH, DBUS, member, signature, *values)
 
     def serve(self, path: str, interface: str, members: Members) -> None:
         """Serves an interface of an object, which has Peer, Introspectable and Properties too."""
@@ -60,14 +91,18 @@ class _Side:
 
     def emit(self, path: str, interface: str, member: str, *values: Any, fds: Sequence[int] = ()) -> None:
         """Sends a signal of an object that is served, with these file descriptors."""
-        types = self._objects.served[path][interface][member].gives
-        self._send(signal(self._link.side.serial(), path, interface, member, types, *values, unix_fds=len(fds)), fds)
+        gives = self._objects.served[path][interface][member].gives
+        self._signal(fds, path, interface, member, gives, *values)
 
     def changed(self, path: str, interface: str, *names: str) -> None:
         """Sends PropertiesChanged, with the values of these properties. One that a caller sets
         needs none."""
-        values = "sa{sv}as", interface, self._objects.values(path, interface, *names), []
-        self._send(signal(self._link.side.serial(), path, PROPERTIES, "PropertiesChanged", *values))
+        values: Any = interface, self._objects.values(path, interface, *names), []
+        self._signal((), path, PROPERTIES, "PropertiesChanged", "sa{sv}as", *values)
+
+    def _signal(self, fds: Sequence[int], *words: Any) -> None:
+        serial = self._link.side.serial()
+        self._send(signal(serial, *words, unix_fds=len(fds)), fds)
 
     def fileno(self) -> int:
         return self._link.fileno()
@@ -76,11 +111,6 @@ class _Side:
         self._link.socket.close()
         while self._later:
             self._later.popleft().close()
-
-    def _values_of(self, reply: Incoming) -> list[Any]:
-        if reply.message.type == MessageType.ERROR:
-            raise ErrorReply(reply.message.error_name or "", *reply.message.body)
-        return reply.message.body
 
     async def _answer(self, it: Incoming) -> None:
         asked, given = it.message, list[int]()
@@ -91,12 +121,14 @@ class _Side:
             values = method.call(*asked.body)
             if inspect.isawaitable(values):
                 values = await values
-            reply = reply_to(asked, serial, method.gives, *method.values(values), unix_fds=len(given))
+            words = method.gives, *method.values(values)
+            reply = reply_to(asked, serial, *words, unix_fds=len(given))
         except ErrorReply as error:
             reply = error_to(asked, serial, error.name, "s", *error.values)
         except Exception as error:
             logging.getLogger(__name__).exception("the method %s failed", asked.member)
-            reply = error_to(asked, serial, f"{DBUS}.Error.Failed", "s", f"{type(error).__name__}: {error}")
+            text = f"{type(error).__name__}: {error}"
+            reply = error_to(asked, serial, f"{DBUS}.Error.Failed", "s", text)
         if asked.wants_reply:
             self._send(reply, given if reply.unix_fds else ())
         it.close()
@@ -104,8 +136,11 @@ class _Side:
     def _send(self, message: Message, fds: Sequence[int] = ()) -> None:
         self._link.send(message, fds)
 
+    def _wait(self, to: str, send: _Send, timeout: float | None) -> _Reply:
+        raise NotImplementedError
 
-class Bus(_Side):
+
+class Bus(_Side[List[Any]]):
     """A connection to a message bus, for one thread:
 
         bus = Bus.session()
@@ -119,24 +154,11 @@ class Bus(_Side):
     reply_fds: Sequence[int] = ()
     """The file descriptors that came with the reply to the last call. They stay open."""
 
-    def call(
-        self,
-        destination: str,
-        path: str,
-        interface: str | None,
-        member: str,
-        signature: str | None = None,
-        *values: Any,
-        timeout: float | None = None,
-        fds: Sequence[int] = (),
-    ) -> list[Any]:
-        """Calls a method, waits for the reply, and returns its values. Raises ErrorReply of an
-        error, TimeoutError after so many seconds, ConnectionError once the bus is gone, and what
-        `dbus_wire.call` raises."""
-        serial, end = self._link.side.call(destination, 0), None if timeout is None else time.monotonic() + timeout
+    def _wait(self, to: str, send: _Send, timeout: float | None) -> list[Any]:
+        serial = self._link.side.call(to, 0)
+        end = None if timeout is None else time.monotonic() + timeout
         try:
-            parts = {"path": path, "interface": interface, "destination": destination, "unix_fds": len(fds)}
-            self._send(call(serial, member, signature, *values, **parts), fds)
+            send(serial)
             while (it := self._link.receive(end)).call is None:
                 self._later.append(it)
         finally:
@@ -144,11 +166,7 @@ class Bus(_Side):
             self._link.side.give_up(serial)
             self._link.socket.settimeout(None)
         self.reply_fds = it.fds
-        return self._values_of(it)
-
-    def ask(self, member: str, signature: str | None = None, *values: Any) -> list[Any]:
-        """Calls a method of the bus itself, such as AddMatch."""
-        return self.call(DBUS, "/org/freedesktop/DBus", DBUS, member, signature, *values)
+        return _values_of(it)
 
     def request_name(self, name: str) -> None:
         """Asks the bus for a name. Raises ConnectionError if another connection has it."""
@@ -190,7 +208,7 @@ class Bus(_Side):
         self.close()
 
 
-class AsyncBus(_Side):
+class AsyncBus(_Side[Awaitable[List[Any]]]):
     """The same for asyncio, within a running loop. A method that is served may be awaited too; it
     looks at `asked`, `asked_fds` and `given_fds` before it first waits.
 
@@ -205,27 +223,21 @@ class AsyncBus(_Side):
         self._loop, self._numbers = asyncio.get_running_loop(), itertools.count()
         self._waiting: dict[int, asyncio.Future[Incoming]] = {}
         self._signals: asyncio.Queue[Message | None] = asyncio.Queue()
-        self._tasks, self._unsent = set[asyncio.Task[None]](), deque[tuple[memoryview, list[int]]]()
+        self._tasks = set[asyncio.Task[None]]()
+        self._unsent = deque[tuple[memoryview, list[int]]]()
         self._loop.add_reader(self, self._on_readable)
 
-    async def call(
-        self, destination: str, path: str, interface: str | None, member: str, signature: str | None = None, *values: Any
-    ) -> list[Any]:
-        """As of Bus; asyncio.wait_for gives it a time. File descriptors of the reply are closed."""
-        number = next(self._numbers)
-        serial, waiting = self._link.side.call(destination, number), self._loop.create_future()
+    async def _wait(self, to: str, send: _Send, timeout: float | None) -> list[Any]:
+        number, waiting = next(self._numbers), self._loop.create_future()
+        serial = self._link.side.call(to, number)
         self._waiting[number] = waiting
         try:
-            self._send(call(serial, member, signature, *values, path=path, interface=interface, destination=destination))
-            (it := await waiting).close()
-            return self._values_of(it)
+            send(serial)
+            (it := await asyncio.wait_for(waiting, timeout)).close()
+            return _values_of(it)
         finally:
             self._link.side.give_up(serial)
             del self._waiting[number]
-
-    async def ask(self, member: str, signature: str | None = None, *values: Any) -> list[Any]:
-        """Calls a method of the bus itself, such as AddMatch."""
-        return await self.call(DBUS, "/org/freedesktop/DBus", DBUS, member, signature, *values)
 
     async def request_name(self, name: str) -> None:
         """Asks the bus for a name. Raises ConnectionError if another connection has it."""
@@ -272,18 +284,24 @@ class AsyncBus(_Side):
         self._on_writable()
 
     def _on_writable(self) -> None:
-        while self._unsent:
-            data, fds = self._unsent.popleft()
-            try:
-                sent = socket.send_fds(self._link.socket, [data], fds) if fds else self._link.socket.send(data)
-            except BlockingIOError:
-                self._unsent.appendleft((data, fds))
-                return self._loop.add_writer(self, self._on_writable)
-            for fd in fds:
-                os.close(fd)
-            if data[sent:]:
-                self._unsent.appendleft((data[sent:], []))
-        self._loop.remove_writer(self)
+        try:
+            while self._unsent:
+                data, fds = self._unsent[0]
+                sent = socket.send_fds(self._link.socket, [data], fds)
+                self._unsent[0] = data[sent:], []
+                for fd in fds:
+                    os.close(fd)
+                if sent == len(data):
+                    self._unsent.popleft()
+            self._loop.remove_writer(self)
+        except BlockingIOError:
+            self._loop.add_writer(self, self._on_writable)
+
+
+def _values_of(reply: Incoming) -> list[Any]:
+    if reply.message.type == MessageType.ERROR:
+        raise ErrorReply(reply.message.error_name or "", *reply.message.body)
+    return reply.message.body
 
 
 def _check_owned(name: str, answer: int) -> None:

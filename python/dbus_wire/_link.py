@@ -48,7 +48,7 @@ class Link:
     def send(self, message: Message, fds: Sequence[int] = ()) -> None:
         """Sends a message, with these file descriptors, which stay open."""
         data = memoryview(bytes(message))
-        self.socket.sendall(data[socket.send_fds(self.socket, [data], fds) if fds else 0 :])
+        self.socket.sendall(data[socket.send_fds(self.socket, [data], fds) :])
 
     def receive(self, end: float | None = None) -> Incoming:
         """The next message, until that of time.monotonic(). Raises ConnectionError, TimeoutError,
@@ -67,10 +67,12 @@ class Link:
                     self.socket.settimeout(max(end - time.monotonic(), 1e-6))
                 count = min(self._wanted - len(self._data), _PIECE)
                 try:
-                    piece, fds, _, _ = socket.recv_fds(self.socket, count, _FDS, socket.MSG_CMSG_CLOEXEC)
+                    words = self.socket, count, _FDS, socket.MSG_CMSG_CLOEXEC
+                    piece, fds, _, _ = socket.recv_fds(*words)
                 except socket.timeout as error:
                     raise TimeoutError("no message came in time") from error
-                if not piece or False in [self.side.keep_fd(fd, len(self._data)) for fd in fds]:
+                kept = [self.side.keep_fd(fd, len(self._data)) for fd in fds]
+                if not piece or False in kept:
                     raise ConnectionError("the connection ended")
                 self._data += piece
             came = self.side.take(self._data)

@@ -2,14 +2,15 @@
 
 from __future__ import annotations
 
-from typing import Any, Callable, Dict, NamedTuple, Union
+import functools
+from typing import Any, Callable, Dict, NamedTuple, TypeVar, Union
 
 from ._messages import Message
 from ._spelling import _types_of
 from ._values import Variant
 
 DBUS = "org.freedesktop.DBus"
-PROPERTIES = f"{DBUS}.Properties"
+PEER, PROPERTIES = f"{DBUS}.Peer", f"{DBUS}.Properties"
 
 
 class ErrorReply(Exception):
@@ -50,6 +51,8 @@ class Property(NamedTuple):
 
 
 Members = Dict[str, Union[Method, Signal, Property]]
+_PING = Method("", "", lambda: None)
+_Kind = TypeVar("_Kind", Method, Property)
 
 
 class Objects:
@@ -61,39 +64,35 @@ class Objects:
 
     def method(self, call: Message) -> Method:
         """The method that is called. Raises ErrorReply if there is none of these types."""
-        path, name, member = call.path or "/", call.interface, call.member or ""
-        # Of a call that names no interface the object's own come first.
-        tables = {**self.served.get(path, {}), **self._standard(path)}
-        if path not in self.served and name != f"{DBUS}.Peer" and not (self._below(path) or path == "/"):
+        path, name = call.path or "/", call.interface
+        is_there = path in self.served or path == "/" or self._below(path)
+        if not is_there and name != PEER:
             raise _error("UnknownObject", f"there is no object {path}")
-        if name is not None and name not in tables:
-            raise _error("UnknownInterface", f"{path} has no interface {name}")
-        found = (table.get(member) for it, table in tables.items() if name in (None, it))
-        method = next((it for it in found if isinstance(it, Method)), None)
-        if method is None:
-            raise _error("UnknownMethod", f"{path} has no method {member} of these")
+        method = self._member(Method, path, name, call.member or "")
         if call.types != method.takes:
-            raise _error("InvalidArgs", f"{member} takes the types '{method.takes}'")
+            raise _error("InvalidArgs", f"the method takes the types '{method.takes}'")
         return method
 
     def values(self, path: str, interface: str, *names: str) -> dict[str, Variant]:
         """Of these properties their values."""
-        found = {name: self._property(path, interface, name) for name in names}
+        found = {it: self._member(Property, path, interface, it) for it in names}
         return {name: Variant(it.gives, it.get()) for name, it in found.items()}
 
-    def _property(self, path: str, interface: str, name: str) -> Property:
-        it = self._table(path, interface).get(name)
-        if not isinstance(it, Property):
-            raise _error("UnknownProperty", f"{interface} has no property {name}")
-        return it
-
-    def _table(self, path: str, interface: str) -> Members:
-        if interface not in self.served.get(path, {}):
+    def _tables(self, path: str, interface: str | None) -> list[Members]:
+        # Of a call that names no interface the object's own come first.
+        tables = {**self.served.get(path, {}), **self._standard(path)}
+        if interface is not None and interface not in tables:
             raise _error("UnknownInterface", f"{path} has no interface {interface}")
-        return self.served[path][interface]
+        return [it for name, it in tables.items() if interface in (None, name)]
+
+    def _member(self, kind: type[_Kind], path: str, of: str | None, name: str) -> _Kind:
+        for it in (table.get(name) for table in self._tables(path, of)):
+            if isinstance(it, kind):
+                return it
+        raise _error(f"Unknown{kind.__name__}", f"{path} has no such member {name}")
 
     def _set(self, path: str, interface: str, name: str, value: Variant) -> None:
-        it = self._property(path, interface, name)
+        it = self._member(Property, path, interface, name)
         if it.set is None:
             raise _error("PropertyReadOnly", f"{name} cannot be set")
         if value.signature != it.gives:
@@ -102,16 +101,19 @@ class Objects:
         self._changed(path, interface, name)
 
     def _all(self, path: str, interface: str) -> dict[str, Variant]:
-        table = self._table(path, interface)
-        return self.values(path, interface, *(name for name, it in table.items() if isinstance(it, Property)))
+        [table] = self._tables(path, interface)
+        names = (name for name, it in table.items() if isinstance(it, Property))
+        return self.values(path, interface, *names)
 
     def _standard(self, path: str) -> dict[str, Members]:
+        get: Callable[..., Any] = lambda of, name: self.values(path, of, name)[name]
+        described = functools.partial(self._described, path)
         return {
-            f"{DBUS}.Peer": {"Ping": Method("", "", lambda: None), "GetMachineId": Method("", "s", _machine)},
-            f"{DBUS}.Introspectable": {"Introspect": Method("", "s", lambda: self._described(path))},
+            PEER: {"Ping": _PING, "GetMachineId": Method("", "s", _machine)},
+            f"{DBUS}.Introspectable": {"Introspect": Method("", "s", described)},
             PROPERTIES: {
-                "Get": Method("ss", "v", lambda interface, name: self.values(path, interface, name)[name]),
-                "GetAll": Method("s", "a{sv}", lambda interface: self._all(path, interface)),
+                "Get": Method("ss", "v", get),
+                "GetAll": Method("s", "a{sv}", lambda of: self._all(path, of)),
                 "Set": Method("ssv", "", lambda *words: self._set(path, *words)),
                 "PropertiesChanged": Signal("sa{sv}as"),
             },
@@ -120,24 +122,29 @@ class Objects:
     def _below(self, path: str) -> list[str]:
         """The names right below a path."""
         front = path.rstrip("/") + "/"
-        return sorted({it[len(front) :].split("/")[0] for it in self.served if it.startswith(front)} - {""})
+        below = (it[len(front) :] for it in self.served if it.startswith(front))
+        return sorted({it.split("/")[0] for it in below} - {""})
 
     def _described(self, path: str) -> str:
         """What Introspect returns."""
-        tables = {**self._standard(path), **self.served[path]} if path in self.served else {}
-        text = [f'<node name="{it}"/>' for it in self._below(path)]
-        for name, table in tables.items():
-            text += [f'<interface name="{name}">', *(_member(*it) for it in table.items()), "</interface>"]
-        return f'<node>{"".join(text)}</node>'
+        text = "<node>"
+        own = self.served.get(path, {})
+        for name, table in {**self._standard(path), **own}.items():
+            members = "".join(_described(*it) for it in table.items())
+            text += f'<interface name="{name}">{members}</interface>'
+        below = "".join(f'<node name="{it}"/>' for it in self._below(path))
+        return f"{text}{below}</node>"
 
 
-def _member(name: str, it: Method | Signal | Property) -> str:
+def _described(name: str, it: Method | Signal | Property) -> str:
     if isinstance(it, Property):
-        return f'<property name="{name}" type="{it.gives}" access="{"readwrite" if it.set else "read"}"/>'
-    sides = {"in": it.takes if isinstance(it, Method) else "", "out": it.gives}
-    args = "".join(f'<arg type="{type}" direction="{side}"/>' for side in sides for type in _types_of(sides[side]))
-    kind = "method" if isinstance(it, Method) else "signal"
-    return f'<{kind} name="{name}">{args}</{kind}>'
+        access = "readwrite" if it.set else "read"
+        return f'<property name="{name}" type="{it.gives}" access="{access}"/>'
+    kind, takes = ("method", it.takes) if isinstance(it, Method) else ("signal", "")
+    args = [(type, "in") for type in _types_of(takes)]
+    args += [(type, "out") for type in _types_of(it.gives)]
+    text = "".join(f'<arg type="{type}" direction="{side}"/>' for type, side in args)
+    return f'<{kind} name="{name}">{text}</{kind}>'
 
 
 def _machine() -> str:

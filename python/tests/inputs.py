@@ -1,5 +1,6 @@
 """The captures and the cases of messages that the tests of dbus_wire read."""
 
+import os
 import pathlib
 import sys
 
@@ -13,6 +14,8 @@ from dbus_wire import Limits, messages  # noqa: E402
 
 SAMPLES = {name: (ROOT / "samples" / f"{name}.dbus").read_bytes() for name in ("session", "big-endian")}
 CASES = ROOT / "cases/data"
+# That of a server of a test.
+GUID = "0123456789abcdef" * 2
 # What a Message names as it is in the header; `unix_fds` is 0 without that field.
 FIELDS = ("path", "interface", "member", "error_name", "reply_serial", "destination", "sender", "signature")
 
@@ -51,3 +54,14 @@ def changed_messages():
             for at, byte in enumerate(message.data):
                 for change in (0x01, 0x80, 0xFF):
                     yield message.data[:at] + bytes([byte ^ change]) + message.data[at + 1 :]
+
+
+def try_swaps(test, bus, name, count):
+    """Has the service of examples/ swap so many pairs of file descriptors, each the ends of a pipe."""
+    for _ in range(count):
+        pipe = os.pipe()
+        test.assertEqual(bus.call(name, "/", name, "Swap", "hh", 0, 1, fds=pipe), [0, 1])
+        os.write(bus.reply_fds[0], b"through both")
+        test.assertEqual(os.read(bus.reply_fds[1], 100), b"through both")
+        for fd in (*pipe, *bus.reply_fds):
+            os.close(fd)

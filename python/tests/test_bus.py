@@ -16,16 +16,18 @@ import time
 import unittest
 import warnings
 
-from inputs import ROOT
+from inputs import GUID, ROOT, try_swaps
 
 import dbus_wire
 from dbus_wire import AsyncBus, Bus, Client, Connection, ErrorReply, Event, MessageType, Method, Refused
 from dbus_wire import Server, Signal, Variant, call, reply_to
 
-EXAMPLES, GUID = ROOT / "examples/python", "0123456789abcdef" * 2
+EXAMPLES = ROOT / "examples/python"
 FOLDERS = [pathlib.Path(it) for it in os.environ.get("DBUS_WIRE_EXAMPLES", "").split(":") if it]
 PATH, NAME, LOAD, ECHO = "/org/example/Counter", *(f"org.example.{it}" for it in ("Counter", "Load", "Echo"))
 DBUS, ERROR = "org.freedesktop.DBus", "org.freedesktop.DBus.Error"
+ID = pathlib.Path("/etc/machine-id")
+MACHINE = ID.read_text().strip() if ID.exists() else ""
 # Of each call the interface, the member, the types and values, and the reply or the error's name.
 CALLS = (
     (NAME, "Add", ("u", 2), [2]),
@@ -36,6 +38,7 @@ CALLS = (
     (NAME, "Changed", (), f"{ERROR}.UnknownMethod"),
     ("org.example.Other", "Add", ("u", 2), f"{ERROR}.UnknownInterface"),
     (f"{DBUS}.Peer", "Ping", (), []),
+    (f"{DBUS}.Peer", "GetMachineId", (), [MACHINE] if MACHINE else f"{ERROR}.Failed"),
     (f"{DBUS}.Properties", "Get", ("ss", NAME, "Value"), [Variant("u", 5)]),
     (f"{DBUS}.Properties", "Get", ("ss", NAME, "Add"), f"{ERROR}.UnknownProperty"),
     (f"{DBUS}.Properties", "Get", ("ss", "a.b", "Value"), f"{ERROR}.UnknownInterface"),
@@ -242,13 +245,7 @@ class AtABus(unittest.TestCase):
         self.try_each("descriptors", ECHO, self.try_descriptors)
 
     def try_descriptors(self, bus):
-        for _ in range(300):
-            pipe = os.pipe()
-            self.assertEqual(bus.call(ECHO, "/", ECHO, "Swap", "hh", 0, 1, fds=pipe), [0, 1])
-            os.write(bus.reply_fds[0], b"through both")
-            self.assertEqual(os.read(bus.reply_fds[1], 100), b"through both")
-            for fd in (*pipe, *bus.reply_fds):
-                os.close(fd)
+        try_swaps(self, bus, ECHO, 300)
         # No descriptor comes with the first call, and one with the second.
         self.assertEqual(asked(bus, ECHO, "/", ECHO, "Swap", "hh", 0, 1), f"{ERROR}.Failed")
         with self.assertRaises(ErrorReply):
@@ -278,7 +275,7 @@ class AtABus(unittest.TestCase):
             told = await asyncio.gather(*(other.call(LOAD, "/", LOAD, *it) for it in calls), return_exceptions=True)
             self.assertEqual((told[0], told[1].name, told[2]), ([3], f"{NAME}.Odd", [bytes(20 << 20)]))
             with self.assertRaises(asyncio.TimeoutError):
-                await asyncio.wait_for(other.call(LOAD, "/", LOAD, "Half", "u", 8), 0.01)
+                await other.call(LOAD, "/", LOAD, "Half", "u", 8, timeout=0.01)
             signals = (it.body async for it in other if it.member == "Done")
             self.assertEqual([await signals.__anext__() for _ in range(3)], [[6], [7], [8]])
             bus.close()

@@ -9,8 +9,7 @@ use std::rc::Rc;
 use std::{env, fmt, mem};
 
 use crate::passing::{receive_with_fds, send_with_fds};
-use crate::served::{Member, Objects, PROPERTIES};
-use crate::typed::types_in;
+use crate::served::{serve_standard, Objects, Role, PROPERTIES};
 use crate::{connect, BadValue, Bounds, Client, Connection, ConnectionError, End, Event, External, FromValue, Kind};
 use crate::{Limits, Message, OwnedMessage, OwnedValue, Parts, ToValue, Typed};
 
@@ -34,13 +33,19 @@ impl fmt::Display for ErrorReply {
 
 impl Error for ErrorReply {}
 
+impl ErrorReply {
+    fn of(error: Box<dyn Error>) -> Self {
+        let kind = ["Failed", "InvalidArgs"][usize::from(error.is::<BadValue>())];
+        let (name, text) = (format!("{DBUS}.Error.{kind}"), error.to_string());
+        let own = error.downcast();
+        own.map_or_else(|_| Self { name, text }, |it| *it)
+    }
+}
+
 pub(crate) type Result<T> = std::result::Result<T, Box<dyn Error>>;
 
-struct Incoming {
-    message: OwnedMessage,
-    fds: Vec<OwnedFd>,
-    is_reply: bool,
-}
+// A message, its descriptors, and whether it answers a call of this side.
+type Incoming = (OwnedMessage, Vec<OwnedFd>, bool);
 
 /// A connection to a message bus, and the objects that it serves.
 ///
@@ -67,6 +72,8 @@ pub struct Bus {
     /// Those that are sent with the next call or signal of this side.
     pub sent_fds: Vec<OwnedFd>,
     pub(crate) objects: Objects,
+    // Of the call that is answered.
+    pub(crate) path: String,
     stream: UnixStream,
     connection: Connection,
     later: VecDeque<Incoming>,
@@ -79,7 +86,8 @@ impl Bus {
     ///
     /// If no bus takes the connection.
     pub fn session() -> Result<Self> {
-        Self::open(&env::var("DBUS_SESSION_BUS_ADDRESS").unwrap_or_else(|_| "unix:runtime=yes".into()))
+        let address = env::var("DBUS_SESSION_BUS_ADDRESS");
+        Self::open(&address.unwrap_or_else(|_| "unix:runtime=yes".into()))
     }
 
     /// The system bus: of `DBUS_SYSTEM_BUS_ADDRESS`, or else of the specification.
@@ -99,11 +107,20 @@ impl Bus {
     /// If none does.
     pub fn open(addresses: &str) -> Result<Self> {
         let mut client = Client::with_descriptors(Some(External::AsReported), None).map_err(io::Error::other)?;
-        client.set_bounds(Bounds { rejections: 6, errors: 6 });
-        let connection = Connection::new(End::Client(client), &Limits::default(), u32::MAX, 128)?;
-        let [asked_fds, given_fds, reply_fds, sent_fds] = Default::default();
-        let (stream, objects, later) = (connect(addresses)?, Objects::new(), VecDeque::new());
-        let mut bus = Self { asked_fds, given_fds, reply_fds, sent_fds, objects, stream, connection, later };
+        let (rejections, errors) = (6, 6);
+        client.set_bounds(Bounds { rejections, errors });
+        let mut bus = Self {
+            asked_fds: vec![],
+            given_fds: vec![],
+            reply_fds: vec![],
+            sent_fds: vec![],
+            objects: Objects::default(),
+            path: String::new(),
+            stream: connect(addresses)?,
+            connection: Connection::new(End::Client(client), &Limits::default(), u32::MAX, 128)?,
+            later: VecDeque::new(),
+        };
+        serve_standard(&mut bus);
         // It returns as the handshake ends.
         bus.receive()?;
         bus.ask("Hello", ())?;
@@ -117,28 +134,24 @@ impl Bus {
     /// If the reply is an error, there is no such message, or the bus is gone.
     pub fn call(&mut self, to: &str, path: &str, interface: &str, member: &str, values: impl ToValue) -> Result<OwnedMessage> {
         let serial = self.connection.call(Some(to), 1)?;
-        let (path, interface, member, fds) = (Some(path), Some(interface), Some(member), mem::take(&mut self.sent_fds));
-        let parts = Parts { path, interface, member, unix_fds: fds.len() as u32, ..Parts::new(Kind::MethodCall, serial) };
-        let call = Parts { destination: Some(to), ..parts }.build(values);
-        if call.is_err() {
+        let mut call = parts(Kind::MethodCall, serial, [path, interface, member]);
+        call.destination = Some(to);
+        if let Err(error) = self.send(call, values) {
             self.connection.give_up(serial);
+            return Err(error);
         }
-        send_with_fds(&self.stream, &call?, &fds)?;
-        loop {
-            let Incoming { message, fds, is_reply } = self.receive()?.ok_or(ConnectionError::Over)?;
-            if !is_reply {
-                self.later.push_back(Incoming { message, fds, is_reply });
-                continue;
+        let (reply, fds) = loop {
+            match self.receive()?.ok_or(ConnectionError::Over)? {
+                (reply, fds, true) => break (reply, fds),
+                other => self.later.push_back(other),
             }
-            self.reply_fds = fds;
-            return match message.error_name() {
-                Some(name) => {
-                    let text = message.body().next().and_then(|it| it.as_str().map(str::to_owned));
-                    Err(ErrorReply { name: name.to_owned(), text: text.unwrap_or_default() }.into())
-                }
-                None => Ok(message),
-            };
-        }
+        };
+        self.reply_fds = fds;
+        let Some(name) = reply.error_name().map(str::to_owned) else { return Ok(reply) };
+        let first = reply.body().next();
+        let text = first.and_then(|it| Some(it.as_str()?.to_owned()));
+        let text = text.unwrap_or_default();
+        Err(ErrorReply { name, text }.into())
     }
 
     /// Calls a method of the bus itself, such as `AddMatch`.
@@ -168,25 +181,25 @@ impl Bus {
         A: for<'a> FromValue<'a> + Typed,
         R: ToValue,
     {
-        let (takes, gives) = (types_in(A::signature()).into(), types_in(R::signature()).into());
-        let call = Rc::new(move |bus: &mut Bus, asked: &Message<'_>, serial| {
+        let answer = Rc::new(move |bus: &mut Bus, asked: &Message<'_>, serial| {
             let values = call(bus, asked.body_as()?)?;
-            Ok(asked.answer(Parts { unix_fds: bus.given_fds.len() as u32, ..Parts::new(Kind::MethodReturn, serial) }, values)?)
+            let mut parts = Parts::new(Kind::MethodReturn, serial);
+            parts.unix_fds = bus.given_fds.len() as u32;
+            Ok(asked.answer(parts, values)?)
         });
-        self.objects.serve(path, interface, name, Member::Method { takes, gives, call });
+        let types = [A::signature(), R::signature()];
+        self.objects.serve([path, interface, name], types, Role::Method(answer));
     }
 
     /// Declares a signal of these types, for those who look at the object.
     pub fn signal<A: Typed>(&mut self, path: &str, interface: &str, name: &str) {
-        self.objects.serve(path, interface, name, Member::Signal { gives: types_in(A::signature()).into() });
+        self.objects.serve([path, interface, name], ["", A::signature()], Role::Signal);
     }
-}
 
-impl Bus {
     /// Serves a property that callers read.
     pub fn property<T: ToValue>(&mut self, path: &str, interface: &str, name: &str, get: impl Fn() -> T + 'static) {
-        let get = Rc::new(move || Ok(OwnedValue::new(get())?));
-        self.objects.serve(path, interface, name, Member::Property { gives: T::signature().into(), get, set: None });
+        let role = Role::Property(Box::new(move || Ok(OwnedValue::new(get())?)), None);
+        self.objects.serve([path, interface, name], ["", T::signature()], role);
     }
 
     /// Serves a property that callers read and set.
@@ -200,9 +213,9 @@ impl Bus {
     ) where
         T: ToValue + for<'a> FromValue<'a>,
     {
-        let get = Rc::new(move || Ok(OwnedValue::new(get())?));
-        let set = Some(Rc::new(move |value: &OwnedValue| set(T::from_value(value.value())?)) as _);
-        self.objects.serve(path, interface, name, Member::Property { gives: T::signature().into(), get, set });
+        let set = Box::new(move |value: &OwnedValue| set(T::from_value(value.value())?));
+        let role = Role::Property(Box::new(move || Ok(OwnedValue::new(get())?)), Some(set));
+        self.objects.serve([path, interface, name], ["", T::signature()], role);
     }
 
     /// Sends a signal.
@@ -211,9 +224,16 @@ impl Bus {
     ///
     /// If there is no such signal, or the bus is gone.
     pub fn emit(&mut self, path: &str, interface: &str, member: &str, values: impl ToValue) -> Result<()> {
-        let (path, interface, member, fds) = (Some(path), Some(interface), Some(member), mem::take(&mut self.sent_fds));
-        let parts = Parts { path, interface, member, ..Parts::new(Kind::Signal, self.connection.serial()) };
-        Ok(send_with_fds(&self.stream, &Parts { unix_fds: fds.len() as u32, ..parts }.build(values)?, &fds)?)
+        let serial = self.connection.serial();
+        let signal = parts(Kind::Signal, serial, [path, interface, member]);
+        self.send(signal, values)
+    }
+
+    // Sends a message of these parts, and `sent_fds`.
+    fn send(&mut self, mut parts: Parts<'_>, values: impl ToValue) -> Result<()> {
+        let fds = mem::take(&mut self.sent_fds);
+        parts.unix_fds = fds.len() as u32;
+        Ok(send_with_fds(&self.stream, &parts.build(values)?, &fds)?)
     }
 
     /// Sends `PropertiesChanged` of a property, with its value. One that a caller sets needs none.
@@ -222,8 +242,9 @@ impl Bus {
     ///
     /// If there is no such property, or the bus is gone.
     pub fn changed(&mut self, path: &str, interface: &str, name: &str) -> Result<()> {
-        let values = BTreeMap::from([(name, self.objects.value(path, interface, name)?)]);
-        self.emit(path, PROPERTIES, "PropertiesChanged", (interface, values, [""; 0]))
+        let (get, _) = self.objects.property([path, interface, name])?;
+        let values = (interface, BTreeMap::from([(name, get()?)]), [""; 0]);
+        self.emit(path, PROPERTIES, "PropertiesChanged", values)
     }
 
     /// Answers calls until the bus is gone.
@@ -243,15 +264,15 @@ impl Bus {
     /// As of [`Bus::run`].
     pub fn next_signal(&mut self) -> Result<Option<OwnedMessage>> {
         loop {
-            let came = self.later.pop_front().map_or_else(|| self.receive(), |it| Ok(Some(it)));
-            let message = match came {
-                Err(error) if error.is::<io::Error>() => return Ok(None),
-                came => {
-                    let it = came?.ok_or(ConnectionError::Over)?;
-                    self.asked_fds = it.fds;
-                    it.message
-                }
+            let came = match self.later.pop_front() {
+                Some(it) => Ok(Some(it)),
+                None => self.receive(),
             };
+            let (message, fds, _) = match came {
+                Err(error) if error.is::<io::Error>() => return Ok(None),
+                came => came?.ok_or(ConnectionError::Over)?,
+            };
+            self.asked_fds = fds;
             match message.kind() {
                 Kind::MethodCall => self.answer(&message.message())?,
                 Kind::Signal => return Ok(Some(message)),
@@ -268,7 +289,7 @@ impl Bus {
             match came.event {
                 Event::Message { call, .. } => {
                     let fds = self.connection.fds();
-                    return Ok(Some(Incoming { message: OwnedMessage::known(bytes), fds, is_reply: call.is_some() }));
+                    return Ok(Some((OwnedMessage::known(bytes), fds, call.is_some())));
                 }
                 Event::Wants(count) => {
                     bytes.drain(..came.count);
@@ -295,7 +316,8 @@ impl Bus {
         bytes.resize(most.min(length + PIECE), 0);
         let count = receive_with_fds(&self.stream, &mut bytes[length..], &mut fds)?;
         bytes.truncate(length + count);
-        if count == 0 || !fds.into_iter().all(|fd| self.connection.keep_fd(fd, length)) {
+        let mut kept = fds.into_iter().map(|fd| self.connection.keep_fd(fd, length));
+        if count == 0 || !kept.all(|it| it) {
             return Err(ErrorKind::UnexpectedEof.into());
         }
         Ok(())
@@ -303,18 +325,14 @@ impl Bus {
 
     fn answer(&mut self, asked: &Message<'_>) -> Result<()> {
         let serial = self.connection.serial();
-        let reply = match self.objects.method(asked).and_then(|answer| answer(self, asked, serial)) {
-            Ok(reply) => reply,
-            Err(error) => {
-                self.given_fds.clear();
-                let (name, text) = match error.downcast::<ErrorReply>() {
-                    Ok(it) => (it.name, it.text),
-                    Err(error) if error.is::<BadValue>() => (format!("{DBUS}.Error.InvalidArgs"), error.to_string()),
-                    Err(error) => (format!("{DBUS}.Error.Failed"), error.to_string()),
-                };
-                asked.reply_error(serial, &name, text)?
-            }
-        };
+        asked.path().unwrap_or_default().clone_into(&mut self.path);
+        let found = self.objects.method(asked);
+        let answered = found.and_then(|answer| answer(self, asked, serial));
+        let reply = answered.or_else(|error| {
+            self.given_fds.clear();
+            let error = ErrorReply::of(error);
+            asked.reply_error(serial, &error.name, error.text)
+        })?;
         let fds = mem::take(&mut self.given_fds);
         if asked.wants_reply() {
             send_with_fds(&self.stream, &reply, &fds)?;
@@ -322,4 +340,10 @@ impl Bus {
         self.asked_fds.clear();
         Ok(())
     }
+}
+
+fn parts(kind: Kind, serial: u32, at: [&str; 3]) -> Parts<'_> {
+    let mut parts = Parts::new(kind, serial);
+    [parts.path, parts.interface, parts.member] = at.map(Some);
+    parts
 }

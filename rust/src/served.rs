@@ -2,153 +2,158 @@
 
 use std::collections::{BTreeMap, BTreeSet};
 use std::error::Error;
+use std::fs;
 use std::rc::Rc;
 
 use crate::bus::{ErrorReply, Result, DBUS};
+use crate::typed::types_in;
 use crate::{Bus, Message, OwnedValue};
 
 pub(crate) const PROPERTIES: &str = "org.freedesktop.DBus.Properties";
+const PEER: &str = "org.freedesktop.DBus.Peer";
+const INTROSPECTABLE: &str = "org.freedesktop.DBus.Introspectable";
 
-type Set = dyn Fn(&OwnedValue) -> Result<()>;
 type Answer = dyn Fn(&mut Bus, &Message<'_>, u32) -> Result<Vec<u8>>;
+type Get = dyn Fn() -> Result<OwnedValue>;
+type Set = dyn Fn(&OwnedValue) -> Result<()>;
 
-#[derive(Clone)]
-pub(crate) enum Member {
-    Method { takes: String, gives: String, call: Rc<Answer> },
-    Signal { gives: String },
-    Property { gives: String, get: Rc<dyn Fn() -> Result<OwnedValue>>, set: Option<Rc<Set>> },
+/// What a member is: a method by what answers a call, a property by what reads and what sets it.
+pub(crate) enum Role {
+    Method(Rc<Answer>),
+    Signal,
+    Property(Box<Get>, Option<Box<Set>>),
 }
 
+/// A member: the types that it takes and gives, and its role.
+pub(crate) struct Member([&'static str; 2], Role);
+
+type As<'a, T> = fn(&'a Member) -> Option<T>;
 type Members = BTreeMap<String, Member>;
-type Interfaces = BTreeMap<String, Members>;
+type Changed = (String, BTreeMap<String, OwnedValue>, Vec<String>);
 
-// The methods of the standard interfaces. D-Bus Specification, "Standard Interfaces".
-type Standard = (&'static str, &'static str, &'static str, &'static str, fn(&mut Bus, &Message<'_>, u32) -> Result<Vec<u8>>);
-const STANDARD: [Standard; 5] = [
-    ("org.freedesktop.DBus.Peer", "Ping", "", "", |_, asked, serial| Ok(asked.reply(serial, ())?)),
-    ("org.freedesktop.DBus.Introspectable", "Introspect", "", "s", |bus, asked, serial| {
-        Ok(asked.reply(serial, bus.objects.described(path_of(asked)))?)
-    }),
-    (PROPERTIES, "Get", "ss", "v", |bus, asked, serial| {
-        let (interface, name) = asked.body_as()?;
-        Ok(asked.reply(serial, bus.objects.value(path_of(asked), interface, name)?)?)
-    }),
-    (PROPERTIES, "GetAll", "s", "a{sv}", |bus, asked, serial| {
-        Ok(asked.reply(serial, bus.objects.values(path_of(asked), asked.body_as()?)?)?)
-    }),
-    (PROPERTIES, "Set", "ssv", "", |bus, asked, serial| {
-        let (interface, name, value): (&str, &str, OwnedValue) = asked.body_as()?;
-        match bus
-            .objects
-            .member(path_of(asked), interface, name, "UnknownProperty", |it| matches!(it, Member::Property { .. }))?
-        {
-            Member::Property { set: Some(set), .. } => set(&value)?,
-            _ => return Err(error("PropertyReadOnly", format!("{name} cannot be set"))),
-        }
-        bus.changed(path_of(asked), interface, name)?;
-        Ok(asked.reply(serial, ())?)
-    }),
-];
+/// The members of each interface of each object, by its path. At the path "" are the standard ones,
+/// which each object has.
+#[derive(Default)]
+pub(crate) struct Objects(BTreeMap<String, BTreeMap<String, Members>>);
 
-pub(crate) fn path_of<'a>(call: &Message<'a>) -> &'a str {
-    call.path().unwrap_or("/")
-}
-
-/// The interfaces of each object, by its path, and those that each has.
-pub(crate) struct Objects {
-    served: BTreeMap<String, Interfaces>,
-    standard: Interfaces,
+/// Serves the members of D-Bus Specification, "Standard Interfaces".
+pub(crate) fn serve_standard(bus: &mut Bus) {
+    bus.method("", PEER, "Ping", |_, ()| Ok(()));
+    bus.method("", PEER, "GetMachineId", |_, ()| Ok(fs::read_to_string("/etc/machine-id")?.trim_end().to_owned()));
+    bus.method("", INTROSPECTABLE, "Introspect", |bus, ()| Ok(bus.objects.described(&bus.path)));
+    bus.method("", PROPERTIES, "Get", |bus, it: (String, String)| bus.objects.property([&bus.path, &it.0, &it.1])?.0());
+    bus.method("", PROPERTIES, "GetAll", |bus, interface: String| bus.objects.values(&bus.path, &interface));
+    bus.method("", PROPERTIES, "Set", |bus, it: (String, String, OwnedValue)| {
+        let path = bus.path.clone();
+        let Some(set) = bus.objects.property([&path, &it.0, &it.1])?.1 else {
+            return Err(error("PropertyReadOnly", format!("{} cannot be set", it.1)));
+        };
+        set(&it.2)?;
+        bus.changed(&path, &it.0, &it.1)
+    });
+    bus.signal::<Changed>("", PROPERTIES, "PropertiesChanged");
 }
 
 impl Objects {
-    pub(crate) fn new() -> Self {
-        let mut standard = Interfaces::new();
-        for (interface, name, takes, gives, call) in STANDARD {
-            let member = Member::Method { takes: takes.into(), gives: gives.into(), call: Rc::new(call) };
-            standard.entry(interface.into()).or_default().insert(name.into(), member);
+    pub(crate) fn serve(&mut self, at: [&str; 3], types: [&'static str; 2], role: Role) {
+        let [path, interface, name] = at.map(str::to_owned);
+        let members = self.0.entry(path).or_default().entry(interface);
+        members.or_default().insert(name, Member(types.map(types_in), role));
+    }
+
+    // The interfaces of an object: its own come first.
+    fn interfaces(&self, path: &str) -> impl Iterator<Item = (&String, &Members)> {
+        self.0.get(path).into_iter().chain(self.0.get("")).flatten()
+    }
+
+    // The members of an interface, or of all if it is "".
+    fn tables(&self, path: &str, interface: &str) -> Result<Vec<&Members>> {
+        let is_asked = |it: &(&String, _)| interface.is_empty() || it.0 == interface;
+        let found = self.interfaces(path).filter(is_asked);
+        let found: Vec<_> = found.map(|it| it.1).collect();
+        if found.is_empty() {
+            return Err(error("UnknownInterface", format!("no {interface}")));
         }
-        let changed = Member::Signal { gives: "sa{sv}as".into() };
-        standard.entry(PROPERTIES.into()).or_default().insert("PropertiesChanged".into(), changed);
-        Self { served: BTreeMap::new(), standard }
+        Ok(found)
     }
 
-    pub(crate) fn serve(&mut self, path: &str, interface: &str, name: &str, member: Member) {
-        let interfaces = self.served.entry(path.into()).or_default();
-        interfaces.entry(interface.into()).or_default().insert(name.into(), member);
-    }
-
-    // The members of an interface, or of all if it is "": the object's own come first.
-    fn tables<'a: 'b, 'b>(&'a self, path: &str, interface: &'b str) -> impl Iterator<Item = &'a Members> + 'b {
-        let all = self.served.get(path).into_iter().chain([&self.standard]).flatten();
-        all.filter(move |it| interface.is_empty() || it.0 == interface).map(|it| it.1)
-    }
-
-    fn member(&self, path: &str, interface: &str, name: &str, none: &str, is: fn(&Member) -> bool) -> Result<&Member> {
-        let found = self.tables(path, interface).find_map(|it| it.get(name).filter(|it| is(it)));
-        found.ok_or_else(|| match self.tables(path, interface).next() {
-            None => error("UnknownInterface", format!("{path} has no interface {interface}")),
-            Some(_) => error(none, format!("{path} has no {name} of that kind")),
-        })
+    // What `of` makes of a member of this name; the error has the other name.
+    fn find<'a, T>(&'a self, at: [&str; 3], of: As<'a, T>, none: &str) -> Result<T> {
+        let [path, interface, name] = at;
+        let mut tables = self.tables(path, interface)?.into_iter();
+        let found = tables.find_map(|it| it.get(name).and_then(of));
+        found.ok_or_else(|| error(none, format!("{path} has no {name} of that kind")))
     }
 
     /// What answers a call.
     pub(crate) fn method(&self, call: &Message<'_>) -> Result<Rc<Answer>> {
-        let (path, name, interface) = (path_of(call), call.member().unwrap_or_default(), call.interface().unwrap_or_default());
-        if !self.served.contains_key(path) && self.below(path).is_empty() && path != "/" && interface != STANDARD[0].0 {
-            return Err(error("UnknownObject", format!("there is no object {path}")));
+        let at = [call.path(), call.interface(), call.member()].map(Option::unwrap_or_default);
+        let is_there = self.0.contains_key(at[0]) || !self.below(at[0]).is_empty() || at[0] == "/";
+        if !is_there && at[1] != PEER {
+            return Err(error("UnknownObject", format!("no {}", at[0])));
         }
-        match self.member(path, interface, name, "UnknownMethod", |it| matches!(it, Member::Method { .. }))? {
-            Member::Method { takes, call: answer, .. } if takes == call.types() => Ok(answer.clone()),
-            _ => Err(error("InvalidArgs", format!("{name} takes other types"))),
+        let (takes, answer) = self.find(at, Member::method, "UnknownMethod")?;
+        if takes != call.types() {
+            return Err(error("InvalidArgs", format!("it takes '{takes}'")));
         }
+        Ok(answer.clone())
     }
 
-    pub(crate) fn value(&self, path: &str, interface: &str, name: &str) -> Result<OwnedValue> {
-        match self.member(path, interface, name, "UnknownProperty", |it| matches!(it, Member::Property { .. }))? {
-            Member::Property { get, .. } => get(),
-            _ => unreachable!("a property is found"),
-        }
+    /// What reads a property, and what sets it.
+    pub(crate) fn property(&self, at: [&str; 3]) -> Result<(&Get, Option<&Set>)> {
+        self.find(at, Member::property, "UnknownProperty")
     }
 
     fn values(&self, path: &str, interface: &str) -> Result<BTreeMap<String, OwnedValue>> {
-        if self.tables(path, interface).next().is_none() {
-            return Err(error("UnknownInterface", format!("{path} has no interface {interface}")));
-        }
-        let all = self.tables(path, interface).flatten();
-        let values = all.filter_map(|(name, member)| match member {
-            Member::Property { get, .. } => Some(get().map(|value| (name.clone(), value))),
-            _ => None,
-        });
-        values.collect()
+        let all = self.tables(path, interface)?.into_iter().flatten();
+        let properties = all.filter_map(|(name, it)| Some((name.clone(), it.property()?.0)));
+        properties.map(|(name, get)| Ok((name, get()?))).collect()
     }
 
     // The names right below a path.
-    fn below(&self, path: &str) -> BTreeSet<&str> {
+    fn below<'a>(&'a self, path: &str) -> BTreeSet<&'a str> {
         let front = path.trim_end_matches('/');
-        let below = self.served.keys().filter_map(|it| it.strip_prefix(front)?.strip_prefix('/')?.split('/').next());
-        below.filter(|it| !it.is_empty()).collect()
+        let behind = |it: &'a String| it.strip_prefix(front)?.strip_prefix('/')?.split('/').next();
+        let names = self.0.keys().filter_map(behind);
+        names.filter(|it| !it.is_empty()).collect()
     }
 
     // What Introspect returns.
     fn described(&self, path: &str) -> String {
-        let below = self.below(path).into_iter().map(|name| format!("<node name='{name}'/>"));
-        let own = self.served.get(path).map(|own| own.iter().chain(&self.standard));
-        let interfaces = own.into_iter().flatten().map(|(name, members)| {
-            let members: String = members.iter().map(|it| it.1.described(it.0)).collect();
-            format!("<interface name='{name}'>{members}</interface>")
-        });
-        format!("<node>{}</node>", below.chain(interfaces).collect::<String>())
+        let mut text = String::from("<node>");
+        for (interface, members) in self.interfaces(path) {
+            text += &format!("<interface name='{interface}'>");
+            text.extend(members.iter().map(|(name, it)| it.described(name)));
+            text += "</interface>";
+        }
+        let below = self.below(path).into_iter();
+        text.extend(below.map(|name| format!("<node name='{name}'/>")));
+        text + "</node>"
     }
 }
 
 impl Member {
+    fn method(&self) -> Option<(&str, &Rc<Answer>)> {
+        match &self.1 {
+            Role::Method(answer) => Some((self.0[0], answer)),
+            _ => None,
+        }
+    }
+
+    fn property(&self) -> Option<(&Get, Option<&Set>)> {
+        match &self.1 {
+            Role::Property(get, set) => Some((get, set.as_deref())),
+            _ => None,
+        }
+    }
+
     fn described(&self, name: &str) -> String {
-        match self {
-            Member::Method { takes, gives, .. } => {
-                format!("<method name='{name}'>{}{}</method>", args(takes, "in"), args(gives, "out"))
-            }
-            Member::Signal { gives } => format!("<signal name='{name}'>{}</signal>", args(gives, "out")),
-            Member::Property { gives, set, .. } => {
+        let [takes, gives] = self.0;
+        let args = args(takes, "in") + &args(gives, "out");
+        match &self.1 {
+            Role::Method(_) => format!("<method name='{name}'>{args}</method>"),
+            Role::Signal => format!("<signal name='{name}'>{args}</signal>"),
+            Role::Property(_, set) => {
                 let access = if set.is_some() { "readwrite" } else { "read" };
                 format!("<property name='{name}' type='{gives}' access='{access}'/>")
             }
@@ -157,17 +162,16 @@ impl Member {
 }
 
 fn error(name: &str, text: String) -> Box<dyn Error> {
-    ErrorReply { name: format!("{DBUS}.Error.{name}"), text }.into()
+    let name = format!("{DBUS}.Error.{name}");
+    ErrorReply { name, text }.into()
 }
 
 fn args(types: &str, side: &str) -> String {
-    let (mut text, mut depth, mut start) = (String::new(), 0, 0);
-    for (at, code) in types.char_indices() {
+    let mut depth = 0;
+    let ends = |code| {
         depth += i32::from(matches!(code, '(' | '{')) - i32::from(matches!(code, ')' | '}'));
-        if depth == 0 && code != 'a' {
-            text += &format!("<arg type='{}' direction='{side}'/>", &types[start..=at]);
-            start = at + 1;
-        }
-    }
-    text
+        depth == 0 && code != 'a'
+    };
+    let arg = |it| format!("<arg type='{it}' direction='{side}'/>");
+    types.split_inclusive(ends).map(arg).collect()
 }
