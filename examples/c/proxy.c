@@ -1,11 +1,12 @@
 /* Stands between clients and a bus: `proxy deny|allow DOOR BUS RULE..` lets in clients of its own
  * user at the Unix socket DOOR, a process for each, and connects each to the bus at the server
  * addresses BUS. It is a server to the client and a client to the bus, and passes messages on, with
- * their file descriptors, in both directions, each validated. With `deny`, what a client sends does
- * not get through if one of the match rules may match it; with `allow`, if none matches it with the
- * SENDER that the bus writes. Then a call is answered by the error
- * org.freedesktop.DBus.Error.AccessDenied. Bytes that are no message end the connection. Reads and
- * writes block, so a peer that stops within a message stops the other one.
+ * their file descriptors, in both directions, each validated. It drops a SENDER that a client
+ * names, as a bus does. With `deny`, what a client sends does not get through if one of the match
+ * rules may match it; with `allow`, if none matches it with the SENDER that the bus writes. Then a
+ * call is answered by the error org.freedesktop.DBus.Error.AccessDenied. Bytes that are no message
+ * end the connection. Reads and writes block, so a peer that stops within a message stops the other
+ * one.
  *
  * If a name changes hands after the rules are asked, and before the bus routes the message, this
  * reaches the new owner: no proxy beside the bus can prevent it. */
@@ -23,20 +24,27 @@ static struct dbus_wire_rules rules;
 /* The client's name, which the bus's first message to it has, or "". */
 static char name[256];
 
+/* The message with this SENDER, or with none if that is "": its bytes, and their number. */
+static uint8_t *with_sender(const struct dbus_wire_bus_message *it, const char *sender,
+                            uint64_t *length) {
+    struct dbus_wire_draft draft = dbus_wire_draft_of(&it->parts, it->bytes);
+    size_t room = it->parts.length + sizeof name + 64;
+    uint8_t *bytes = malloc(room);
+    struct dbus_wire_checked told;
+    draft.sender = (struct dbus_wire_draft_text){sender, strlen(sender), *sender != 0};
+    if (bytes == NULL || dbus_wire_rebuild(it->bytes, it->parts.length, NULL, &draft, bytes, room,
+                                           &told) != DBUS_WIRE_OK)
+        fail("no message is rebuilt");
+    *length = told.length;
+    return bytes;
+}
+
 /* Whether a rule matches the message with the SENDER that the bus writes, or with none if the bus
  * has given the client no name. */
 static int is_allowed(const struct dbus_wire_bus_message *it) {
-    struct dbus_wire_draft draft = dbus_wire_draft_of(&it->parts, it->bytes);
-    size_t room = it->parts.length + sizeof name + 64;
-    uint8_t *sent = malloc(room);
-    struct dbus_wire_checked told;
-    uint64_t count;
-    uint32_t answer;
-    draft.sender = (struct dbus_wire_draft_text){name, strlen(name), *name != 0};
-    if (sent == NULL) fail("out of memory");
-    answer = dbus_wire_rebuild(it->bytes, it->parts.length, NULL, &draft, sent, room, &told);
-    if (answer == DBUS_WIRE_OK)
-        answer = dbus_wire_rules_matching(&rules, sent, told.length, NULL, NULL, 0, &count, NULL);
+    uint64_t length, count;
+    uint8_t *sent = with_sender(it, name, &length);
+    uint32_t answer = dbus_wire_rules_matching(&rules, sent, length, NULL, NULL, 0, &count, NULL);
     free(sent);
     return answer == DBUS_WIRE_NO_ROOM && count > 0;
 }
@@ -72,6 +80,9 @@ static void pass_call(struct dbus_wire_bus *client, struct dbus_wire_bus *bus) {
                                          dbus_wire_text_of(DBUS_WIRE_BUS_ERROR "AccessDenied")};
     struct dbus_wire_bus_message *it = receive(client);
     if (gets_through(it)) {
+        uint8_t *unnamed = with_sender(it, "", &it->parts.length);
+        free(it->bytes);
+        it->bytes = unnamed;
         send_on(bus, it);
         return;
     }
@@ -86,8 +97,7 @@ static void pass_call(struct dbus_wire_bus *client, struct dbus_wire_bus *bus) {
 /* Passes on what the bus sent, of which the first message tells the client's name. */
 static void pass_back(struct dbus_wire_bus *bus, struct dbus_wire_bus *client) {
     struct dbus_wire_bus_message *it = receive(bus);
-    if (*name == 0)
-        snprintf(name, sizeof name, "%s", dbus_wire_bus_field(it, it->parts.destination));
+    if (*name == 0) snprintf(name, sizeof name, "%s", dbus_wire_bus_field(it, destination));
     send_on(client, it);
 }
 

@@ -1,12 +1,12 @@
 #!/usr/bin/env python3
 """Stands between clients and a bus: `proxy.py deny|allow DOOR BUS RULE..` lets in clients of its own
 user at the Unix socket DOOR, connects each to the bus at the addresses BUS, and passes messages on,
-with their file descriptors, in both directions, each validated. With `deny`, what a client sends does
-not get through if one of the match rules may match it; with `allow`, if none matches it with the
-SENDER that the bus writes. Then a call is answered by the error
-org.freedesktop.DBus.Error.AccessDenied. Bytes that are no message end the connection. If a name
-changes hands after the rules are asked, and before the bus routes the message, this reaches the new
-owner: no proxy beside the bus can prevent it."""
+with their file descriptors, in both directions, each validated. It drops a SENDER that a client
+names, as a bus does. With `deny`, what a client sends does not get through if one of the match rules
+may match it; with `allow`, if none matches it with the SENDER that the bus writes. Then a call is
+answered by the error org.freedesktop.DBus.Error.AccessDenied. Bytes that are no message end the
+connection. If a name changes hands after the rules are asked, and before the bus routes the message,
+this reaches the new owner: no proxy beside the bus can prevent it."""
 
 from __future__ import annotations
 
@@ -76,7 +76,7 @@ def pass_messages(client: Link, bus: Link, rules: Rules) -> None:
                 name = name or it.message.destination
                 client.send(it.message, it.fds)
             elif rules.let_through(it.message, name):
-                bus.send(it.message, it.fds)
+                bus.send(rebuild(it.message, sender=None), it.fds)
             elif it.message.wants_reply:
                 client.send(error_to(it.message, 1 << 31, DENIED))
             it.close()

@@ -12,13 +12,12 @@ import threading
 import time
 import unittest
 
-from inputs import ROOT, SAMPLES
+from inputs import GUID, ROOT, SAMPLES, try_swaps
 
 import dbus_wire
 from dbus_wire import Bus, Client, ErrorReply, MessageType, Rule, Server, Variant, build, messages, reply_to
 
 EXAMPLES = ROOT / "examples/python"
-GUID = "0" * 32
 DBUS = "org.freedesktop.DBus"
 LAB, OTHER, LATE, ECHO = (f"org.example.{it}" for it in ("Lab", "Other", "Late", "Echo"))
 # What stands for the unique name of a service that has the first two names.
@@ -138,6 +137,10 @@ class AtABus(unittest.TestCase):
     def example(self, name, *words):
         self.start(sys.executable, EXAMPLES / name, *words)
 
+    def proxy(self, policy, door, *rules, address=None):
+        proxy = [PROXY] if PROXY else [sys.executable, EXAMPLES / "proxy.py"]
+        self.start(*proxy, policy, door, address or f"unix:path={self.bus}", *rules)
+
     def listen(self):
         """A socket at which the bus of a test listens."""
         listening = socket.socket(socket.AF_UNIX)
@@ -192,7 +195,8 @@ class AtABus(unittest.TestCase):
             with client, client.makefile("rb") as file:
                 Server(GUID, os.getuid()).shake_hands(client)
                 for call in messages(file):
-                    body = {"Hello": ("s", ":1.1"), "ListNames": ("as", [])}.get(call.member, (call.signature, *call.body))
+                    bodies = {"Hello": ("s", ":1.1"), "ListNames": ("as", []), "Sender": ("s", f"{call.sender}")}
+                    body = bodies.get(call.member, (call.signature, *call.body))
                     client.sendall(bytes(reply_to(call, call.serial, *body, sender=DBUS)))
 
         def serve():
@@ -205,7 +209,7 @@ class AtABus(unittest.TestCase):
 
         answering = threading.Thread(target=serve)
         answering.start()
-        self.example("proxy.py", "deny", self.door, f"unix:path={self.bus}", "member='Secret'", "arg0='secret'")
+        self.proxy("deny", self.door, "member='Secret'", "arg0='secret'")
         with connected(self.door) as client:
             Client(user=os.getuid()).shake_hands(client)
             with client.makefile("rb") as file:
@@ -214,6 +218,8 @@ class AtABus(unittest.TestCase):
                 self.assertEqual(asked(client, incoming, 2, "Secret"), f"{DBUS}.Error.AccessDenied")
                 self.assertEqual(asked(client, incoming, 3, "A", "s", "secret"), f"{DBUS}.Error.AccessDenied")
                 self.assertEqual(asked(client, incoming, 4, "A", "s", "x"), ["x"])
+                # A bus drops the SENDER that a client names, and so does the proxy.
+                self.assertEqual(asked(client, incoming, 5, "Sender", sender=":1.7"), ["None"])
                 # As many bytes as the proxy reads at first: with others left the connection would be reset.
                 client.sendall(bytes(16))
                 self.assertEqual(file.read(), b"")
@@ -225,7 +231,7 @@ class AtABus(unittest.TestCase):
         self.start("dbus-daemon", "--session", "--nofork", f"--address=unix:path={self.bus}")
         connected(self.bus).close()
         self.example("service.py")
-        self.example("proxy.py", "deny", self.door, f"unix:path={self.bus}", "member='GetId'")
+        self.proxy("deny", self.door, "member='GetId'")
         with connected(self.door) as client:
             Client(user=os.getuid()).shake_hands(client)
             with client.makefile("rb") as file:
@@ -246,20 +252,13 @@ class AtABus(unittest.TestCase):
         self.start("dbus-daemon", "--session", "--nofork", f"--address=unix:path={self.bus}")
         connected(self.bus).close()
         self.example("descriptors.py")
-        proxy = [PROXY] if PROXY else [sys.executable, EXAMPLES / "proxy.py"]
-        self.start(*proxy, "deny", self.door, f"unix:path={self.bus}", "member='GetId'")
+        self.proxy("deny", self.door, "member='GetId'")
         connected(self.door).close()
         with Bus(f"unix:path={self.door}") as bus:
             while bus.ask("NameHasOwner", "s", ECHO) == [False]:
                 time.sleep(0.1)
             self.assertRaises(ErrorReply, bus.ask, "GetId")
-            for _ in range(100):
-                pipe = os.pipe()
-                self.assertEqual(bus.call(ECHO, "/", ECHO, "Swap", "hh", 0, 1, fds=pipe), [0, 1])
-                os.write(bus.reply_fds[0], b"through both")
-                self.assertEqual(os.read(bus.reply_fds[1], 100), b"through both")
-                for fd in (*pipe, *bus.reply_fds):
-                    os.close(fd)
+            try_swaps(self, bus, ECHO, 100)
 
     @unittest.skipUnless(BUS or shutil.which("dbus-daemon"), "dbus-daemon is not there")
     def test_ways_past_a_policy(self):
@@ -275,8 +274,7 @@ class AtABus(unittest.TestCase):
                 asked(service, incoming, serial, "RequestName", "su", name, 0, **to_bus)
             for policy, (rules, calls) in POLICIES.items():
                 door = self.door + policy
-                proxy = [PROXY] if PROXY else [sys.executable, EXAMPLES / "proxy.py"]
-                self.start(*proxy, policy, door, address, *rules)
+                self.proxy(policy, door, *rules, address=address)
                 with connected(door) as client, client.makefile("rb") as replies:
                     Client(user=os.getuid()).shake_hands(client)
                     to_client = messages(replies)
