@@ -128,12 +128,12 @@ if command -v dbus-daemon > /dev/null; then
 	trap - EXIT
 	if [ -z "$target" ]; then
 		DBUS_WIRE_PROXY=$built/proxy DBUS_WIRE_LIBRARY=$(realpath "$shared") \
-			python3 -W error -m unittest discover -k a_proxy -k ways_past_a_policy "$here/../python/tests"
+			python3 -W error -m unittest discover -k _proxy -k ways_past_a_policy "$here/../python/tests"
 	fi
 fi
 rm -rf "$sockets"
 # Services at a bus, one of them with descriptors: each caller that is there gets what it asks for. The folder has their programs.
-for name in counter descriptors service; do
+for name in counter descriptors service deliveries; do
 	"$CC" $sanitized -o "$built/$name" "$here/c/$name.c" -L"$built" -ldbus_wire
 done
 try_services() {
@@ -142,6 +142,12 @@ try_services() {
 		python3 -W error -m unittest discover -k test_bus "$here/../python/tests"
 }
 try_services "$built"
+# Random deliveries of messages with descriptors, of an encoder in Python: each message comes with its own.
+if [ -z "$target" ]; then
+	DBUS_WIRE_DELIVERIES=10000 DBUS_WIRE_LIBRARY=$(realpath "$shared") \
+		python3 "$here/../python/tests/test_deliveries.py" write > "$built/delivered"
+	"$built/deliveries" < "$built/delivered"
+fi
 # A service of few lines at a bus says the load of this machine to gdbus in this form, and that there is no other method.
 try_load() {
 	if ! command -v dbus-daemon > /dev/null || ! command -v gdbus > /dev/null; then return; fi
@@ -247,7 +253,8 @@ if [ -n "$target" ]; then
 	echo "for $target the Rust crate is not tried"
 elif command -v cargo > /dev/null; then
 	export DBUS_WIRE_LIB_DIR="$built" CARGO_TARGET_DIR="$built/rust"
-	cargo test --quiet --offline --manifest-path "$here/../rust/Cargo.toml"
+	DBUS_WIRE_DELIVERIES_FILE=$(realpath "$built/delivered") \
+		cargo test --quiet --offline --manifest-path "$here/../rust/Cargo.toml"
 	cargo build --quiet --offline --release --examples --manifest-path "$here/../rust/Cargo.toml"
 	rust=$built/rust/release/examples
 	try_services "$rust"
