@@ -41,8 +41,9 @@ class Header(unittest.TestCase):
         self.assertEqual(len(declared), 27)
         self.assertEqual(len(declared), sum(isinstance(it, type(ctypes.Structure)) for it in vars(_library).values()))
         for size, name, fields in declared:
-            lines = re.findall(r"^    (struct \w+|\w+_t|(?:const )?void \*) ?([\w, ]+);", fields, re.MULTILINE)
-            right = [(field, self.type_of(kind)) for kind, names in lines for field in names.split(", ")]
+            lines = re.findall(r"^    (struct \w+|\w+_t|(?:const )?void \*) ?([\w, ]+)(?:\[(\d+)\])?;", fields, re.MULTILINE)
+            types = [(names, self.type_of(kind), count) for kind, names, count in lines]
+            right = [(field, it * int(count) if count else it) for names, it, count in types for field in names.split(", ")]
             struct = self.type_of(f"struct dbus_wire_{name}")
             self.assertEqual((list(struct._fields_), ctypes.sizeof(struct)), (right, int(size)), name)
 
