@@ -64,6 +64,7 @@ struct dbus_wire_bus_body {
     struct dbus_wire_writer writer;
     uint8_t *bytes;
     size_t room;
+    const char *types;        /* those of the last values */
     uint32_t fault, fd_count; /* why one was not put, or 0 */
     int fds[DBUS_WIRE_BUS_FDS];
 };
@@ -74,7 +75,8 @@ struct dbus_wire_bus {
     struct dbus_wire_bus_body given, sent; /* the reply to the call at hand, and another message */
     int socket, passes_fds;                /* whether both ends agreed to pass file descriptors */
     struct dbus_wire_connection connection;
-    int fds[DBUS_WIRE_BUS_FDS]; /* those that came, and no message has yet */
+    struct dbus_wire_connection_step step; /* what came last */
+    int fds[DBUS_WIRE_BUS_FDS];            /* those that came, and no message has yet */
     uint32_t fd_count;
     uint8_t *out;
     size_t out_room, served_count;
@@ -106,25 +108,24 @@ static inline int dbus_wire_bus_fd(const struct dbus_wire_bus_message *it, uint6
     return is_fd && it->items[at].number < it->fd_count ? it->fds[it->items[at].number] : -1;
 }
 
-static inline void dbus_wire_bus_room(struct dbus_wire_bus_body *to) {
+static inline uint32_t dbus_wire_bus_room(struct dbus_wire_bus_body *to) {
     to->bytes = dbus_wire_bus_grown(to->bytes, to->room = 2 * to->room + 64);
+    return DBUS_WIRE_OK;
 }
 
-static inline void dbus_wire_bus_put_list(struct dbus_wire_bus_body *to, const char *types,
-                                          va_list values) {
-    if (to->fault != DBUS_WIRE_OK) return;
-    while ((to->fault = dbus_wire_put_list(to->bytes, to->room, &to->writer, types, values)) ==
-           DBUS_WIRE_NO_ROOM)
-        dbus_wire_bus_room(to);
+static inline void dbus_wire_bus_put_to(struct dbus_wire_bus_body *to, const char *types, ...) {
+    va_list values;
+    va_start(values, types);
+    while (to->fault == DBUS_WIRE_OK &&
+           (to->fault = dbus_wire_put_list(to->bytes, to->room, &to->writer, types, values)) ==
+               DBUS_WIRE_NO_ROOM)
+        to->fault = dbus_wire_bus_room(to);
+    to->types = types;
+    va_end(values);
 }
 
 /* Puts values of these types after those of the reply to the call at hand. */
-static inline void dbus_wire_bus_put(struct dbus_wire_bus *bus, const char *types, ...) {
-    va_list values;
-    va_start(values, types);
-    dbus_wire_bus_put_list(&bus->given, types, values);
-    va_end(values);
-}
+#define dbus_wire_bus_put(bus, ...) dbus_wire_bus_put_to(&(bus)->given, __VA_ARGS__)
 
 /* Has a file descriptor be sent with these values, &bus->given or &bus->sent, and returns what
  * is put for it. It has to be open until then; of -1 nothing is sent, and a call that is at hand
@@ -216,10 +217,10 @@ static inline size_t dbus_wire_bus_read(struct dbus_wire_bus *bus, uint8_t *byte
     return got < 0 ? 0 : (size_t)got;
 }
 
-/* The next message. NULL if the bus is gone, or as a handshake ends: step->event says which. It
+/* The next message. NULL if the bus is gone, or as a handshake ends: bus->step.event says which. It
  * reads no byte beyond. */
-static inline struct dbus_wire_bus_message *
-dbus_wire_bus_receive(struct dbus_wire_bus *bus, struct dbus_wire_connection_step *step) {
+static inline struct dbus_wire_bus_message *dbus_wire_bus_receive(struct dbus_wire_bus *bus) {
+    struct dbus_wire_connection_step *step = &bus->step;
     struct dbus_wire_bus_message *it = dbus_wire_bus_grown(NULL, sizeof *it);
     uint8_t out[DBUS_WIRE_REPLY_ROOM];
     size_t length = 0, got = 1;
@@ -259,31 +260,29 @@ dbus_wire_bus_draft(const char *to, const char *path, const char *interface, con
     return it;
 }
 
-/* Calls a method with values of these types, and waits for its reply, which is bus->reply. Whether
- * that is no error. What comes before it stays for dbus_wire_bus_next. */
-static inline int dbus_wire_bus_call(struct dbus_wire_bus *bus, const char *to, const char *path,
-                                     const char *interface, const char *member, const char *types,
-                                     ...) {
-    struct dbus_wire_draft draft = dbus_wire_bus_draft(to, path, interface, member);
-    struct dbus_wire_connection_step step;
+/* Sends a call with the values of bus->sent, and waits for its reply. */
+static inline int dbus_wire_bus_ask_for(struct dbus_wire_bus *bus, struct dbus_wire_draft call) {
     struct dbus_wire_bus_message *it = NULL, **end = &bus->later;
-    uint64_t call;
-    va_list values;
-    va_start(values, types);
-    dbus_wire_bus_put_list(&bus->sent, types, values);
-    va_end(values);
-    if (dbus_wire_connection_call(&bus->connection, to, strlen(to), 1, &draft.serial) !=
-        DBUS_WIRE_OK)
+    uint64_t number;
+    if (dbus_wire_connection_call(&bus->connection, call.destination.bytes, call.destination.length,
+                                  1, &call.serial) != DBUS_WIRE_OK)
         bus->sent.fault = DBUS_WIRE_NO_VALUE;
-    int waits = dbus_wire_bus_send_draft(bus, draft, types, &bus->sent);
+    int waits = dbus_wire_bus_send_draft(bus, call, bus->sent.types, &bus->sent);
     while (*end != NULL) end = &(*end)->after;
-    while (waits && (it = dbus_wire_bus_receive(bus, &step)) != NULL && !step.is_reply)
+    while (waits && (it = dbus_wire_bus_receive(bus)) != NULL && !bus->step.is_reply)
         *end = it, end = &it->after;
     dbus_wire_bus_drop(bus->reply), bus->reply = it;
     if (it != NULL) return it->parts.kind == DBUS_WIRE_TYPE_METHOD_RETURN;
-    return dbus_wire_connection_give_up(&bus->connection, draft.serial, &call) ==
+    return dbus_wire_connection_give_up(&bus->connection, call.serial, &number) ==
            DBUS_WIRE_NO_CONNECTION;
 }
+
+/* Calls a method with values, after their types, and waits for its reply, which is bus->reply.
+ * Whether that is no error. What comes before it stays for dbus_wire_bus_next. A macro, as those
+ * below: it uses `bus` more than once. */
+#define dbus_wire_bus_call(bus, to, path, interface, member, ...)                                  \
+    (dbus_wire_bus_put_to(&(bus)->sent, __VA_ARGS__),                                              \
+     dbus_wire_bus_ask_for(bus, dbus_wire_bus_draft(to, path, interface, member)))
 
 /* Calls a method of the bus itself, such as AddMatch. */
 #define dbus_wire_bus_ask(bus, ...)                                                                \
@@ -305,17 +304,11 @@ static inline void dbus_wire_bus_serve(struct dbus_wire_bus *bus, const char *pa
     }
 }
 
-/* Sends a signal with values of these types. */
-static inline int dbus_wire_bus_emit(struct dbus_wire_bus *bus, const char *path,
-                                     const char *interface, const char *member, const char *types,
-                                     ...) {
-    struct dbus_wire_draft draft = dbus_wire_bus_draft(NULL, path, interface, member);
-    va_list values;
-    va_start(values, types);
-    dbus_wire_bus_put_list(&bus->sent, types, values);
-    va_end(values);
-    return dbus_wire_bus_send_draft(bus, draft, types, &bus->sent);
-}
+/* Sends a signal with values, after their types. */
+#define dbus_wire_bus_emit(bus, path, interface, member, ...)                                      \
+    (dbus_wire_bus_put_to(&(bus)->sent, __VA_ARGS__),                                              \
+     dbus_wire_bus_send_draft(bus, dbus_wire_bus_draft(NULL, path, interface, member),             \
+                              (bus)->sent.types, &(bus)->sent))
 
 /* Whether a member is of the object, and of the interface, which may be "". */
 static inline int dbus_wire_bus_is_of(const struct dbus_wire_bus_served *it, const char *path,
@@ -415,7 +408,7 @@ static inline void dbus_wire_bus_machine(struct dbus_wire_bus *bus, void *data) 
     char id[33] = "";
     FILE *file = fopen("/etc/machine-id", "r");
     (void)data;
-    if (file == NULL || fgets(id, sizeof id, file) == NULL)
+    if (file == NULL || fscanf(file, "%32s", id) != 1)
         dbus_wire_bus_fail(bus, DBUS_WIRE_BUS_ERROR "Failed", "the machine has no ID");
     if (file != NULL) fclose(file);
     dbus_wire_bus_put(bus, "s", id);
@@ -499,10 +492,9 @@ static inline int dbus_wire_bus_answer(struct dbus_wire_bus *bus) {
 /* Answers calls until another message comes, such as a signal, which is bus->asked then. 0 if the
  * bus is gone. */
 static inline int dbus_wire_bus_next(struct dbus_wire_bus *bus) {
-    struct dbus_wire_connection_step step;
     do {
         dbus_wire_bus_drop(bus->asked);
-        if ((bus->asked = bus->later) == NULL) bus->asked = dbus_wire_bus_receive(bus, &step);
+        bus->asked = bus->later != NULL ? bus->later : dbus_wire_bus_receive(bus);
         if (bus->asked == NULL) return 0;
         bus->later = bus->asked->after, bus->asked->after = NULL;
         if (bus->asked->parts.kind != DBUS_WIRE_TYPE_METHOD_CALL) return 1;
@@ -566,14 +558,13 @@ static inline int dbus_wire_bus_connect(const char *text) {
 static inline struct dbus_wire_bus *dbus_wire_bus_over(int socket,
                                                        struct dbus_wire_handshake *end) {
     struct dbus_wire_bus *bus = dbus_wire_bus_grown(NULL, sizeof *bus);
-    struct dbus_wire_connection_step step = {0};
     *bus = (struct dbus_wire_bus){.socket = socket};
     dbus_wire_bus_serve(bus, NULL, dbus_wire_bus_standard, NULL);
     if (socket >= 0 && dbus_wire_handshake_bound(end, 6, 6) == DBUS_WIRE_OK &&
         dbus_wire_connection_new(end, NULL, UINT32_MAX, 128, &bus->connection) == DBUS_WIRE_OK)
-        dbus_wire_bus_receive(bus, &step);
-    dbus_wire_handshake_free(end), bus->passes_fds = step.descriptors == 1;
-    if (step.event == DBUS_WIRE_EVENT_BEGUN) return bus;
+        dbus_wire_bus_receive(bus);
+    dbus_wire_handshake_free(end), bus->passes_fds = bus->step.descriptors == 1;
+    if (bus->step.event == DBUS_WIRE_EVENT_BEGUN) return bus;
     return dbus_wire_bus_close(bus), (struct dbus_wire_bus *)NULL;
 }
 

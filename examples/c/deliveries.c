@@ -45,8 +45,7 @@ static void send_piece(int to, const char *words) {
 }
 
 static void receive_message(struct dbus_wire_bus *from, const char *words) {
-    struct dbus_wire_connection_step step;
-    struct dbus_wire_bus_message *it = dbus_wire_bus_receive(from, &step);
+    struct dbus_wire_bus_message *it = dbus_wire_bus_receive(from);
     int chosen[DBUS_WIRE_BUS_FDS];
     char *rest;
     size_t length = strtoul(words, &rest, 10), count = files_of(rest, chosen);

@@ -60,8 +60,7 @@ static int gets_through(const struct dbus_wire_bus_message *it) {
 
 /* The next message, or the end of this process. */
 static struct dbus_wire_bus_message *receive(struct dbus_wire_bus *from) {
-    struct dbus_wire_connection_step step;
-    struct dbus_wire_bus_message *it = dbus_wire_bus_receive(from, &step);
+    struct dbus_wire_bus_message *it = dbus_wire_bus_receive(from);
     if (it == NULL) exit(0);
     return it;
 }
