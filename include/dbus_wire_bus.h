@@ -81,7 +81,7 @@ struct dbus_wire_bus {
     uint8_t *out;
     size_t out_room, served_count;
     const char *error, *text;
-    /* The members that are served: those of each object first, which have no path. */
+    /* The members that are served: first those that each object has, which have no path. */
     struct dbus_wire_bus_served {
         const char *path;
         const struct dbus_wire_bus_member *member;
@@ -261,7 +261,7 @@ dbus_wire_bus_draft(const char *to, const char *path, const char *interface, con
 }
 
 /* Sends a call with the values of bus->sent, and waits for its reply. */
-static inline int dbus_wire_bus_ask_for(struct dbus_wire_bus *bus, struct dbus_wire_draft call) {
+static inline int dbus_wire_bus_wait_for(struct dbus_wire_bus *bus, struct dbus_wire_draft call) {
     struct dbus_wire_bus_message *it = NULL, **end = &bus->later;
     uint64_t number;
     if (dbus_wire_connection_call(&bus->connection, call.destination.bytes, call.destination.length,
@@ -277,12 +277,12 @@ static inline int dbus_wire_bus_ask_for(struct dbus_wire_bus *bus, struct dbus_w
            DBUS_WIRE_NO_CONNECTION;
 }
 
-/* Calls a method with values, after their types, and waits for its reply, which is bus->reply.
- * Whether that is no error. What comes before it stays for dbus_wire_bus_next. A macro, as those
- * below: it uses `bus` more than once. */
+/* Calls a method with values, after their types, and waits for its reply, which is bus->reply, NULL
+ * if none came. Whether that is no error. What comes before it stays for dbus_wire_bus_next. A
+ * macro, as those below: it uses `bus` more than once. */
 #define dbus_wire_bus_call(bus, to, path, interface, member, ...)                                  \
     (dbus_wire_bus_put_to(&(bus)->sent, __VA_ARGS__),                                              \
-     dbus_wire_bus_ask_for(bus, dbus_wire_bus_draft(to, path, interface, member)))
+     dbus_wire_bus_wait_for(bus, dbus_wire_bus_draft(to, path, interface, member)))
 
 /* Calls a method of the bus itself, such as AddMatch. */
 #define dbus_wire_bus_ask(bus, ...)                                                                \
