@@ -31,6 +31,9 @@ SECTION, INTERFACE, OBSOLETE, SIMPLE, ENHANCED = 0x0A0D0D0A, 1, 2, 3, 6
 # The least bytes of the blocks that are looked at.
 LEAST = {INTERFACE: 20, OBSOLETE: 32, SIMPLE: 16, ENHANCED: 32}
 END, RESOLUTION, OFFSET = 0, 9, 14
+# The first bytes of a message, which state its size, and the most bytes of its fields and of a message.
+FRONT, FIELDS, MOST = 16, 2**26, 2**27
+ORDERS = {0x6C: "little", 0x42: "big"}
 # The messages of these captures, and how many bytes each has.
 MESSAGES = [read_parts(it, DATA) for it in ("@return", "@big_return")]
 MESSAGE = 24
@@ -45,12 +48,21 @@ class Refused(Exception):
     """A fault: a place and a reason."""
 
 
+def stated(front):
+    """The size that a message states that begins so, or 0 if no message within the limits has it."""
+    if front[0] not in ORDERS:
+        return 0
+    body, fields = (int.from_bytes(front[it : it + 4], ORDERS[front[0]]) for it in (4, 12))
+    size = FRONT + fields + -fields % 8 + body
+    return size if fields <= FIELDS and size <= MOST else 0
+
+
 class Reader:
     """The bytes of a file, and what they gave so far."""
 
     def __init__(self, data, passes_cut):
         self.bytes, self.at, self.order, self.passes_cut, self.cut, self.others = data, 0, "little", passes_cut, 0, 0
-        self.data, self.times, self.ends, self.last, self.interfaces = b"", [], [], None, []
+        self.data, self.times, self.ends, self.last, self.interfaces, self.is_alone = b"", [], [], None, [], True
 
     def take(self, count):
         found = self.bytes[self.at : self.at + count]
@@ -62,7 +74,15 @@ class Reader:
     def number(self, head, at, size=4):
         return int.from_bytes(head[at : at + size], self.order)
 
-    def hand_on(self, count, time):
+    def hand_on(self, count, room, time):
+        """Hands on a packet, unless it has fewer bytes than it states, while each packet before it was one message."""
+        if self.is_alone and count:
+            at = self.at
+            wanted = FRONT if count < FRONT else stated(self.take(FRONT))
+            self.at = at
+            if count < wanted:
+                return self.pass_cut(at, room)
+            self.is_alone = count == wanted
         self.times.append(time)
         # A packet that the input ends within is handed on as far as it is there.
         part = self.bytes[self.at : self.at + count]
@@ -70,6 +90,7 @@ class Reader:
         self.ends.append(len(self.data))
         self.last = len(self.times) if part else self.last
         self.take(count)
+        self.take(room - count)
 
     def pass_cut(self, place, count):
         if not self.passes_cut:
@@ -95,7 +116,7 @@ class Reader:
             if captured < original:
                 self.pass_cut(at + 8, captured)
             else:
-                self.hand_on(captured, seconds * 10**9 + fraction * unit)
+                self.hand_on(captured, captured, seconds * 10**9 + fraction * unit)
 
     def read_pcapng(self):
         self.read_section(self.at, self.take(24))
@@ -176,8 +197,7 @@ class Reader:
         if captured < original:
             self.pass_cut(place, room)
             return
-        self.hand_on(captured, time if time is None or time < 2**64 else None)
-        self.take(room - captured)
+        self.hand_on(captured, room, time if time is None or time < 2**64 else None)
 
 
 def read(data, passes_cut=False):

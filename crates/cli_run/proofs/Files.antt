@@ -1,14 +1,28 @@
 -- What is written of captured messages is a pcap file of what is written of them raw.
-use Rattle.std.proofs.Common.{◌≡◌, ℕ, ◌<◌, ◌^◌, ◌&&◌, true, false, List, [], ◌∷◌, ◌++◌, length, map, take, drop, zero, suc, Option, None, Some, inl, inr, refl, sym, ap, ◌∙◌, subst, arith, append_assoc}
+use Rattle.std.proofs.Common.{◌≡◌, ℕ, ◌+◌, ◌*◌, ◌/◌, ◌≤◌, ◌<◌, ◌^◌, ◌&&◌, Bool, true, false, List, [], ◌∷◌, ◌++◌, length, map, take, drop, zero, suc, Option, None, Some, inl, inr, refl, sym, ap, ◌∙◌, subst, arith, append_assoc, append-nil}
+use Rattle.std.specs.Prelude.{nat_le}
 use Rattle.std.specs.List.{concat}
 use Rattle.std.proofs.Math.Path.{transport}
 use Rattle.std.proofs.lemmas.List.{drop-map, map-append, take-map}
 use Rattle.dbus_value_model.specs.declared.limits.Limits.{Limits}
 use Rattle.dbus_value_model.specs.declared.order.Order.{Order}
-use Rattle.dbus_message_model.specs.Messages.{IsValidMessage, MessageTree, message_bytes}
+use Rattle.dbus_value_model.specs.declared.order.Order.TheVariants.{Little, Big}
+use Rattle.dbus_value_model.specs.Bytes.{gap_to, low_first, num}
+use Rattle.dbus_value_model.proofs.Numbers.{num_32_little, num_32_big}
+use Rattle.dbus_message_model.specs.Messages.{IsValidMessage, MessageTree, message_bytes, order_byte}
+use Rattle.dbus_header.specs.MessageOutcomes.{IsWhole}
+use Rattle.dbus_header.specs.StatedLengths.{StatesLength}
+use Rattle.dbus_header.proofs.StatedLengths.{whole_states}
+use Rattle.dbus_header.proofs.Whole.{fixed_to}
+use Rattle.dbus_capture.specs.declared.byte_order.ByteOrder.{ByteOrder}
+use Rattle.dbus_capture.specs.declared.byte_order.ByteOrder.TheVariants as file_orders
+use Rattle.dbus_capture.specs.Numbers.{u32_of, u32_at}
+use Rattle.dbus_capture.specs.CutPackets.{stated, stated_in}
+use Rattle.dbus_capture.proofs.NumberLaws.{u32_again}
+use Rattle.dbus_capture.proofs.Choices.{le_true, when_true}
 use Rattle.dbus_capture.specs.PcapFiles.{header_bytes, packet_header_bytes, packets_bytes}
 use Rattle.dbus_capture.specs.Reading.{IsRead}
-use Rattle.dbus_pcap.specs.Written.{AllFit, CapturedMessage, file_of, messages_bytes, packet_of, written_header}
+use Rattle.dbus_pcap.specs.Written.{AllFit, FitsMessage, CapturedMessage, file_of, messages_bytes, packet_of, written_header}
 use Rattle.dbus_pcap.proofs.WrittenLaws.{written_read}
 use Rattle.dbus_names.specs.NameStates.{NameState}
 use Rattle.cli_options.specs.declared.command.Command.{Command}
@@ -23,6 +37,28 @@ use Rattle.cli_run.specs.Learning.{known_after}
 use Rattle.cli_run.specs.Laws.{AreCaptured, WritesFile, in_raw}
 use Rattle.cli_run.specs.Output.{IsOutputOf, IsOutputOfAll, at_most, form_of, framed, header_if, output_of, written}
 use Rattle.cli_run.specs.declared.place.MessagePlace.{MessagePlace}
+
+-- ---- the size that a message states
+
+-- what these numbers state
+stated_with : (o : ByteOrder) (bytes : List ℕ) (body fields : ℕ) → u32_at o 4 bytes ≡ body → u32_at o 12 bytes ≡ fields → fields ≤ 2 ^ 26 → 16 + fields + gap_to 8 (16 + fields) + body ≤ 2 ^ 27
+    → stated_in o bytes ≡ 16 + fields + gap_to 8 (16 + fields) + body
+unfolding gap_to
+stated_with o bytes body fields eb ef f s =
+    let size : 16 + (u32_at o 12 bytes + 7) / 8 * 8 + u32_at o 4 bytes ≡ 16 + fields + gap_to 8 (16 + fields) + body = omega (arith, eb, ef) in
+    let few = le_true (u32_at o 12 bytes) (2 ^ 26) (omega (arith, ef, f)) in
+    let fits = le_true (16 + (u32_at o 12 bytes + 7) / 8 * 8 + u32_at o 4 bytes) (2 ^ 27) (omega (arith, size, s)) in
+    when_true _ _ _ (ap (λ (v : Bool). v && nat_le (16 + (u32_at o 12 bytes + 7) / 8 * 8 + u32_at o 4 bytes) (2 ^ 27)) few ∙ fits) ∙ size
+
+stated_of : (order : Order) (kind flags body serial fields : ℕ) (r : List ℕ) → body < 2 ^ 32 → fields ≤ 2 ^ 26 → 16 + fields + gap_to 8 (16 + fields) + body ≤ 2 ^ 27
+    → stated (order_byte order ∷ (num order 1 kind ++ (num order 1 flags ++ (num order 1 1 ++ (num order 4 body ++ (num order 4 serial ++ (num order 4 fields ++ r))))))) ≡ 16 + fields + gap_to 8 (16 + fields) + body
+unfolding num low_first
+stated_of Little kind flags body serial fields r b f s =
+    stated_with file_orders.Little (order_byte Little ∷ (num Little 1 kind ++ (num Little 1 flags ++ (num Little 1 1 ++ (num Little 4 body ++ (num Little 4 serial ++ (num Little 4 fields ++ r))))))) body fields (ap (u32_of file_orders.Little) (sym (num_32_little body)) ∙ u32_again file_orders.Little body b)
+    (ap (u32_of file_orders.Little) (sym (num_32_little fields)) ∙ u32_again file_orders.Little fields (omega (arith, f))) f s
+stated_of Big kind flags body serial fields r b f s =
+    stated_with file_orders.Big (order_byte Big ∷ (num Big 1 kind ++ (num Big 1 flags ++ (num Big 1 1 ++ (num Big 4 body ++ (num Big 4 serial ++ (num Big 4 fields ++ r))))))) body fields (ap (u32_of file_orders.Big) (sym (num_32_big body)) ∙ u32_again file_orders.Big body b)
+    (ap (u32_of file_orders.Big) (sym (num_32_big fields)) ∙ u32_again file_orders.Big fields (omega (arith, f))) f s
 
 -- ---- the messages that are written
 
@@ -40,8 +76,20 @@ record Made (command : Command) (os : NameState) (items : List Placed) (texts : 
   raw : IsOutputOfAll (in_raw command) os items (map bytes_of messages)
 
 module _ (limits : Limits) where
-  short : (m : MessageTree) (order : Order) → IsValidMessage limits m → length (message_bytes order m) < 2 ^ 32
-  short m order valid = let limit = (valid order).limit in omega (arith, limit, limits.message_in)
+  fits_message : (time : Option ℕ) (m : MessageTree) (order : Order) → IsValidMessage limits m → FitsMessage (record { time = time; bytes = message_bytes order m })
+  unfolding IsWhole StatesLength
+  fits_message time m order valid =
+      let bytes = message_bytes order m in
+      let s = whole_states limits bytes order m (length bytes) (valid order, ([], sym (append-nil bytes)), refl) in
+      let h = s.0.0 in
+      let f = fixed_to limits bytes h 16 s.0.1 s.0.2 in
+      let is = f.0 in
+      let limit = (valid order).limit in
+      record {
+        size = ap stated f.1 ∙ stated_of h.order h.kind h.flags h.body h.serial h.fields s.0.1 (let low = is.body in omega (arith, low)) (let low = is.fields in omega (arith, low, limits.array_in)) (let low = is.limit in omega (arith, low, limits.message_in)) ∙ sym s.0.3;
+        least = s.1;
+        most = omega (arith, limit, limits.message_in);
+      }
 
   abbrev MadeOne : Command → NameState → Order → MessageTree → MessagePlace → List (List ℕ) → Type 0
   MadeOne command os order m place texts =
@@ -53,7 +101,7 @@ module _ (limits : Limits) where
     | inl met ↦ (
         let bytes = message_bytes wanted m in
         let text : met.1 ≡ framed true place.time bytes = met.2 ∙ ap (λ b. framed b place.time bytes) packet in
-        (record { time = place.time; bytes = bytes } ∷ [], (short m wanted valid, tt), met.3 ∙ ap (λ t. t ∷ []) text, inl (met.0, bytes, refl, refl))
+        (record { time = place.time; bytes = bytes } ∷ [], (fits_message place.time m wanted valid, tt), met.3 ∙ ap (λ t. t ∷ []) text, inl (met.0, bytes, refl, refl))
         )
     | inr unmet ↦ ([], tt, unmet.1, inr (unmet.0, refl))
   ]
@@ -61,7 +109,7 @@ module _ (limits : Limits) where
     | inl met ↦ (
         let bytes = message_bytes order m in
         let text : met.1 ≡ framed true place.time bytes = met.2 ∙ ap (λ b. framed b place.time bytes) packet in
-        (record { time = place.time; bytes = bytes } ∷ [], (short m order valid, tt), met.3 ∙ ap (λ t. t ∷ []) text, inl (met.0, bytes, refl, refl))
+        (record { time = place.time; bytes = bytes } ∷ [], (fits_message place.time m order valid, tt), met.3 ∙ ap (λ t. t ∷ []) text, inl (met.0, bytes, refl, refl))
         )
     | inr unmet ↦ ([], tt, unmet.1, inr (unmet.0, refl))
   ]

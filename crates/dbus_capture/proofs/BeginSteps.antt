@@ -16,7 +16,7 @@ use Rattle.dbus_device.proofs.CallLaws.{pieces_consumed}
 use Rattle.dbus_capture.specs.declared.input.Input.{Input}
 use Rattle.dbus_capture.specs.Stages.{begun}
 use Rattle.dbus_capture.specs.Beginnings.{first_stage}
-use Rattle.dbus_capture.specs.Captures.{source_of, scan_of, chosen_of, kept_of, gave_up_of, failures_of, file_of, given_of, known, opened, opened_of, left_of, packets_by, packets_of, Fetches, Begins, Waits, ReadsInput}
+use Rattle.dbus_capture.specs.Captures.{source_of, scan_of, chosen_of, owed_of, kept_of, gave_up_of, failures_of, file_of, given_of, known, opened, opened_of, left_of, packets_by, packets_of, Fetches, Begins, Waits, ReadsInput}
 use Rattle.dbus_capture.specs.Packets.{last_packet}
 use Rattle.dbus_capture.proofs.Choices.{when_true, when_false}
 use Rattle.dbus_capture.proofs.FirstLaws.{first_front}
@@ -82,24 +82,24 @@ module _ {R : Type 0} (left : R → Option (List ℕ)) (calls failures : R → �
   waiting_fault r room w = ap (λ (v : Scan). v.fault) (when_false _ _ _ w.after)
 
   -- what is said of the rest, if it is known
-  module _ {X : Type 0} (says : Scan → Option (List ℕ) → Option X) (none : (s : Scan) → says s None ≡ None) where
+  module _ {X : Type 0} (says : List ℕ → Scan → Option (List ℕ) → Option X) (none : (owed : List ℕ) (s : Scan) → says owed s None ≡ None) where
     abbrev said : Option X
-    said = says (opened_of left old) (file_of left old)
+    said = says (owed_of old) (opened_of left old) (file_of left old)
 
     -- if the input is known to be in this state
     said_from : (v : Scan) → Fetches left calls old new → ((bytes : List ℕ) → file_of left old ≡ Some bytes → opened_of left old ≡ v)
-        → (o : Option (List ℕ)) → file_of left old ≡ o → (said ≡ None) ⊎ (said ≡ says v (file_of left new))
-    said_from v f is None e = inl (ap (says (opened_of left old)) e ∙ none (opened_of left old))
-    said_from v f is (Some bytes) e = inr (ap (λ (t : Scan). says t (file_of left old)) (is bytes e) ∙ ap (says v) (e ∙ sym (known_after bytes f e)))
+        → (o : Option (List ℕ)) → file_of left old ≡ o → (said ≡ None) ⊎ (said ≡ says (owed_of new) v (file_of left new))
+    said_from v f is None e = inl (ap (says (owed_of old) (opened_of left old)) e ∙ none (owed_of old) (opened_of left old))
+    said_from v f is (Some bytes) e = inr (ap (λ (t : Scan). says (owed_of old) t (file_of left old)) (is bytes e) ∙ ap (says (owed_of old) v) (e ∙ sym (known_after bytes f e)) ∙ ap (λ (l : List ℕ). says l v (file_of left new)) (sym f.owed))
 
-    pub said_after : Begins left calls failures old new → (said ≡ None) ⊎ (said ≡ says (scan_of new) (file_of left new))
+    pub said_after : Begins left calls failures old new → (said ≡ None) ⊎ (said ≡ says (owed_of new) (scan_of new) (file_of left new))
     said_after b = said_from (scan_of new) b.fetches (λ bytes e. opened_known bytes b e) (file_of left old) refl
 
-    pub said_chosen : chosen_of new ≡ true → says (opened_of left new) (file_of left new) ≡ says (scan_of new) (file_of left new)
-    said_chosen e = ap (λ (v : Scan). says v (file_of left new)) (opened_chosen new (known (file_of left new)) e)
+    pub said_chosen : chosen_of new ≡ true → says (owed_of new) (opened_of left new) (file_of left new) ≡ says (owed_of new) (scan_of new) (file_of left new)
+    said_chosen e = ap (λ (v : Scan). says (owed_of new) v (file_of left new)) (opened_chosen new (known (file_of left new)) e)
 
     pub said_waiting : (r : Result ℕ DeviceFault) (room : ℕ) → Waits left calls failures old new r room
-        → (said ≡ None) ⊎ (said ≡ says (opened_of left new) (file_of left new))
+        → (said ≡ None) ⊎ (said ≡ says (owed_of new) (opened_of left new) (file_of left new))
     said_waiting r room w = said_from (opened_of left new) w.fetches (λ bytes e. opened_waiting r room bytes w e) (file_of left old) refl
 
 -- ---- a read
@@ -124,7 +124,8 @@ module _ {R : Type 0} (left : R → Option (List ℕ)) (calls failures : R → �
   waiting_reads (Ok (suc n)) w = absurd (omega (arith, w.nothing.0))
   waiting_reads (Ok zero) w = (
     Consumes-nil (left_of left new),
-    λ none room. given_stopped (opened_of left new) (file_of left new) (ap is_some (waiting_fault left calls failures old new (Ok 0) (length buffer) w) ∙ w.nothing.1 room),
+    λ none room. let stopped = w.nothing.1 room in
+        given_stopped (owed_of new) (opened_of left new) (file_of left new) (ap is_some (waiting_fault left calls failures old new (Ok 0) (length buffer) w) ∙ stopped.0) stopped.1,
   )
 
   waiting_packets : (r : Result ℕ DeviceFault) (packet : Option Packet) → Waits left calls failures old new r (length buffer) → ReadsOfPacket (packets_of left new) (packets_of left new) packet r
@@ -138,25 +139,25 @@ module _ {R : Type 0} (left : R → Option (List ℕ)) (calls failures : R → �
 
   pub input_gives : (r : Result ℕ DeviceFault) → ReadsInput left calls failures old new r buffer → ReadConsumes (left_of left old) (left_of left new) r buffer
   input_gives r (inl i) =
-      let after = said_after left calls failures old i.mid given_of (λ s. refl) i.begins in
-      let chosen = sym (said_chosen left calls failures old new given_of (λ s. refl) i.chosen) in
+      let after = said_after left calls failures old i.mid given_of (λ owed s. refl) i.begins in
+      let chosen = sym (said_chosen left calls failures old new given_of (λ owed s. refl) i.chosen) in
       reads_from (left_of left old) (rest_of left i.mid) (left_of left new) r buffer after
       (subst (λ (o : Option (List ℕ)). ReadConsumes (rest_of left i.mid) o r buffer) chosen (part_gives left failures i.mid new r buffer i.part))
   input_gives r (inr w) =
-      let after = said_waiting left calls failures old new given_of (λ s. refl) r (length buffer) w in
+      let after = said_waiting left calls failures old new given_of (λ owed s. refl) r (length buffer) w in
       reads_from (left_of left old) (left_of left new) (left_of left new) r buffer after (waiting_reads r w)
 
   pub input_packets : (r : Result ℕ DeviceFault) (before : Option Packet) → MatchResult r (λ n. n ≤ length buffer) (λ e. Unit {0})
       → ReadsInput left calls failures old new r buffer → ReadsOfPacket (packets_of left old) (packets_of left new) (last_packet r (scan_of new).packet before) r
   input_packets r before b (inl i) =
       let last = last_packet r (scan_of new).packet before in
-      let after = said_after left calls failures old i.mid packets_by (λ s. refl) i.begins in
-      let chosen = sym (said_chosen left calls failures old new packets_by (λ s. refl) i.chosen) in
+      let after = said_after left calls failures old i.mid packets_by (λ owed s. refl) i.begins in
+      let chosen = sym (said_chosen left calls failures old new packets_by (λ owed s. refl) i.chosen) in
       packets_from (packets_of left old) (packets_rest left i.mid) (packets_of left new) last r after
       (subst (λ (o : Option Packets). ReadsOfPacket (packets_rest left i.mid) o last r) chosen (part_packets left failures i.mid new r buffer before b i.part))
   input_packets r before b (inr w) =
       let last = last_packet r (scan_of new).packet before in
-      let after = said_waiting left calls failures old new packets_by (λ s. refl) r (length buffer) w in
+      let after = said_waiting left calls failures old new packets_by (λ owed s. refl) r (length buffer) w in
       packets_from (packets_of left old) (packets_of left new) (packets_of left new) last r after (waiting_packets r last w)
 
   pub input_fails : (r : Result ℕ DeviceFault) → ReadsInput left calls failures old new r buffer → ReadCounts (failures_of failures old) (failures_of failures new) r
@@ -208,7 +209,7 @@ pub record Fetched {R : Type 0} (left : R → Option (List ℕ)) (calls failures
 
 module _ {R : Type 0} (left : R → Option (List ℕ)) (calls failures : R → ℕ) where
   pub fetches_nothing : (s : Input R) → Fetches left calls s s
-  fetches_nothing s = record { pieces = []; called = refl; first = tt; kept = sym (append-nil (kept_of s)); gave_up = refl }
+  fetches_nothing s = record { pieces = []; called = refl; first = tt; kept = sym (append-nil (kept_of s)); owed = refl; gave_up = refl }
 
   pub fetched_nothing : (s : Input R) → chosen_of s ≡ false → Fetched left calls failures 0 s s
   unfolding fetches_nothing
@@ -224,28 +225,29 @@ module _ {R : Type 0} (left : R → Option (List ℕ)) (calls failures : R → �
 
   -- one more call
   pub fetches_more : (turns : ℕ) (old mid new : Input R) (piece : List ℕ) → chosen_of old ≡ false → (f : Fetched left calls failures turns old mid) → length (kept_of mid) < 4
-      → ReadsPiece left calls (source_of mid) piece (source_of new) → kept_of new ≡ kept_of mid ++ piece → gave_up_of new ≡ gave_up_of mid → Fetches left calls old new
-  fetches_more turns old mid new piece e f few reads kept gave_up =
+      → ReadsPiece left calls (source_of mid) piece (source_of new) → kept_of new ≡ kept_of mid ++ piece → owed_of new ≡ owed_of mid → gave_up_of new ≡ gave_up_of mid → Fetches left calls old new
+  fetches_more turns old mid new piece e f few reads kept owed gave_up =
       let less = subst (λ (l : List ℕ). length l < 4) f.fetches.kept few in
       record {
         pieces = piece ∷ f.fetches.pieces;
         called = (source_of mid, f.fetches.called, reads);
         first = (e, less, f.found);
         kept = kept ∙ ap (λ (l : List ℕ). l ++ piece) f.fetches.kept ∙ append_assoc (kept_of old) (joined f.fetches.pieces) piece;
+        owed = owed ∙ f.fetches.owed;
         gave_up = gave_up ∙ f.fetches.gave_up;
       }
 
   pub fetched_more : (turns : ℕ) (old mid new : Input R) (piece : List ℕ) → chosen_of old ≡ false → (f : Fetched left calls failures turns old mid) → length (kept_of mid) < 4
-      → ReadsPiece left calls (source_of mid) piece (source_of new) → kept_of new ≡ kept_of mid ++ piece → 0 < length piece → gave_up_of new ≡ gave_up_of mid → new.start ≡ mid.start
+      → ReadsPiece left calls (source_of mid) piece (source_of new) → kept_of new ≡ kept_of mid ++ piece → 0 < length piece → owed_of new ≡ owed_of mid → gave_up_of new ≡ gave_up_of mid → new.start ≡ mid.start
       → scan_of new ≡ scan_of mid → chosen_of new ≡ chosen_of mid → failures (source_of new) ≡ failures (source_of mid)
       → Fetched left calls failures (turns + 1) old new
   unfolding fetches_more
-  fetched_more turns old mid new piece e f few reads kept some gave_up start scan chosen source =
+  fetched_more turns old mid new piece e f few reads kept some owed gave_up start scan chosen source =
       let size = ap length kept in
       let both = length-append (kept_of mid) piece in
       let many = f.many in
       record {
-        fetches = fetches_more turns old mid new piece e f few reads kept gave_up;
+        fetches = fetches_more turns old mid new piece e f few reads kept owed gave_up;
         found = All-cons HasByte piece f.fetches.pieces some f.found;
         many = omega (arith, size, both, many, some);
         start = start ∙ f.start;

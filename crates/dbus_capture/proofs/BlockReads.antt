@@ -1,21 +1,21 @@
 -- A block of a pcapng file that has a packet, or that is passed over, is read as it is spelled.
-use Rattle.std.proofs.Common.{◌≡◌, ◌≢◌, inl, inr, ℕ, ◌+◌, ◌-◌, ◌*◌, ◌<◌, ◌≤◌, ◌^◌, ◌%◌, Bool, true, false, List, [], ◌++◌, length, Option, None, Some, refl, sym, ap, subst, ◌∙◌, arith, append_assoc, append-nil, length-append}
+use Rattle.std.proofs.Common.{◌≡◌, ◌≢◌, inl, inr, ℕ, ◌+◌, ◌-◌, ◌*◌, ◌<◌, ◌≤◌, ◌^◌, ◌%◌, Bool, true, false, List, [], ◌∷◌, ◌++◌, length, Option, None, Some, refl, sym, ap, subst, ◌∙◌, arith, append_assoc, append-nil, length-append}
 use Rattle.std.specs.Prelude.{◌==◌, nat_lt, slice_get}
 use Rattle.dbus_capture.specs.Types.{ByteOrder, Little, Big, Stage, Interface, Scan, PacketHead}
 use Rattle.dbus_capture.specs.declared.stage.Stage.TheVariants as stages
 use Rattle.dbus_capture.specs.Numbers.{u32_bytes, u32_at, u16_at}
-use Rattle.dbus_capture.specs.Stages.{begun, is_raw, want}
+use Rattle.dbus_capture.specs.Stages.{begun, is_raw, is_front, want}
 use Rattle.dbus_capture.specs.Steps.{Leads}
 use Rattle.dbus_capture.specs.Scans.{place}
 use Rattle.dbus_capture.specs.Blocks.{padded, is_length, block_stage, block_by, time_of, block_packet, decoded_by}
 use Rattle.dbus_capture.specs.Packets.{FitsTime, head_time, block_front}
-use Rattle.dbus_capture.specs.BlockFiles.{FitsBody, framed_bytes, PacketBlock, PacketForm, EnhancedHead, ObsoleteHead, SimpleHead, head_kind, head_bytes, head_interface, FitsHead, block_bytes, block_body, IsCapturedBy, FitsBlock, packet_by, block_packets}
-use Rattle.dbus_capture.specs.Heads.{give_packet, pass_packet, packet_head}
-use Rattle.dbus_capture.specs.CutPackets.{Captured}
+use Rattle.dbus_capture.specs.BlockFiles.{FitsBody, framed_bytes, PacketBlock, PacketForm, EnhancedHead, ObsoleteHead, SimpleHead, head_kind, head_bytes, head_interface, FitsHead, block_bytes, block_body, FitsBlock, packet_by, block_packets}
+use Rattle.dbus_capture.specs.Heads.{pass_packet, packet_head}
+use Rattle.dbus_capture.specs.CutPackets.{Captured, IsCaptured, AreCaptured}
 use Rattle.dbus_capture.proofs.Choices.{lt_false, le_true, eq_is, eq_not, eq_told, when, when_true, when_false}
 use Rattle.dbus_capture.proofs.NumberLaws.{u32_size, u32_again, u16_again}
-use Rattle.dbus_capture.proofs.StepLaws.{lead_then, lead_to, lead_of, lead_from}
-use Rattle.dbus_capture.proofs.Leads.{head_leads, bytes_lead, given_whole, packet_cases, Went, went_on, went_whole, went_cut, Begins}
+use Rattle.dbus_capture.proofs.StepLaws.{lead_then, lead_to}
+use Rattle.dbus_capture.proofs.Leads.{head_leads, bytes_lead, Went, went_then, went_on, fronted_block, packet_went, Begins, whole_begins}
 
 -- between two blocks of a section
 abbrev pub at_blocks : ByteOrder → List Interface → Scan → Scan
@@ -43,7 +43,7 @@ pub ends : (o : ByteOrder) (t : Scan) (bytes rest : List ℕ) (give skip total :
 ends o t bytes rest give skip total g k low =
     let size = u32_size o total in
     lead_then (bytes_lead (record t { head = begun stages.Trailer; order = o; total = total }) bytes rest give skip refl g k)
-    (lead_to (head_leads stages.Trailer (record t { order = o; total = total }) (u32_bytes o total) refl size) (when_true _ _ _ (eq_is _ _ (one_told o total low))))
+    (lead_to (head_leads stages.Trailer (record t { order = o; total = total }) (u32_bytes o total) refl refl size) (when_true _ _ _ (eq_is _ _ (one_told o total low))))
 
 -- ---- the head of a packet's block
 
@@ -54,7 +54,7 @@ record IsPacketBlock (o : ByteOrder) (interfaces : List Interface) (head : Packe
   time : Option ℕ
   low : head_kind head < 2 ^ 32
   staged : block_stage (head_kind head) ≡ Some (stage, want stage + 12)
-  filed : is_raw stage ≡ false
+  filed : (is_raw stage ≡ false) × (is_front stage ≡ false)
   long : length (head_bytes o head n original) ≡ want stage
   of : (m : Scan) → let t : Scan = record m { order = o; interfaces = interfaces } in
       decoded_by stage t (head_bytes o head n original)
@@ -93,7 +93,7 @@ packet_is o interfaces (EnhancedHead number high low) i n original found p q f =
       time = time_of i (u32_at o 4 h * 2 ^ 32 + u32_at o 8 h);
       low = omega arith;
       staged = refl;
-      filed = refl;
+      filed = (refl, refl);
       long = e.0.long;
       of = λ m. simp (e.1, found, e.0.captured, e.0.had);
       timed = λ t. let z = e.0.times t.0 t.1 in simp (z.0, z.1);
@@ -107,7 +107,7 @@ packet_is o interfaces (ObsoleteHead number drops high low) i n original found p
       time = time_of i (u32_at o 4 h * 2 ^ 32 + u32_at o 8 h);
       low = omega arith;
       staged = refl;
-      filed = refl;
+      filed = (refl, refl);
       long = e.0.long;
       of = λ m. simp (e.1, found, e.0.captured, e.0.had);
       timed = λ t. let z = e.0.times t.0 t.1 in simp (z.0, z.1);
@@ -120,7 +120,7 @@ packet_is o interfaces SimpleHead i n original found p q f =
       time = None;
       low = omega arith;
       staged = refl;
-      filed = refl;
+      filed = (refl, refl);
       long = u32_size o original;
       of = λ m. simp (found, e, f);
       timed = λ t. refl;
@@ -138,7 +138,7 @@ module _ (o : ByteOrder) (interfaces : List Interface) (s : Scan) where
   opens kind total p q other =
       let e = two_told o kind total p q in
       let stage = block_stage (u32_at o 0 (u32_bytes o kind ++ u32_bytes o total)) in
-      lead_to (head_leads stages.Block here (u32_bytes o kind ++ u32_bytes o total) refl e.0) (when_false _ _ _ (eq_not _ _ (λ z. other (sym e.1 ∙ z)))
+      lead_to (head_leads stages.Block here (u32_bytes o kind ++ u32_bytes o total) refl refl e.0) (when_false _ _ _ (eq_not _ _ (λ z. other (sym e.1 ∙ z)))
       ∙ ap (λ (m : ℕ). block_by here m stage) e.2 ∙ ap (λ (m : ℕ). block_by here total (block_stage m)) e.1)
 
   -- a block whose type says what comes in it
@@ -163,7 +163,7 @@ module _ (o : ByteOrder) (interfaces : List Interface) (s : Scan) where
       ap (block_by here total) none ∙ when_true _ _ _ (length_ok 12 total f.whole (omega arith)) in
       let closed = ends o m [] body 0 (total - 12) total refl (omega arith) f.size in
       went_on (at_blocks o interfaces) here (record m { next = place (m.next + 4) }) (framed_bytes o kind body)
-      (lead_then (lead_to (opens kind total low f.size no_section) opened) closed) refl (omega (arith, size)) refl refl
+      (lead_then (lead_to (opens kind total low f.size no_section) opened) closed) refl refl (omega (arith, size)) refl refl
 
   -- ---- a packet's block
 
@@ -204,81 +204,73 @@ module _ (o : ByteOrder) (interfaces : List Interface) (s : Scan) where
     fronts =
         let least : want p.stage + 12 ≤ total = omega (arith, length-append head (bytes ++ rest), p.long) in
         lead_then (opens_as (head_kind form) total (want p.stage + 12) p.stage p.staged p.low b.size b.whole least)
-        (lead_to (head_leads p.stage m head p.filed p.long) (p.of m))
-
-    spelled : framed ≡ front ++ ((bytes ++ rest) ++ u32_bytes o total)
-    spelled = simp append_assoc
-
-    moved : place (place (place (s.next + 8) + (want p.stage + room)) + 4) ≡ place (s.next + length framed)
-    moved = omega (arith, framed_size o (head_kind form) (head ++ (bytes ++ rest)), room_is, length-append head (bytes ++ rest), p.long)
-
-    -- what follows the head
-    closes : (x : Scan) (given rest' : List ℕ) → given ++ rest' ≡ bytes ++ rest → block_packet m i.link_type packet ≡ x
-        → (give skip : ℕ) → give ≡ length given → skip ≡ length rest'
-        → x ≡ record x { head = begun stages.Trailer; give = give; skip = skip; fault = None; order = o; total = total; interfaces = interfaces }
-        → Leads here framed (given ++ []) (at_blocks o interfaces (record x { total = total; next = place (x.next + 4) }))
-    closes x given rest' e f give skip g k is =
-        lead_of (spelled ∙ ap (λ l. front ++ (l ++ u32_bytes o total)) (sym e))
-        (lead_then fronts (lead_from (f ∙ is) (ends o (record x { interfaces = interfaces }) given rest' give skip total g k b.size)))
+        (lead_to (head_leads p.stage m head p.filed.0 p.filed.1 p.long) (p.of m))
 
     dbus : (i.link_type == 231) ≡ true → block_packet m i.link_type packet ≡ packet_head t packet
     dbus same = when_false _ _ _ roomy ∙ when_true _ _ _ same
 
-    packet_read : (passes : Bool) → passes ≡ s.passes_cut → IsCapturedBy passes i original bytes
-        → Went (at_blocks o interfaces) here framed (packet_by original bytes (Some i))
-    packet_read passes pass whole =
-        let at = at_blocks o interfaces in
-        let one : Captured = record { original = original; bytes = bytes } in
-        let all_of : room ≡ length (bytes ++ rest) = omega (arith, room_is, length-append bytes rest) in
-        let ends_at : Scan → Scan = λ (x : Scan). record x { next = place (x.next + 4) } in
-        when (Went at here _) (i.link_type == 231) _ _
-        (λ same. elim (packet_cases t packet passes pass (whole (eq_told _ _ same))) [
-          | inl all ↦
-              let x = give_packet t packet in
-              let l = closes x bytes rest refl (dbus same ∙ all.1) (length bytes) (room - length bytes) refl (omega (arith, room_is)) refl in
-              went_whole at here (ends_at x) _ one all.0 (record { ran = l.ran; gave = l.gave ∙ append-nil bytes }) refl moved refl refl
-          | inr cut ↦
-              let x : Scan = record (pass_packet t (want p.stage) room) { cut = place (s.cut + 1) } in
-              let l = closes x [] (bytes ++ rest) refl (dbus same ∙ cut.1) 0 room refl all_of refl in
-              went_cut at here (ends_at x) _ one cut.0 l refl moved refl refl
-        ])
-        (λ other.
-        let x = pass_packet t (want p.stage) room in
-        let l = closes x [] (bytes ++ rest) refl (when_false _ _ _ roomy ∙ when_false _ _ _ other) 0 room refl all_of refl in
-        went_on at here (ends_at x) _ l refl moved refl refl)
+    -- before the length at the end
+    abbrev at_end : Scan → Scan
+    at_end x = record x { head = begun stages.Trailer; give = 0; skip = 0; fault = None; order = o; total = total; interfaces = interfaces }
 
-    packet_begins : i.link_type ≡ 231 → original ≡ length bytes → FitsTime form → Begins here front bytes (head_time i form)
-    packet_begins same all timed = record {
-      state = give_packet t packet;
-      leads = lead_to fronts (dbus (eq_is i.link_type 231 same) ∙ given_whole t packet all);
-      unfaulted = refl;
-      filed = refl;
-      gives = refl;
-      reported = ap (λ (n : ℕ). Some (record { number = place (s.packets + 1); at = n; time = p.time; length = length bytes }))
-          (let z : place (place (s.next + 8) + 2 ^ 64 - 8) ≡ place s.next = omega arith in z)
-          ∙ ap (λ (v : Option ℕ). Some (record { number = place (s.packets + 1); at = place s.next; time = v; length = length bytes })) (p.timed timed);
-    }
+    moved : place (s.next + length (front ++ (bytes ++ rest))) ≡ place (place (s.next + 8) + (want p.stage + room))
+    moved = omega (arith, room_is, length-append front (bytes ++ rest), length-append (u32_bytes o (head_kind form) ++ u32_bytes o total) head, length-append (u32_bytes o (head_kind form)) (u32_bytes o total), u32_size o (head_kind form), u32_size o total, length-append bytes rest, p.long)
+
+    closes : (packets : List Captured) → Went at_end here (front ++ (bytes ++ rest)) packets → Went (at_blocks o interfaces) here framed packets
+    closes packets w =
+        let x = at_end w.final in
+        let size = u32_size o total in
+        let last = ends o x [] [] 0 0 total refl refl b.size in
+        let more = went_on (at_blocks o interfaces) x (record x { next = place (x.next + 4) }) (u32_bytes o total) last refl refl (omega (arith, size)) refl refl in
+        subst (λ l. Went (at_blocks o interfaces) here framed l) (append-nil packets) (subst (λ l. Went (at_blocks o interfaces) here l (packets ++ [])) (simp append_assoc) (went_then w more))
+
+    packet_read : (passes : Bool) → passes ≡ s.passes_cut → AreCaptured passes s.alone (packet_by original bytes (Some i))
+        → Went (at_blocks o interfaces) here framed (packet_by original bytes (Some i))
+    packet_read passes pass =
+        let one : Captured = record { original = original; bytes = bytes } in
+        when (λ packets. AreCaptured passes s.alone packets → Went (at_blocks o interfaces) here framed packets) (i.link_type == 231) (one ∷ []) []
+        (λ same captured. closes (one ∷ []) (packet_went stages.Trailer fronted_block t packet bytes rest refl (omega (arith, room_is)) (omega (arith, room_is)) at_end here front (lead_to fronts (dbus same))
+        (subst (λ (v : Bool). IsCaptured v s.alone one) pass captured.0) (λ left over next packets passed cut p' alone. refl) refl refl refl refl (sym moved)))
+        (λ other captured.
+        let x = pass_packet t (want p.stage) room in
+        let skips = bytes_lead x [] (bytes ++ rest) 0 room refl refl (omega (arith, room_is, length-append bytes rest)) in
+        closes [] (went_on at_end here x (front ++ (bytes ++ rest)) (lead_then (lead_to fronts (when_false _ _ _ roomy ∙ when_false _ _ _ other)) skips) refl refl (sym moved) refl refl))
+
+    packet_begins : i.link_type ≡ 231 → IsCaptured false s.alone (record { original = original; bytes = bytes }) → FitsTime form → Begins here front bytes (head_time i form)
+    packet_begins same whole timed =
+        let b' = whole_begins stages.Trailer fronted_block t packet bytes refl whole in
+        record {
+          state = _;
+          final = b'.final;
+          leads = lead_to fronts (dbus (eq_is i.link_type 231 same));
+          gives = b'.gives;
+          told = b'.told;
+          keeps = b'.keeps;
+          reported = b'.packet ∙ ap (λ (n : ℕ). Some (record { number = place (s.packets + 1); at = n; time = p.time; length = length bytes }))
+              (let z : place (place (s.next + 8) + 2 ^ 64 - 8) ≡ place s.next = omega arith in z)
+              ∙ ap (λ (v : Option ℕ). Some (record { number = place (s.packets + 1); at = place s.next; time = v; length = length bytes })) (p.timed timed);
+        }
 
   low_in : (a b c : List ℕ) → 12 + length (a ++ (b ++ c)) < 2 ^ 32 → length b < 2 ^ 32
   low_in a b c h = omega (arith, h, length-append a (b ++ c), length-append b c)
 
   pub block_read : (passes : Bool) (form : PacketForm) (original : ℕ) (bytes rest : List ℕ) → let block = PacketBlock form original bytes rest in
-      FitsBlock passes interfaces block → FitsBody (block_body o block) → passes ≡ s.passes_cut
+      FitsBlock interfaces block → FitsBody (block_body o block) → passes ≡ s.passes_cut → AreCaptured passes s.alone (block_packets interfaces block)
       → Went (at_blocks o interfaces) here (block_bytes o block) (block_packets interfaces block)
-  block_read passes form original bytes rest f b pass =
+  block_read passes form original bytes rest f b pass captured =
       let low = low_in (head_bytes o form (length bytes) original) bytes rest b.size in
-      let p = packet_is o interfaces form f.2.0 (length bytes) original f.2.1 low f.0 f.2.2.0 in
+      let p = packet_is o interfaces form f.2.0 (length bytes) original f.2.1 low f.0 f.2.2 in
       let all = block_bytes o (PacketBlock form original bytes rest) in
       subst (λ (v : Option Interface). Went (at_blocks o interfaces) here all (packet_by original bytes v)) (sym f.2.1)
-      (packet_read form f.2.0 original bytes rest p b f.1 passes pass f.2.2.1)
+      (packet_read form f.2.0 original bytes rest p b f.1 passes pass (subst (λ (v : Option Interface). AreCaptured passes s.alone (packet_by original bytes v)) f.2.1 captured))
 
-  -- its bytes come after its head, if all of it was captured
-  pub block_begins : (passes : Bool) (i : Interface) (form : PacketForm) (bytes rest : List ℕ) → let block = PacketBlock form (length bytes) bytes rest in
-      FitsBlock passes interfaces block → FitsBody (block_body o block) → FitsTime form → slice_get interfaces (head_interface form) ≡ Some i
+  -- its bytes come after its head, if it is whole
+  pub block_begins : (i : Interface) (form : PacketForm) (bytes rest : List ℕ) → let block = PacketBlock form (length bytes) bytes rest in
+      FitsBlock interfaces block → FitsBody (block_body o block) → IsCaptured false s.alone (record { original = length bytes; bytes = bytes }) → FitsTime form → slice_get interfaces (head_interface form) ≡ Some i
       → i.link_type ≡ 231 → Begins here (block_front o form bytes rest) bytes (head_time i form)
-  block_begins passes i form bytes rest f b timed found same =
+  block_begins i form bytes rest f b whole timed found same =
       let one : f.2.0 ≡ i = let x = f.2.1 in cc (x, found) in
       let n = length bytes in
-      let fits = subst (λ (v : Interface). FitsHead form v n n) one f.2.2.0 in
+      let fits = subst (λ (v : Interface). FitsHead form v n n) one f.2.2 in
       let p = packet_is o interfaces form i n n found (low_in (head_bytes o form n n) bytes rest b.size) f.0 fits in
-      packet_begins form i n bytes rest p b f.1 same refl timed
+      packet_begins form i n bytes rest p b f.1 same whole timed

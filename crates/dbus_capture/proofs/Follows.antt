@@ -4,17 +4,18 @@
 use Rattle.std.proofs.Common.{◌≡◌, ℕ, zero, suc, ◌+◌, ◌-◌, ◌<◌, ◌≤◌, ◌%◌, ◌^◌, Bool, true, false, cond, nat_eq, List, [], ◌∷◌, ◌++◌, length}
 use Rattle.std.proofs.Common.{Option, None, Some, refl, sym, ap, subst, ◌∙◌, arith, append_assoc, length-append}
 use Rattle.dbus_capture.specs.Types.{ByteOrder, Stage, Raw, FileHeader, Record, Section, Block, InterfaceHead, OptionHead, Resolution}
-use Rattle.dbus_capture.specs.Types.{InterfaceTrailer, Enhanced, ObsoletePacket, Simple, Trailer, CaptureFault, Truncated, Interface, Scan}
+use Rattle.dbus_capture.specs.Types.{InterfaceTrailer, Enhanced, ObsoletePacket, Simple, RecordFront, BlockFront, Trailer, CaptureFault, Truncated, Interface, Scan}
 use Rattle.dbus_capture.specs.Numbers.{u32_bytes}
 use Rattle.dbus_capture.specs.Stages.{want, is_raw, begun}
 use Rattle.dbus_capture.specs.Scans.{place}
 use Rattle.dbus_capture.specs.Blocks.{decoded}
 use Rattle.dbus_capture.specs.Steps.{Gathers, turn_by, stepped, step, run, may_end, ended}
 use Rattle.dbus_capture.specs.Outcomes.{AreBytes, PcapFile, PcapngFile}
-use Rattle.dbus_capture.specs.PcapFiles.{PcapPacket, packets_bytes, AllFitPackets}
+use Rattle.dbus_capture.specs.PcapFiles.{PcapPacket, packets_bytes, captures, AllFitPackets}
+use Rattle.dbus_capture.specs.CutPackets.{IsCaptured, AreCaptured, alone_after, alone_all}
 use Rattle.dbus_capture.specs.BlockFiles.{InterfaceOption, options_bytes, end_bytes, AllFitOptions, FitsEnd, with_options, FileBlock}
 use Rattle.dbus_capture.specs.BlockFiles.{block_kind, block_body, blocks_bytes, interfaces_after, FitsBlock, AllFitBlocks, FileSection}
-use Rattle.dbus_capture.specs.BlockFiles.{sections_bytes, AllFitSections}
+use Rattle.dbus_capture.specs.BlockFiles.{sections_bytes, AllFitSections, block_packets, blocks_packets, sections_packets}
 use Rattle.dbus_capture.proofs.Choices.{eq_told, when}
 use Rattle.dbus_capture.proofs.ByteLaws.{are_joined}
 
@@ -23,31 +24,35 @@ use Rattle.dbus_capture.proofs.ByteLaws.{are_joined}
 -- what is kept beside the head
 pub record Context : Type 0 where
   pub passes : Bool
+  pub alone : Bool
   pub order : ByteOrder
   pub total : ℕ
   pub interfaces : List Interface
+  pub behind : ℕ
 
 abbrev pub context : Scan → Context
-context s = record { passes = s.passes_cut; order = s.order; total = s.total; interfaces = s.interfaces }
+context s = record { passes = s.passes_cut; alone = s.alone; order = s.order; total = s.total; interfaces = s.interfaces; behind = s.behind }
 
-pub record Packets (passes : Bool) (order : ByteOrder) (bytes : List ℕ) : Type 0 where
+pub record Packets (passes alone : Bool) (order : ByteOrder) (bytes : List ℕ) : Type 0 where
   pub packets : List PcapPacket
-  pub fit : AllFitPackets passes packets
+  pub fit : AllFitPackets packets
+  pub captured : AreCaptured passes alone (captures packets)
   pub joined : bytes ≡ packets_bytes order packets
 
 -- blocks of a section with these interfaces, and then sections
-pub record Blocks (passes : Bool) (order : ByteOrder) (interfaces : List Interface) (bytes : List ℕ) : Type 0 where
+pub record Blocks (passes alone : Bool) (order : ByteOrder) (interfaces : List Interface) (bytes : List ℕ) : Type 0 where
   pub blocks : List FileBlock
   pub sections : List FileSection
-  pub fit : AllFitBlocks passes order interfaces blocks
-  pub fits : AllFitSections passes sections
+  pub fit : AllFitBlocks order interfaces blocks
+  pub fits : AllFitSections sections
+  pub captured : AreCaptured passes alone (blocks_packets interfaces blocks ++ sections_packets sections)
   pub joined : bytes ≡ blocks_bytes order blocks ++ sections_bytes sections
 
 -- the length at the end of a block, and then these
-pub record Closing (passes : Bool) (order : ByteOrder) (total : ℕ) (interfaces : List Interface) (bytes : List ℕ) : Type 0 where
+pub record Closing (passes alone : Bool) (order : ByteOrder) (total : ℕ) (interfaces : List Interface) (bytes : List ℕ) : Type 0 where
   pub tail : List ℕ
   pub joined : bytes ≡ u32_bytes order total ++ tail
-  pub blocks : Blocks passes order interfaces tail
+  pub blocks : Blocks passes alone order interfaces tail
 
 -- options of an interface with their end, of so many bytes, and the end of its block
 pub record Options (c : Context) (rest : ℕ) (i : Interface) (bytes : List ℕ) : Type 0 where
@@ -59,7 +64,7 @@ pub record Options (c : Context) (rest : ℕ) (i : Interface) (bytes : List ℕ)
   pub size : length (options_bytes c.order options ++ end_bytes c.order end) ≡ rest
   pub joined : bytes ≡ (options_bytes c.order options ++ end_bytes c.order end) ++ tail
   pub few : length c.interfaces < 64
-  pub closing : Closing c.passes c.order c.total (c.interfaces ++ with_options i options ∷ []) tail
+  pub closing : Closing c.passes c.alone c.order c.total (c.interfaces ++ with_options i options ∷ []) tail
 
 -- the value of `if_tsresol` with its padding, and then more options
 pub record TimeUnit (c : Context) (rest : ℕ) (i : Interface) (bytes : List ℕ) : Type 0 where
@@ -76,25 +81,39 @@ pub record Body (c : Context) (kind : ℕ) (bytes : List ℕ) : Type 0 where
   pub tail : List ℕ
   pub kind_is : block_kind block ≡ kind
   pub size : 12 + length (block_body c.order block) ≡ c.total
-  pub fits : FitsBlock c.passes c.interfaces block
+  pub fits : FitsBlock c.interfaces block
+  pub captured : AreCaptured c.passes c.alone (block_packets c.interfaces block)
   pub joined : bytes ≡ block_body c.order block ++ tail
-  pub closing : Closing c.passes c.order c.total (interfaces_after c.interfaces block) tail
+  pub closing : Closing c.passes (alone_all c.alone (block_packets c.interfaces block)) c.order c.total (interfaces_after c.interfaces block) tail
+
+-- the first bytes of a packet of so many, its others, what is passed over behind it, and what follows
+pub record Front (passes : Bool) (behind rest : ℕ) (After : Bool → List ℕ → Type 0) (bytes : List ℕ) : Type 0 where
+  pub packet : List ℕ
+  pub fill : List ℕ
+  pub tail : List ℕ
+  pub size : length packet ≡ rest
+  pub filled : length fill ≡ behind
+  pub joined : bytes ≡ packet ++ (fill ++ tail)
+  pub captured : IsCaptured passes true (record { original = rest; bytes = packet })
+  pub after : After (alone_after true (record { original = rest; bytes = packet })) tail
 
 -- from a head on, with so many bytes of options left, in the block of this interface
 abbrev pub FollowsHead : Stage → Context → (rest : ℕ) → Interface → List ℕ → Type 0
 FollowsHead Raw c rest i bytes = ⊥
-FollowsHead FileHeader c rest i bytes = PcapFile c.passes bytes
-FollowsHead Record c rest i bytes = Packets c.passes c.order bytes
-FollowsHead Section c rest i bytes = PcapngFile c.passes bytes
-FollowsHead Block c rest i bytes = Blocks c.passes c.order c.interfaces bytes
+FollowsHead FileHeader c rest i bytes = PcapFile c.passes c.alone bytes
+FollowsHead Record c rest i bytes = Packets c.passes c.alone c.order bytes
+FollowsHead Section c rest i bytes = PcapngFile c.passes c.alone bytes
+FollowsHead Block c rest i bytes = Blocks c.passes c.alone c.order c.interfaces bytes
 FollowsHead InterfaceHead c rest i bytes = Body c 1 bytes
 FollowsHead OptionHead c rest i bytes = Options c rest i bytes
 FollowsHead Resolution c rest i bytes = TimeUnit c rest i bytes
-FollowsHead InterfaceTrailer c rest i bytes = (length c.interfaces < 64) × Closing c.passes c.order c.total (c.interfaces ++ i ∷ []) bytes
+FollowsHead InterfaceTrailer c rest i bytes = (length c.interfaces < 64) × Closing c.passes c.alone c.order c.total (c.interfaces ++ i ∷ []) bytes
 FollowsHead Enhanced c rest i bytes = Body c 6 bytes
 FollowsHead ObsoletePacket c rest i bytes = Body c 2 bytes
 FollowsHead Simple c rest i bytes = Body c 3 bytes
-FollowsHead Trailer c rest i bytes = Closing c.passes c.order c.total c.interfaces bytes
+FollowsHead RecordFront c rest i bytes = Front c.passes c.behind rest (λ alone after. Packets c.passes alone c.order after) bytes
+FollowsHead BlockFront c rest i bytes = Front c.passes c.behind rest (λ alone after. Closing c.passes alone c.order c.total c.interfaces after) bytes
+FollowsHead Trailer c rest i bytes = Closing c.passes c.alone c.order c.total c.interfaces bytes
 
 abbrev pub FollowsFrom : Stage → Scan → List ℕ → Type 0
 FollowsFrom stage s bytes = FollowsHead stage (context s) s.rest s.interface bytes
@@ -110,15 +129,17 @@ pub record Follows (s : Scan) (bytes : List ℕ) : Type 0 where
 
 -- ---- where a fault is
 
--- what holds before a head of the block's length, and of what is left of its options
-abbrev pub IsSound : Stage → (total rest : ℕ) → Type 0
-IsSound InterfaceHead total rest = (20 ≤ total) × (rest ≡ total - 20) × (total % 4 ≡ 0)
-IsSound OptionHead total rest = (rest % 4 ≡ 0) × (0 < rest)
-IsSound Resolution total rest = rest % 4 ≡ 0
-IsSound Enhanced total rest = 32 ≤ total
-IsSound ObsoletePacket total rest = 32 ≤ total
-IsSound Simple total rest = 16 ≤ total
-IsSound _ total rest = Unit {0}
+-- what holds before a head of the packets before it, of the block's length, and of what is left
+abbrev pub IsSound : Stage → (alone : Bool) → (total rest : ℕ) → Type 0
+IsSound InterfaceHead alone total rest = (20 ≤ total) × (rest ≡ total - 20) × (total % 4 ≡ 0)
+IsSound OptionHead alone total rest = (rest % 4 ≡ 0) × (0 < rest)
+IsSound Resolution alone total rest = rest % 4 ≡ 0
+IsSound Enhanced alone total rest = 32 ≤ total
+IsSound ObsoletePacket alone total rest = 32 ≤ total
+IsSound Simple alone total rest = 16 ≤ total
+IsSound RecordFront alone total rest = (16 ≤ rest) × (alone ≡ true)
+IsSound BlockFront alone total rest = (16 ≤ rest) × (alone ≡ true)
+IsSound _ alone total rest = Unit {0}
 
 -- n bytes were read from the place p on, and a fault is among them
 abbrev pub IsAt : (p n : ℕ) → Scan → Option CaptureFault → Type 0
@@ -127,7 +148,7 @@ IsAt p n s (Some f) = (w : ℕ) × (f.at ≡ place (p + w)) × (w ≤ n)
 
 pub record Standing (p n : ℕ) (s : Scan) : Type 0 where
   pub filed : is_raw s.head.stage ≡ false
-  pub sound : IsSound s.head.stage s.total s.rest
+  pub sound : IsSound s.head.stage s.alone s.total s.rest
   pub are : AreBytes s.head.bytes
   pub at : IsAt p n s s.fault
 
@@ -159,7 +180,7 @@ filled s bytes u g k f = record {
 -- ---- one byte, if a whole head goes on
 
 abbrev pub HeadsGo : Type 0
-HeadsGo = (stage : Stage) (p w : ℕ) (s : Scan) (h : List ℕ) → is_raw stage ≡ false → IsSound stage s.total s.rest → s.fault ≡ None
+HeadsGo = (stage : Stage) (p w : ℕ) (s : Scan) (h : List ℕ) → is_raw stage ≡ false → IsSound stage s.alone s.total s.rest → s.fault ≡ None
     → s.give ≡ 0 → s.skip ≡ 0 → s.next ≡ place (p + w) → AreBytes h → length h ≡ want stage
     → Goes stage p w s h (decoded (record s { head = begun stage }) h)
 
@@ -240,8 +261,8 @@ module _ (p n : ℕ) (s : Scan) (z : Standing p n s) where
       (n, omega (arith, at.1, at.2), omega arith)
 
   file_ends : (stage : Stage) (held : List ℕ) (t : Scan) → may_end Gathers stage held ≡ true → FollowsFrom stage t (held ++ [])
-  file_ends Record [] t e = record { packets = []; fit = tt; joined = refl }
-  file_ends Block [] t e = record { blocks = []; sections = []; fit = tt; fits = tt; joined = refl }
+  file_ends Record [] t e = record { packets = []; fit = tt; captured = tt; joined = refl }
+  file_ends Block [] t e = record { blocks = []; sections = []; fit = tt; fits = tt; captured = tt; joined = refl }
   file_ends Record (x ∷ xs) t e = cc
   file_ends Block (x ∷ xs) t e = cc
   file_ends _ held t e = cc

@@ -5,27 +5,29 @@ use Rattle.std.proofs.Common.{take-append-drop}
 use Rattle.std.specs.Prelude.{◌&&◌, ◌||◌, ◌==◌, nat_le, slice_get, slice_index}
 use Rattle.std.proofs.lemmas.Bool.{and_parts, or_cases}
 use Rattle.std.proofs.lemmas.Bool.Decides.{nat_tests}
-use Rattle.std.proofs.lemmas.List.{length-take-le, length-drop, drop-drop}
+use Rattle.std.proofs.lemmas.List.{length-take-le, length-drop, drop-drop, take_all, take_at}
 use Rattle.dbus_capture.specs.Types.{ByteOrder, Little, Big, Stage, CaptureReason, Interface, Scan, PacketHead}
 use Rattle.dbus_capture.specs.declared.stage.Stage.TheVariants as stages
 use Rattle.dbus_capture.specs.declared.fault.CaptureReason.TheVariants as reasons
 use Rattle.dbus_capture.specs.Numbers.{u32_bytes, u16_bytes, u32_at, u16_at}
-use Rattle.dbus_capture.specs.Stages.{is_raw, begun, want}
+use Rattle.dbus_capture.specs.Stages.{is_raw, front_before, after_front, begun, want}
 use Rattle.dbus_capture.specs.Scans.{place, refused}
-use Rattle.dbus_capture.specs.Heads.{file_header_by, file_header_in, packet_head}
+use Rattle.dbus_capture.specs.Heads.{file_header_by, file_header_in, cut_packet, packet_head, front_head}
 use Rattle.dbus_capture.specs.Blocks.{padded, is_length, section_in, section_by, block_by, after_option}
 use Rattle.dbus_capture.specs.Blocks.{pass_option, block_packet, time_of}
 use Rattle.dbus_capture.specs.Blocks.{enhanced_by, captured_length, simple_by, decoded, decoded_by}
-use Rattle.dbus_capture.specs.CutPackets.{IsCaptured}
+use Rattle.dbus_capture.specs.CutPackets.{stated, Captured, IsCaptured, AreCaptured, is_cut, alone_after, alone_all}
 use Rattle.dbus_capture.specs.Outcomes.{AreBytes, PcapngFile}
 use Rattle.dbus_capture.specs.PcapFiles.{magic_number}
 use Rattle.dbus_capture.specs.BlockFiles.{InterfaceBlock, PacketBlock, OtherBlock, PacketForm, EnhancedHead, ObsoleteHead, SimpleHead, head_kind, head_bytes, head_interface, FitsHead}
 use Rattle.dbus_capture.specs.BlockFiles.{block_body, InterfaceOption, options_bytes, end_bytes, FitsOption}
-use Rattle.dbus_capture.specs.BlockFiles.{with_option, with_options, FileSection, section_body}
+use Rattle.dbus_capture.specs.BlockFiles.{with_option, with_options, FileSection, section_body, interfaces_after, packet_by, block_packets, blocks_packets, sections_packets}
 use Rattle.dbus_capture.proofs.Choices.{eq_told, eq_untold, lt_untold, le_untold, when, when_true, when_false}
 use Rattle.dbus_capture.proofs.NumberLaws.{u32_size, u16_size}
+use Rattle.dbus_capture.proofs.CutLaws.{stated_front, alone_kept, alone_still, whole_told, cut_by, short_by, whole_by, fits_by}
+use Rattle.dbus_capture.proofs.Leads.{captured_both}
 use Rattle.dbus_capture.proofs.ByteLaws.{u32_low, u16_low, u32_as, u16_as, u32_ends, u16_ends}
-use Rattle.dbus_capture.proofs.Follows.{Context, context, Packets, Blocks, Closing, Options, TimeUnit, Body}
+use Rattle.dbus_capture.proofs.Follows.{Context, context, Packets, Blocks, Front, Closing, Options, TimeUnit, Body}
 use Rattle.dbus_capture.proofs.Follows.{FollowsHead, FollowsFrom, Follows, IsSound, IsAt, Goes, unfilled, HeadsGo}
 
 cat : (a b c d : List ℕ) → a ≡ b → c ≡ d → a ++ c ≡ b ++ d
@@ -37,18 +39,11 @@ length_told least total e =
     let least_is : least ≤ total = grind (arith, nat_tests, both.1) in
     (eq_told _ _ both.0, least_is)
 
-captured_all : (passes : Bool) (original captured : ℕ) → original ≡ captured → IsCaptured passes original captured
-captured_all true original captured e = omega (arith, e)
-captured_all false original captured e = e
-
-captured_part : (passes : Bool) (original captured : ℕ) → passes ≡ true → captured ≤ original → IsCaptured passes original captured
-captured_part passes original captured e low = subst (λ (v : Bool). IsCaptured v original captured) (sym e) low
-
 after_filed : (rest : ℕ) → is_raw (after_option rest) ≡ false
 after_filed rest = when (λ v. is_raw v ≡ false) (rest == 0) _ _ (λ e. refl) (λ e. refl)
 
-after_sound : (total rest : ℕ) → rest % 4 ≡ 0 → IsSound (after_option rest) total rest
-after_sound total rest whole = when (λ v. IsSound v total rest) (rest == 0) _ _ (λ e. tt)
+after_sound : (alone : Bool) (total rest : ℕ) → rest % 4 ≡ 0 → IsSound (after_option rest) alone total rest
+after_sound alone total rest whole = when (λ v. IsSound v alone total rest) (rest == 0) _ _ (λ e. tt)
     (λ e. (whole, let some = eq_untold rest 0 e in omega (arith, some)))
 
 options_after : (c : Context) (rest : ℕ) (i : Interface) (bytes : List ℕ) → FollowsHead (after_option rest) c rest i bytes
@@ -71,18 +66,18 @@ module _ (p w : ℕ) (s : Scan) (h : List ℕ) (clean : s.fault ≡ None) (none 
   G stage t = Goes stage p w s h t
 
   -- a head of another kind may be there already
-  refuse_in : (stage next : Stage) (k : ℕ) (r : CaptureReason) → is_raw next ≡ false → IsSound next s.total s.rest → k ≤ length h
+  refuse_in : (stage next : Stage) (k : ℕ) (r : CaptureReason) → is_raw next ≡ false → IsSound next s.alone s.total s.rest → k ≤ length h
       → G stage (refused (at next) k r)
   refuse_in stage next k r filed sound low = record {
     stands = record { filed = filed; sound = sound; are = tt; at = (w + k, omega (arith, next_is), omega (arith, low)) };
     follows = λ more f. absurd (let u = f.unfaulted in cc);
   }
 
-  refuse : (stage : Stage) (k : ℕ) (r : CaptureReason) → is_raw stage ≡ false → IsSound stage s.total s.rest → k ≤ length h
+  refuse : (stage : Stage) (k : ℕ) (r : CaptureReason) → is_raw stage ≡ false → IsSound stage s.alone s.total s.rest → k ≤ length h
       → G stage (refused (at stage) k r)
   refuse stage = refuse_in stage stage
 
-  go : (stage : Stage) (t : Scan) (k : ℕ) → is_raw t.head.stage ≡ false → IsSound t.head.stage t.total t.rest → AreBytes t.head.bytes
+  go : (stage : Stage) (t : Scan) (k : ℕ) → is_raw t.head.stage ≡ false → IsSound t.head.stage t.alone t.total t.rest → AreBytes t.head.bytes
       → t.fault ≡ None → t.next ≡ place (s.next + k)
       → k + length t.head.bytes ≡ length h + (t.give + t.skip) → ((more : List ℕ) → Follows t more → FollowsFrom stage s (h ++ more))
       → G stage t
@@ -93,18 +88,98 @@ module _ (p w : ℕ) (s : Scan) (h : List ℕ) (clean : s.fault ≡ None) (none 
 
   -- ---- a packet, if it is of D-Bus
 
-  packet_head_goes : (stage next : Stage) (q : PacketHead) → is_raw next ≡ false → IsSound next s.total s.rest → q.captured_at ≤ length h → q.original_at ≤ length h → q.size ≡ length h → q.captured ≤ q.room
-      → ((more fill after : List ℕ) → more ≡ fill ++ after → length fill ≡ q.room → IsCaptured s.passes_cut q.original q.captured → FollowsFrom next s after → FollowsFrom stage s (h ++ more))
-      → G stage (packet_head (at next) q)
-  packet_head_goes stage next q filed sound low low_original size within spelled =
-      when (G stage) (nat_lt q.original q.captured) _ _ (λ e. refuse_in stage next q.original_at reasons.Lengths filed sound low_original)
-      (λ e. when (G stage) (q.captured == q.original) _ _
-      (λ all. go stage _ (q.size + q.room) filed sound tt clean refl (omega (arith, size, within)) (λ more f. let long = f.size in
-      spelled more f.fill f.more f.joined (omega (arith, long, within)) (captured_all s.passes_cut q.original q.captured (sym (eq_told _ _ all))) f.rest))
-      (λ part. when (G stage) s.passes_cut _ _
-      (λ c. go stage _ (q.size + q.room) filed sound tt clean refl (omega (arith, size, none)) (λ more f. let long = f.size in
-      spelled more f.fill f.more f.joined (omega (arith, long, none)) (captured_part s.passes_cut q.original q.captured c (lt_untold _ _ e)) f.rest))
-      (λ c. refuse_in stage next q.captured_at reasons.PacketCut filed sound low)))
+  module _ (stage next : Stage) (q : PacketHead) (After : Bool → List ℕ → Type 0) (filed : (is_raw next ≡ false) × (is_raw (front_before next) ≡ false)) (sound : IsSound next s.alone s.total s.rest)
+      (fronts : 16 ≤ q.captured → s.alone ≡ true → IsSound (front_before next) s.alone s.total q.captured) (low : q.captured_at ≤ length h) (low_original : q.original_at ≤ length h) (size : q.size ≡ length h) (within : q.captured ≤ q.room)
+      (plain : (after : List ℕ) → FollowsFrom next s after → After s.alone after)
+      (opened : (behind rest : ℕ) (bytes : List ℕ) → FollowsHead (front_before next) (record (context s) { behind = behind }) rest s.interface bytes → Front s.passes_cut behind rest After bytes)
+      (spelled : (more fill after : List ℕ) → more ≡ fill ++ after → length fill ≡ q.room → let c : Captured = record { original = q.original; bytes = take q.captured fill } in IsCaptured s.passes_cut s.alone c → After (alone_after s.alone c) after → FollowsFrom stage s (h ++ more)) where
+    abbrev one : List ℕ → Captured
+    one fill = record { original = q.original; bytes = take q.captured fill }
+
+    one_size : (fill : List ℕ) → length fill ≡ q.room → length (take q.captured fill) ≡ q.captured
+    one_size fill long = length-take-le q.captured fill (omega (arith, long, within))
+
+    cut_goes : (k : ℕ) → k ≤ length h → q.captured ≤ q.original → ((bytes : List ℕ) → length bytes ≡ q.captured → is_cut s.alone (record { original = q.original; bytes = bytes }) ≡ true) → G stage (cut_packet (at next) q.size q.room k)
+    cut_goes k there most cut = when (G stage) s.passes_cut _ _
+        (λ passes. go stage _ (q.size + q.room) filed.0 sound tt clean refl (omega (arith, size, none)) (λ more f.
+        let long : length f.fill ≡ q.room = let n = f.size in omega (arith, n, none) in
+        let n = one_size f.fill long in
+        let is = cut (take q.captured f.fill) n in
+        spelled more f.fill f.more f.joined long (omega (arith, n, most), λ e. passes) (subst (λ (a : Bool). After a f.more) (sym (alone_kept s.alone (one f.fill) is)) (plain f.more f.rest))))
+        (λ fails. refuse_in stage next k reasons.PacketCut filed.0 sound there)
+
+    pub packet_head_goes : G stage (packet_head (at next) q)
+    packet_head_goes =
+        when (G stage) (nat_lt q.original q.captured) _ _ (λ e. refuse_in stage next q.original_at reasons.Lengths filed.0 sound low_original)
+        (λ e. let most = lt_untold _ _ e in when (G stage) (nat_lt q.captured q.original) _ _
+        (λ part. cut_goes q.captured_at low most (λ bytes n. cut_by s.alone _ (let less : nat_lt (length bytes) q.original ≡ true = ap (λ (v : ℕ). nat_lt v q.original) n ∙ part in less)))
+        (λ all. let same : q.original ≡ q.captured = let m = lt_untold _ _ all in omega (arith, most, m) in
+        when (G stage) (s.alone && nat_lt 0 q.captured) _ _
+        (λ both. let parts = and_parts s.alone (nat_lt 0 q.captured) both in
+        let some : 0 < q.captured = let m = parts.1 in grind (arith, nat_tests, m) in when (G stage) (nat_lt q.captured 16) _ _
+        (λ few. let less : q.captured < 16 = grind (arith, nat_tests, few) in
+        cut_goes q.size (omega (arith, size)) most (λ bytes n. short_by s.alone _ parts.0 (omega (arith, n, some)) (inl (omega (arith, n, less)))))
+        (λ enough. let long = lt_untold _ _ enough in
+        go stage _ q.size filed.1 (fronts long parts.0) tt clean refl (omega (arith, size, none, no_skip)) (λ more f.
+        let x = opened (q.room - q.captured) q.captured more (unfilled _ more none no_skip f) in
+        let fill = x.packet ++ x.fill in
+        let sizes = length-append x.packet x.fill in
+        let front : take q.captured fill ≡ x.packet = take_at x.packet x.fill q.captured x.size in
+        let is : record { original = q.captured; bytes = x.packet } ≡ one fill = ap (λ (n : ℕ). record { original = n; bytes = x.packet }) (sym same) ∙ ap (λ (l : List ℕ). record { original = q.original; bytes = l }) (sym front) in
+        spelled more fill x.tail (x.joined ∙ sym (append_assoc x.packet x.fill x.tail)) (omega (arith, sizes, x.size, x.filled, within))
+        (subst (λ (a : Bool). IsCaptured s.passes_cut a (one fill)) (sym parts.0) (subst (IsCaptured s.passes_cut true) is x.captured))
+        (subst (λ (a : Bool). After (alone_after a (one fill)) x.tail) (sym parts.0) (subst (λ (c : Captured). After (alone_after true c) x.tail) is x.after)))))
+        (λ other. go stage _ (q.size + q.room) filed.0 sound tt clean refl (omega (arith, size, within)) (λ more f.
+        let long : length f.fill ≡ q.room = let n = f.size in omega (arith, n, within) in
+        let n = one_size f.fill long in
+        let whole = whole_by s.alone (one f.fill) (omega (arith, n, same)) (ap (λ (v : ℕ). s.alone && nat_lt 0 v) n ∙ other) in
+        spelled more f.fill f.more f.joined long (omega (arith, n, same), λ e. absurd (let no : ◌≡◌ {A = Bool} true false = sym e ∙ whole in cc))
+        (subst (λ (a : Bool). After a f.more) (sym (alone_still s.alone (one f.fill) whole (ap (λ (v : ℕ). s.alone && nat_lt 0 v) n ∙ other))) (plain f.more f.rest))))))
+
+  -- the first bytes of a packet
+  module _ (stage : Stage) (After : Bool → List ℕ → Type 0) (filed : is_raw (after_front stage) ≡ false) (sound : IsSound (after_front stage) s.alone s.total s.rest) (sound_after : (a : Bool) → IsSound (after_front stage) a s.total s.rest) (size : length h ≡ 16) (long : 16 ≤ s.rest) (alone : s.alone ≡ true)
+      (plain : (a : Bool) (after : List ℕ) → FollowsHead (after_front stage) (record (context s) { alone = a }) s.rest s.interface after → After a after)
+      (opened : (bytes : List ℕ) → Front s.passes_cut s.behind s.rest After bytes → FollowsFrom stage s bytes) where
+    abbrev packet : List ℕ → List ℕ
+    packet fill = h ++ take (s.rest - 16) fill
+
+    packet_size : (fill : List ℕ) → length fill ≡ s.rest - 16 + s.behind → length (packet fill) ≡ s.rest
+    packet_size fill n = omega (arith, length-append h (take (s.rest - 16) fill), length-take-le (s.rest - 16) fill (omega (arith, n)), size, long)
+
+    front_of : (more fill after : List ℕ) (a : Bool) → more ≡ fill ++ after → length fill ≡ s.rest - 16 + s.behind
+        → let c : Captured = record { original = s.rest; bytes = packet fill } in IsCaptured s.passes_cut true c → alone_after true c ≡ a → After a after → FollowsFrom stage s (h ++ more)
+    front_of more fill after a joined n captured is follows = opened (h ++ more) (record {
+      packet = packet fill;
+      fill = drop (s.rest - 16) fill;
+      tail = after;
+      size = packet_size fill n;
+      filled = omega (arith, length-drop (s.rest - 16) fill, n);
+      joined = ap (λ l. h ++ l) (joined ∙ ap (λ l. l ++ after) (sym (take-append-drop (s.rest - 16) fill))) ∙ simp append_assoc;
+      captured = captured;
+      after = subst (λ (v : Bool). After v after) (sym is) follows;
+    })
+
+    front_goes : G stage (front_head (at stage) h)
+    front_goes =
+        when (G stage) (nat_lt s.rest (stated h)) _ _
+        (λ short. when (G stage) s.passes_cut _ _
+        (λ passes. go stage _ (16 + (s.rest - 16 + s.behind)) filed sound tt clean refl (omega (arith, size, none)) (λ more f.
+        let n : length f.fill ≡ s.rest - 16 + s.behind = let m = f.size in omega (arith, m, none) in
+        let m = packet_size f.fill n in
+        let states = stated_front h (take (s.rest - 16) f.fill) (omega (arith, size)) in
+        let less : s.rest < stated h = grind (arith, nat_tests, short) in
+        let cut = short_by true (record { original = s.rest; bytes = packet f.fill }) refl (omega (arith, m, long)) (inr (omega (arith, m, states, less))) in
+        front_of more f.fill f.more s.alone f.joined n (omega (arith, m), λ e. passes) (alone_kept true (record { original = s.rest; bytes = packet f.fill }) cut ∙ sym alone) (plain s.alone f.more f.rest)))
+        (λ fails. refuse_in stage (after_front stage) 0 reasons.PacketCut filed sound (omega arith)))
+        (λ enough. go stage _ (s.rest + s.behind) filed (sound_after (s.rest == stated h)) tt clean refl (omega (arith, size, long)) (λ more f.
+        let n : length f.fill ≡ s.rest - 16 + s.behind = f.size in
+        let m = packet_size f.fill n in
+        let states = stated_front h (take (s.rest - 16) f.fill) (omega (arith, size)) in
+        let fits = lt_untold s.rest (stated h) enough in
+        let c : Captured = record { original = s.rest; bytes = packet f.fill } in
+        let whole = fits_by true c (omega (arith, m)) (omega (arith, m, long)) (omega (arith, m, states, fits)) in
+        front_of more f.fill f.more (s.rest == stated h) f.joined n (omega (arith, m), λ e. absurd (let no : ◌≡◌ {A = Bool} true false = sym e ∙ whole in cc))
+        ((whole_told true c whole).2 refl ∙ ap (λ (v : ℕ). v == stated (packet f.fill)) m ∙ ap (λ (v : ℕ). s.rest == v) states) (plain (s.rest == stated h) f.more f.rest)))
 
   -- ---- a pcap file
 
@@ -114,7 +189,7 @@ module _ (p w : ℕ) (s : Scan) (h : List ℕ) (clean : s.fault ≡ None) (none 
       when (G stages.FileHeader) ((u16_at o 4 h == 2) && (u16_at o 6 h == 4)) _ _
       (λ both. when (G stages.FileHeader) (u32_at o 20 h == 231) _ _
       (λ link. go stages.FileHeader _ 24 refl tt tt clean refl (omega (arith, size, none, no_skip)) (λ more f.
-      let q : Packets s.passes_cut o more = unfilled _ more none no_skip f in
+      let q : Packets s.passes_cut s.alone o more = unfilled _ more none no_skip f in
       let versions = and_parts (u16_at o 4 h == 2) (u16_at o 6 h == 4) both in
       let left = length-drop 8 h in
       let unread = take 12 (drop 8 h) in
@@ -127,22 +202,20 @@ module _ (p w : ℕ) (s : Scan) (h : List ℕ) (clean : s.fault ≡ None) (none 
         packets = q.packets;
         fits = record { unread = length-take-le 12 (drop 8 h) (omega (arith, left, size)) };
         fit = q.fit;
+        captured = q.captured;
         joined = cat _ _ _ _ h_is q.joined;
       }))
       (λ other. refuse stages.FileHeader 20 reasons.LinkType refl tt (omega (arith, size))))
       (λ other. refuse stages.FileHeader 4 reasons.Version refl tt (omega (arith, size)))
 
-  packet_first : length h ≡ 16 → IsCaptured s.passes_cut (u32_at s.order 12 h) (u32_at s.order 8 h) → (more fill after : List ℕ)
-      → length fill ≡ u32_at s.order 8 h → more ≡ fill ++ after → Packets s.passes_cut s.order after
-      → Packets s.passes_cut s.order (h ++ more)
-  packet_first size whole more fill after long m q =
+  packet_first : length h ≡ 16 → (more fill after : List ℕ) → length fill ≡ u32_at s.order 8 h → more ≡ fill ++ after → let c : Captured = record { original = u32_at s.order 12 h; bytes = fill } in IsCaptured s.passes_cut s.alone c
+      → Packets s.passes_cut (alone_after s.alone c) s.order after → Packets s.passes_cut s.alone s.order (h ++ more)
+  packet_first size more fill after long m captured q =
       let o = s.order in
       record {
         packets = record { seconds = u32_at o 0 h; fraction = u32_at o 4 h; original = u32_at o 12 h; bytes = fill } ∷ q.packets;
-        fit = (
-          record { seconds = u32_low o h are 0; fraction = u32_low o h are 4; original = u32_low o h are 12; captured = subst (IsCaptured s.passes_cut (u32_at o 12 h)) (sym long) whole },
-          q.fit,
-        );
+        fit = (record { seconds = u32_low o h are 0; fraction = u32_low o h are 4; original = u32_low o h are 12 }, q.fit);
+        captured = (captured, q.captured);
         joined = cat _ _ _ _ (u32_as o h are 0 refl (omega (arith, size)) (u32_as o h are 4 refl (omega (arith, size))
             (u32_as o h are 8 (ap (u32_bytes o) (sym long)) (omega (arith, size)) (u32_ends o h are 12 refl size)))) (m ∙ ap (λ l. fill ++ l) q.joined);
       }
@@ -161,7 +234,7 @@ module _ (p w : ℕ) (s : Scan) (h : List ℕ) (clean : s.fault ≡ None) (none 
       (λ both. when (G stages.Section) (is_length 28 total) _ _
       (λ fits. let whole = length_told 28 total fits in let least = whole.1 in
       go stages.Section _ (total - 4) refl tt tt clean refl (omega (arith, size, none, least)) (λ more f.
-      let q : Closing s.passes_cut o total [] f.more = f.rest in
+      let q : Closing s.passes_cut s.alone o total [] f.more = f.rest in
       let versions = and_parts (u16_at o 12 h == 1) ((minor == 0) || (minor == 2)) both in
       let x : FileSection = record { order = o; minor = minor; size = drop 16 h; options = f.fill; blocks = q.blocks.blocks } in
       let filled : length f.fill + 28 ≡ total = omega (arith, f.size, none, least) in
@@ -177,6 +250,7 @@ module _ (p w : ℕ) (s : Scan) (h : List ℕ) (clean : s.fault ≡ None) (none 
           blocks = q.blocks.fit;
         };
         fit = q.blocks.fits;
+        captured = q.blocks.captured;
         joined = cat _ _ _ _ (u32_as Little h are 0 kind (omega (arith, size)) (u32_as o h are 4 (ap (u32_bytes o) (sym body)) (omega (arith, size))
             (u32_as Little h are 8 mark (omega (arith, size)) (u16_as o h are 12 (ap (u16_bytes o) (eq_told _ _ versions.0)) (omega (arith, size))
             (u16_as o h are 14 refl (omega (arith, size)) refl)))))
@@ -190,8 +264,8 @@ module _ (p w : ℕ) (s : Scan) (h : List ℕ) (clean : s.fault ≡ None) (none 
   -- ---- the beginning and the end of a block
 
   block_whole : (bytes : List ℕ) (kind : ℕ) → length h ≡ 8 → u32_at s.order 0 h ≡ kind → u32_at s.order 4 h % 4 ≡ 0
-      → Body (record { passes = s.passes_cut; order = s.order; total = u32_at s.order 4 h; interfaces = s.interfaces }) kind bytes
-      → Blocks s.passes_cut s.order s.interfaces (h ++ bytes)
+      → Body (record (context s) { total = u32_at s.order 4 h }) kind bytes
+      → Blocks s.passes_cut s.alone s.order s.interfaces (h ++ bytes)
   block_whole bytes kind size type whole q =
       let o = s.order in
       let n = 12 + length (block_body o q.block) in
@@ -201,6 +275,8 @@ module _ (p w : ℕ) (s : Scan) (h : List ℕ) (clean : s.fault ≡ None) (none 
         sections = q.closing.blocks.sections;
         fit = (q.fits, record { size = omega (arith, same, u32_low o h are 4); whole = ap (λ (v : ℕ). v % 4) same ∙ whole }, q.closing.blocks.fit);
         fits = q.closing.blocks.fits;
+        captured = subst (AreCaptured s.passes_cut s.alone) (sym (append_assoc (block_packets s.interfaces q.block) (blocks_packets (interfaces_after s.interfaces q.block) q.closing.blocks.blocks) (sections_packets q.closing.blocks.sections)))
+            (captured_both s.passes_cut s.alone (block_packets s.interfaces q.block) _ q.captured q.closing.blocks.captured);
         joined = cat _ _ _ _ (u32_as o h are 0 (ap (u32_bytes o) (type ∙ sym q.kind_is)) (omega (arith, size)) (u32_ends o h are 4 (ap (u32_bytes o) (sym same)) size))
             (q.joined ∙ ap (λ l. block_body o q.block ++ l) (q.closing.joined ∙ ap (λ (v : ℕ). u32_bytes o v ++ q.closing.tail)
             (sym same) ∙ ap (λ l. u32_bytes o n ++ l) q.closing.blocks.joined))
@@ -209,8 +285,8 @@ module _ (p w : ℕ) (s : Scan) (h : List ℕ) (clean : s.fault ≡ None) (none 
 
   -- a block whose head is read
   block_reads : length h ≡ 8 → (stage : Stage) (least kind : ℕ) → is_raw stage ≡ false
-      → (u32_at s.order 4 h % 4 ≡ 0 → least ≤ u32_at s.order 4 h → IsSound stage (u32_at s.order 4 h) (u32_at s.order 4 h - 20))
-      → let c : Context = record { passes = s.passes_cut; order = s.order; total = u32_at s.order 4 h; interfaces = s.interfaces } in
+      → (u32_at s.order 4 h % 4 ≡ 0 → least ≤ u32_at s.order 4 h → IsSound stage s.alone (u32_at s.order 4 h) (u32_at s.order 4 h - 20))
+      → let c : Context = record (context s) { total = u32_at s.order 4 h } in
       ((bytes : List ℕ) → FollowsHead stage c (u32_at s.order 4 h - 20) s.interface bytes → Body c kind bytes)
       → u32_at s.order 0 h ≡ kind → G stages.Block (block_by (at stages.Block) (u32_at s.order 4 h) (Some (stage, least)))
   block_reads size stage least kind filed sound taken type =
@@ -242,12 +318,12 @@ module _ (p w : ℕ) (s : Scan) (h : List ℕ) (clean : s.fault ≡ None) (none 
         size = grind (arith, length-append, four, fits.filled, q.size, left);
         joined = cat _ _ _ _ h_is (b ∙ ap (λ l. (o.value ++ o.filler) ++ l) q.joined) ∙ simp append_assoc;
         few = q.few;
-        closing = subst (λ (v : Interface). Closing s.passes_cut order s.total (s.interfaces ++ with_options v q.options ∷ []) q.tail)
+        closing = subst (λ (v : Interface). Closing s.passes_cut s.alone order s.total (s.interfaces ++ with_options v q.options ∷ []) q.tail)
             (sym says) q.closing;
       }
 
   -- an option that is passed over
-  option_passed : length h ≡ 4 → IsSound stages.OptionHead s.total s.rest → (i : Interface) → let code = u16_at s.order 0 h in
+  option_passed : length h ≡ 4 → IsSound stages.OptionHead s.alone s.total s.rest → (i : Interface) → let code = u16_at s.order 0 h in
       let n = u16_at s.order 2 h in code ≢ 0 → code ≢ 9 → padded n ≤ s.rest - 4
       → ((v : List ℕ) → cond (code == 9) (record s.interface { resolution = slice_index v 0 })
       (cond (code == 14) (record s.interface { has_offset = true }) s.interface) ≡ i)
@@ -256,7 +332,7 @@ module _ (p w : ℕ) (s : Scan) (h : List ℕ) (clean : s.fault ≡ None) (none 
       let code = u16_at s.order 0 h in
       let n = u16_at s.order 2 h in
       let rest = s.rest - 4 - padded n in
-      go stages.OptionHead _ (4 + padded n) (after_filed rest) (after_sound s.total rest (omega (arith, sound.0, room))) tt clean refl
+      go stages.OptionHead _ (4 + padded n) (after_filed rest) (after_sound s.alone s.total rest (omega (arith, sound.0, room))) tt clean refl
       (omega (arith, size, none)) (λ more f.
       let fits : n ≤ length f.fill = omega (arith, f.size, none) in
       let value = take n f.fill in
@@ -277,16 +353,19 @@ module _ (p w : ℕ) (s : Scan) (h : List ℕ) (clean : s.fault ≡ None) (none 
   -- ---- a packet
 
   -- the packet of a block whose head has this form, and the rest of the block
-  module _ (stage : Stage) (k : ℕ) (form : PacketForm) (i : Interface) (time : Option ℕ) (n original : ℕ) (filed : is_raw stage ≡ false) (sound : IsSound stage s.total s.rest) (place_low : k ≤ length h)
+  module _ (stage : Stage) (k : ℕ) (form : PacketForm) (i : Interface) (time : Option ℕ) (n original : ℕ) (filed : is_raw stage ≡ false) (sound : IsSound stage s.alone s.total s.rest) (place_low : k ≤ length h)
       (small : length h ≤ 20) (least : length h + 12 ≤ s.total) (found : slice_get s.interfaces (head_interface form) ≡ Some i) (low : original < 2 ^ 32)
       (words : (m : ℕ) → n ≡ m → (h ≡ head_bytes s.order form m original) × FitsHead form i m original)
       (taken : (bytes : List ℕ) → Body (context s) (head_kind form) bytes → FollowsFrom stage s bytes) where
     abbrev room : ℕ
     room = s.total - (length h + 12)
 
-    spelled : (more fill after : List ℕ) → more ≡ fill ++ after → length fill ≡ room → padded n ≤ room → (i.link_type ≡ 231 → IsCaptured s.passes_cut original n)
-        → Closing s.passes_cut s.order s.total s.interfaces after → FollowsFrom stage s (h ++ more)
-    spelled more fill after joined long enough whole closing =
+    abbrev packets : List ℕ → Option Interface → List Captured
+    packets fill o = packet_by original (take n fill) o
+
+    spelled : (more fill after : List ℕ) → more ≡ fill ++ after → length fill ≡ room → padded n ≤ room → AreCaptured s.passes_cut s.alone (packets fill (Some i))
+        → Closing s.passes_cut (alone_all s.alone (packets fill (Some i))) s.order s.total s.interfaces after → FollowsFrom stage s (h ++ more)
+    spelled more fill after joined long enough captured closing =
         let bytes = take n fill in
         let rest = drop n fill in
         let bytes_size : length bytes ≡ n = length-take-le n fill (omega (arith, long, enough)) in
@@ -299,20 +378,26 @@ module _ (p w : ℕ) (s : Scan) (h : List ℕ) (clean : s.fault ≡ None) (none 
           tail = after;
           kind_is = refl;
           size = grind (arith, length-append, ap length told.0, bytes_size, rest_size, long, least, enough);
-          fits = (low, omega (arith, bytes_size, rest_size, long, enough), (i, found, (told.1, λ z. subst (IsCaptured s.passes_cut original) (sym bytes_size) (whole z))));
+          fits = (low, omega (arith, bytes_size, rest_size, long, enough), (i, found, told.1));
+          captured = subst (λ (o : Option Interface). AreCaptured s.passes_cut s.alone (packets fill o)) (sym found) captured;
           joined = all;
-          closing = closing;
+          closing = subst (λ (o : Option Interface). Closing s.passes_cut (alone_all s.alone (packets fill o)) s.order s.total s.interfaces after) (sym found) closing;
         })
 
     packet_goes : G stage (block_packet (at stage) i.link_type (record { before = 8; size = length h; captured_at = k; original_at = k; room = room; time = time; captured = n; original = original }))
     packet_goes =
         when (G stage) (nat_lt room (padded n)) _ _ (λ e. refuse stage k reasons.Lengths filed sound place_low)
         (λ e. let enough = lt_untold room (padded n) e in when (G stage) (i.link_type == 231) _ _
-        (λ l. packet_head_goes stage stages.Trailer _ refl tt place_low place_low refl (omega (arith, enough)) (λ more fill after joined long whole f. spelled more fill after joined long enough (λ z. whole) f))
+        (λ l. packet_head_goes stage stages.Trailer _ (λ alone after. Closing s.passes_cut alone s.order s.total s.interfaces after) (refl, refl) tt (λ a b. (a, b)) place_low place_low refl (omega (arith, enough)) (λ after f. f) (λ behind rest bytes f. f)
+        (λ more fill after joined long captured f.
+        let is : packets fill (Some i) ≡ record { original = original; bytes = take n fill } ∷ [] = when_true _ _ _ l in
+        spelled more fill after joined long enough (subst (AreCaptured s.passes_cut s.alone) (sym is) (captured, tt)) (subst (λ (p : List Captured). Closing s.passes_cut (alone_all s.alone p) s.order s.total s.interfaces after) (sym is) f)))
         (λ other. go stage _ (length h + room) refl tt tt clean refl (omega (arith, none))
-        (λ more f. let long = f.size in spelled more f.fill f.more f.joined (omega (arith, long, none)) enough (λ z. absurd (eq_untold _ _ other z)) f.rest)))
+        (λ more f. let long = f.size in
+        let is : packets f.fill (Some i) ≡ [] = when_false _ _ _ other in
+        spelled more f.fill f.more f.joined (omega (arith, long, none)) enough (subst (AreCaptured s.passes_cut s.alone) (sym is) tt) (subst (λ (p : List Captured). Closing s.passes_cut (alone_all s.alone p) s.order s.total s.interfaces f.more) (sym is) f.rest))))
 
-  enhanced_by_goes : (stage : Stage) (form : PacketForm) → is_raw stage ≡ false → IsSound stage s.total s.rest → 32 ≤ s.total → length h ≡ 20
+  enhanced_by_goes : (stage : Stage) (form : PacketForm) → is_raw stage ≡ false → IsSound stage s.alone s.total s.rest → 32 ≤ s.total → length h ≡ 20
       → ((i : Interface) (n : ℕ) → u32_at s.order 12 h ≡ n → (h ≡ head_bytes s.order form n (u32_at s.order 16 h)) × FitsHead form i n (u32_at s.order 16 h))
       → ((bytes : List ℕ) → Body (context s) (head_kind form) bytes → FollowsFrom stage s bytes)
       → (o : Option Interface) → slice_get s.interfaces (head_interface form) ≡ o → G stage (enhanced_by (at stage) h o)
@@ -338,7 +423,7 @@ module _ (p w : ℕ) (s : Scan) (h : List ℕ) (clean : s.fault ≡ None) (none 
 
   -- ---- all
 
-  goes : (stage : Stage) → is_raw stage ≡ false → IsSound stage s.total s.rest → length h ≡ want stage → G stage (decoded_by stage (at stage) h)
+  goes : (stage : Stage) → is_raw stage ≡ false → IsSound stage s.alone s.total s.rest → length h ≡ want stage → G stage (decoded_by stage (at stage) h)
   goes stages.Raw filed sound size = absurd (let no : ◌≡◌ {A = Bool} true false = filed in cc)
   goes stages.FileHeader filed sound size =
       let m = u32_at Little 0 h in
@@ -350,8 +435,12 @@ module _ (p w : ℕ) (s : Scan) (h : List ℕ) (clean : s.fault ≡ None) (none 
       (λ _. when P (m == 0x4d3cb2a1) _ _ (λ e. file_in Big true size (ap (u32_bytes Little) (eq_told _ _ e)))
       (λ _. refuse stages.FileHeader 0 reasons.Magic refl tt (omega arith)))))
   goes stages.Record filed sound size =
-      packet_head_goes stages.Record stages.Record _ refl tt (omega (arith, size)) (omega (arith, size)) (sym size) (omega arith)
-      (λ more fill after joined long whole q. packet_first size whole more fill after long joined q)
+      let n = u32_at s.order 8 h in
+      packet_head_goes stages.Record stages.Record _ (λ alone after. Packets s.passes_cut alone s.order after) (refl, refl) tt (λ a b. (a, b)) (omega (arith, size)) (omega (arith, size)) (sym size) (omega arith) (λ after f. f) (λ behind rest bytes f. f)
+      (λ more fill after joined long captured q.
+      let all : take n fill ≡ fill = take_all n fill (omega (arith, long)) in
+      packet_first size more fill after long joined (subst (λ (l : List ℕ). IsCaptured s.passes_cut s.alone (record { original = u32_at s.order 12 h; bytes = l })) all captured)
+      (subst (λ (l : List ℕ). Packets s.passes_cut (alone_after s.alone (record { original = u32_at s.order 12 h; bytes = l })) s.order after) all q))
   goes stages.Section filed sound size =
       let m = u32_at Little 8 h in
       let P : Option ByteOrder → Type 0 = λ (v : Option ByteOrder). G stages.Section (section_by (at stages.Section) h v) in
@@ -367,8 +456,8 @@ module _ (p w : ℕ) (s : Scan) (h : List ℕ) (clean : s.fault ≡ None) (none 
       let P : Option (Stage × ℕ) → Type 0 = λ (v : Option (Stage × ℕ)). G stages.Block (block_by (at stages.Block) total v) in
       when (G stages.Block) (kind == 0x0a0d0d0a) _ _
       (λ e. go stages.Block _ 0 refl tt are clean (omega (arith, next_is)) (omega (arith, none, no_skip)) (λ more f.
-      let q : PcapngFile s.passes_cut (h ++ more) = unfilled _ more none no_skip f in
-      record { blocks = []; sections = q.first ∷ q.sections; fit = tt; fits = (q.fits, q.fit); joined = q.joined }))
+      let q : PcapngFile s.passes_cut s.alone (h ++ more) = unfilled _ more none no_skip f in
+      record { blocks = []; sections = q.first ∷ q.sections; fit = tt; fits = (q.fits, q.fit); captured = q.captured; joined = q.joined }))
       (λ no_section. when P (kind == 1) _ _ (λ e. block_reads size stages.InterfaceHead 20 1 refl (λ whole least. (least, refl, whole))
       (λ bytes f. f) (eq_told _ _ e))
       (λ a. when P (kind == 2) _ _ (λ e. block_reads size stages.ObsoletePacket 32 2 refl (λ whole least. least) (λ bytes f. f) (eq_told _ _ e))
@@ -383,10 +472,15 @@ module _ (p w : ℕ) (s : Scan) (h : List ℕ) (clean : s.fault ≡ None) (none 
         kind_is = refl;
         size = omega (arith, f.size, none, least);
         fits = (u32_low s.order h are 0, eq_untold _ _ a, eq_untold _ _ b, eq_untold _ _ c, eq_untold _ _ d, eq_untold _ _ no_section);
+        captured = tt;
         joined = f.joined;
         closing = f.rest;
       })))
       (λ other. refuse stages.Block 4 reasons.BlockLength refl tt (omega (arith, size))))))))
+  goes stages.RecordFront filed sound size =
+      front_goes stages.RecordFront (λ alone after. Packets s.passes_cut alone s.order after) refl tt (λ a. tt) size sound.0 sound.1 (λ a after f. f) (λ bytes f. f)
+  goes stages.BlockFront filed sound size =
+      front_goes stages.BlockFront (λ alone after. Closing s.passes_cut alone s.order s.total s.interfaces after) refl tt (λ a. tt) size sound.0 sound.1 (λ a after f. f) (λ bytes f. f)
   goes stages.Trailer filed sound size =
       when (G stages.Trailer) (u32_at s.order 0 h == s.total) _ _
       (λ e. go stages.Trailer _ 4 refl tt tt clean refl (omega (arith, size, none, no_skip))
@@ -395,7 +489,7 @@ module _ (p w : ℕ) (s : Scan) (h : List ℕ) (clean : s.fault ≡ None) (none 
   goes stages.InterfaceHead filed sound size =
       let o = s.order in
       let i : Interface = record { link_type = u16_at o 0 h; snap_length = u32_at o 4 h; resolution = 6; has_offset = false } in
-      go stages.InterfaceHead _ 8 (after_filed s.rest) (after_sound s.total s.rest (omega (arith, sound.2, sound.1, sound.0))) tt clean refl
+      go stages.InterfaceHead _ 8 (after_filed s.rest) (after_sound s.alone s.total s.rest (omega (arith, sound.2, sound.1, sound.0))) tt clean refl
       (omega (arith, size, none, no_skip)) (λ more f.
       let q = options_after (context s) s.rest i more (unfilled _ more none no_skip f) in
       let options = options_bytes o q.options ++ end_bytes o q.end in
@@ -408,6 +502,7 @@ module _ (p w : ℕ) (s : Scan) (h : List ℕ) (clean : s.fault ≡ None) (none 
         kind_is = refl;
         size = omega (arith, length-append front options, eight, q.size, sound.1, sound.0);
         fits = (u16_low o h are 0, u32_low o h are 4, q.fit, q.ends, q.few);
+        captured = tt;
         joined = cat _ _ _ _ h_is q.joined ∙ sym (append_assoc front options q.tail);
         closing = q.closing;
       })
@@ -419,7 +514,7 @@ module _ (p w : ℕ) (s : Scan) (h : List ℕ) (clean : s.fault ≡ None) (none 
       let h_is : h ≡ u16_bytes o code ++ u16_bytes o n = u16_as o h are 0 refl (omega (arith, size)) (u16_ends o h are 2 refl size) in
       when (G stages.OptionHead) (code == 0) _ _
       (λ e. go stages.OptionHead _ s.rest refl tt tt clean refl (omega (arith, size, none, four)) (λ more f.
-      let q : (length s.interfaces < 64) × Closing s.passes_cut o s.total (s.interfaces ++ s.interface ∷ []) f.more = f.rest in
+      let q : (length s.interfaces < 64) × Closing s.passes_cut s.alone o s.total (s.interfaces ++ s.interface ∷ []) f.more = f.rest in
       record {
         options = [];
         end = Some (u16_bytes o n ++ f.fill);
@@ -451,7 +546,7 @@ module _ (p w : ℕ) (s : Scan) (h : List ℕ) (clean : s.fault ≡ None) (none 
       (λ no_offset. option_passed size sound s.interface (eq_untold code 0 e) (eq_untold code 9 not_nine) room
       (λ v. when_false _ _ _ not_nine ∙ when_false _ _ _ no_offset)))))
   goes stages.Resolution filed sound size =
-      go stages.Resolution _ 4 (after_filed s.rest) (after_sound s.total s.rest sound) tt clean refl (omega (arith, size, none, no_skip))
+      go stages.Resolution _ 4 (after_filed s.rest) (after_sound s.alone s.total s.rest sound) tt clean refl (omega (arith, size, none, no_skip))
       (λ more f.
       record {
         value = slice_index h 0;

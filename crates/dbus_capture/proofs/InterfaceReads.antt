@@ -9,7 +9,7 @@ use Rattle.dbus_capture.specs.Stages.{is_raw, begun}
 use Rattle.dbus_capture.specs.Scans.{place, refused}
 use Rattle.dbus_capture.specs.declared.fault.CaptureReason.TheVariants as reasons
 use Rattle.dbus_capture.specs.Blocks.{padded, after_option, pass_option, option_in}
-use Rattle.dbus_capture.specs.Steps.{run, told, given, Leads}
+use Rattle.dbus_capture.specs.Steps.{run, given, Leads}
 use Rattle.dbus_capture.specs.BlockFiles.{FitsBody, InterfaceOption, option_bytes, options_bytes, FitsOption, AllFitOptions, with_option, with_options, end_bytes, FitsEnd, InterfaceBlock, block_bytes, block_body, interfaces_after, FitsBlock}
 use Rattle.dbus_capture.proofs.Choices.{lt_false, eq_is, eq_not, eq_told, when_true, when_false, when_both}
 use Rattle.dbus_capture.proofs.NumberLaws.{u32_size, u16_size, u32_again, u16_again}
@@ -53,7 +53,7 @@ module _ (o : ByteOrder) (interfaces : List Interface) (total : ℕ) (t : Scan) 
       let e = two_told o code size p q in
       let s = at left i k in
       let here : s ≡ record s { head = begun stages.OptionHead } = ap (λ (v : Stage). record s { head = begun v }) (when_false _ _ _ (eq_not left 0 (λ z. absurd (omega (arith, some, z))))) in
-      lead_to (lead_from here (head_leads stages.OptionHead s (u16_bytes o code ++ u16_bytes o size) refl e.0))
+      lead_to (lead_from here (head_leads stages.OptionHead s (u16_bytes o code ++ u16_bytes o size) refl refl e.0))
       (ap (λ (v : Scan). option_in v (u16_at o 0 (u16_bytes o code ++ u16_bytes o size)) (u16_at o 2 (u16_bytes o code ++ u16_bytes o size))) (sym here)
       ∙ ap (λ (n : ℕ). option_in s n (u16_at o 2 (u16_bytes o code ++ u16_bytes o size))) e.1 ∙ ap (λ (n : ℕ). option_in s code n) e.2 ∙ when_false _ _ _ (eq_not code 0 no_end) ∙ when_false _ _ _ (lt_false (left - 4) (padded size) room))
 
@@ -68,7 +68,7 @@ module _ (o : ByteOrder) (interfaces : List Interface) (total : ℕ) (t : Scan) 
   resolved left more i k [] filler e v f = absurd (omega (arith, v))
   resolved left more i k (x ∷ xs) filler e v f =
       let four : length ((x ∷ xs) ++ filler) ≡ 4 = let l = length-append (x ∷ xs) filler in omega (arith, l, v, f) in
-      lead_to (head_leads stages.Resolution (record (at left i k) { next = place (k + 4); rest = left - 8 }) ((x ∷ xs) ++ filler) refl four)
+      lead_to (head_leads stages.Resolution (record (at left i k) { next = place (k + 4); rest = left - 8 }) ((x ∷ xs) ++ filler) refl refl four)
       (at_same (let z : left - 8 ≡ more = omega (arith, e) in z) refl (let z : place (place (k + 4) + 4) ≡ place (k + 8) = omega arith in z))
 
   option_taken : (more : ℕ) (i : Interface) (n : ℕ) (x : InterfaceOption) → FitsOption x → let one = length (option_bytes o x) in
@@ -96,7 +96,7 @@ module _ (o : ByteOrder) (interfaces : List Interface) (total : ℕ) (t : Scan) 
   -- the options, and their end
   options_taken : (more : ℕ) (i : Interface) (n : ℕ) (options : List InterfaceOption) → AllFitOptions options → let all = length (options_bytes o options) in
       Leads (at (all + more) i (place n)) (options_bytes o options) [] (at more (with_options i options) (place (n + all)))
-  unfolding run given told
+  unfolding run given
   options_taken more i n [] f = record { ran = at_same (let z : 0 + more ≡ more = omega arith in z) refl (let z : place n ≡ place (n + 0) = omega arith in z); gave = refl }
   options_taken more i n (x ∷ options) f =
       let one = option_bytes o x in
@@ -107,7 +107,7 @@ module _ (o : ByteOrder) (interfaces : List Interface) (total : ℕ) (t : Scan) 
       (at_same refl refl (let z : place (n + length one + length others) ≡ place (n + length (one ++ others)) = omega (arith, l) in z)))
 
   end_taken : (i : Interface) (n : ℕ) (end : Option (List ℕ)) → FitsEnd end → Leads (at (length (end_bytes o end)) i (place n)) (end_bytes o end) [] (at 0 i (place (n + length (end_bytes o end))))
-  unfolding run given told
+  unfolding run given
   end_taken i n None f = record { ran = at_same refl refl (let z : place n ≡ place (n + 0) = omega arith in z); gave = refl }
   end_taken i n (Some more) f =
       let bytes = u16_bytes o 0 ++ more in
@@ -122,18 +122,18 @@ module _ (o : ByteOrder) (interfaces : List Interface) (total : ℕ) (t : Scan) 
       let here : s ≡ record s { head = begun stages.OptionHead } = ap (λ (v : Stage). record s { head = begun v }) (when_false _ _ _ (eq_not (length bytes) 0 (λ z. absurd (omega (arith, left, z))))) in
       let m : Scan = record s { head = begun stages.InterfaceTrailer; next = place (place n + length bytes); rest = 0 } in
       lead_of (ap (λ (v : List ℕ). u16_bytes o 0 ++ v) (sym (take-append-drop 2 more)) ∙ sym (append_assoc (u16_bytes o 0) two (drop 2 more)))
-      (lead_to (lead_then (lead_to (lead_from here (head_leads stages.OptionHead s head refl four)) (when_true _ _ _ (eq_is _ 0 (end_told o two))))
+      (lead_to (lead_then (lead_to (lead_from here (head_leads stages.OptionHead s head refl refl four)) (when_true _ _ _ (eq_is _ 0 (end_told o two))))
       (bytes_lead m [] (drop 2 more) 0 (length bytes - 4) refl refl (omega (arith, left)))) (at_same refl refl (let z : place (place n + length bytes) ≡ place (n + length bytes) = omega arith in z)))
 
   -- the length at the end of the block
   closes : (i : Interface) (k : ℕ) → total < 2 ^ 32 → length interfaces < 64 → Leads (at 0 i k) (u32_bytes o total) [] (at_blocks o (interfaces ++ i ∷ []) (record (at 0 i k) { next = place (k + 4) }))
   closes i k low few =
       let size = u32_size o total in
-      lead_to (head_leads stages.InterfaceTrailer (at 0 i k) (u32_bytes o total) refl size) (when_true _ _ _ (eq_is _ _ (one_told o total low)) ∙ when_false _ _ _ (le_false 64 (length interfaces) few))
+      lead_to (head_leads stages.InterfaceTrailer (at 0 i k) (u32_bytes o total) refl refl size) (when_true _ _ _ (eq_is _ _ (one_told o total low)) ∙ when_false _ _ _ (le_false 64 (length interfaces) few))
 
-pub interface_read : (passes : Bool) (o : ByteOrder) (interfaces : List Interface) (s : Scan) (link_type reserved snap : ℕ) (options : List InterfaceOption) (end : Option (List ℕ)) → let block = InterfaceBlock link_type reserved snap options end in
-    FitsBlock passes interfaces block → FitsBody (block_body o block) → Went (at_blocks o (interfaces_after interfaces block)) (at_blocks o interfaces s) (block_bytes o block) []
-interface_read passes o interfaces s link_type reserved snap options end f b =
+pub interface_read : (o : ByteOrder) (interfaces : List Interface) (s : Scan) (link_type reserved snap : ℕ) (options : List InterfaceOption) (end : Option (List ℕ)) → let block = InterfaceBlock link_type reserved snap options end in
+    FitsBlock interfaces block → FitsBody (block_body o block) → Went (at_blocks o (interfaces_after interfaces block)) (at_blocks o interfaces s) (block_bytes o block) []
+interface_read o interfaces s link_type reserved snap options end f b =
     let e = interface_told o link_type reserved snap f.0 f.1 in
     let h = u16_bytes o link_type ++ (u16_bytes o reserved ++ u32_bytes o snap) in
     let spelled = options_bytes o options in
@@ -147,14 +147,14 @@ interface_read passes o interfaces s link_type reserved snap options end f b =
     let opened = opens_as o interfaces s 1 total 20 stages.InterfaceHead refl (omega arith) b.size b.whole (let l = length-append h (spelled ++ ending) in omega (arith, l, e.0)) in
     let described : Interface = record { link_type = u16_at o 0 h; snap_length = u32_at o 4 h; resolution = 6; has_offset = false } in
     let is : described ≡ i = simp (e.1, e.2) in
-    let headed = lead_to (head_leads stages.InterfaceHead m h refl e.0)
+    let headed = lead_to (head_leads stages.InterfaceHead m h refl refl e.0)
     (at_same o interfaces total m left is (let z : place (place (s.next + 8) + 8) ≡ place (s.next + 16) = omega arith in z)) in
     let n = s.next + 16 + length spelled + length ending in
     let closed = closes o interfaces total m (with_options i options) (place n) b.size f.4 in
     let tail = lead_then (options_taken o interfaces total m (length ending) i (s.next + 16) options f.2) (lead_then (end_taken o interfaces total m (with_options i options) (s.next + 16 + length spelled) end f.3) closed) in
     let size = framed_size o 1 body in
     went_on (at_blocks o (interfaces ++ with_options i options ∷ [])) (at_blocks o interfaces s) (record (at o interfaces total m 0 (with_options i options) (place n)) { next = place (place n + 4) }) _
-    (lead_of (regroup (u32_bytes o 1 ++ w) h spelled ending w) (lead_then opened (lead_then headed tail))) refl
+    (lead_of (regroup (u32_bytes o 1 ++ w) h spelled ending w) (lead_then opened (lead_then headed tail))) refl refl
     (let l = length-append h (spelled ++ ending) in let k = length-append spelled ending in omega (arith, size, l, k, e.0)) refl refl
   where
     regroup : (k h a b w : List ℕ) → k ++ ((h ++ (a ++ b)) ++ w) ≡ k ++ (h ++ (a ++ (b ++ w)))

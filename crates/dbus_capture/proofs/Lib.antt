@@ -14,3 +14,4 @@ pub mod ByteLaws
 pub mod Follows
 pub mod FollowsHeads
 pub mod Outcomes
+pub mod CutLaws

@@ -1,5 +1,5 @@
 -- Bytes that begin as a file does are one, or are refused behind what is whole of them.
-use Rattle.std.proofs.Common.{◌≡◌, ℕ, Bool, false, List, [], ◌∷◌, ◌++◌, length, Option, None, Some, refl, sym, ap, subst, ◌∙◌, arith}
+use Rattle.std.proofs.Common.{◌≡◌, ℕ, Bool, true, false, List, [], ◌∷◌, ◌++◌, length, Option, None, Some, refl, sym, ap, subst, ◌∙◌, arith}
 use Rattle.dbus_capture.specs.Types.{Stage, FileHeader, Section, CaptureFault, Scan}
 use Rattle.dbus_capture.specs.Stages.{is_raw}
 use Rattle.dbus_capture.specs.Scans.{place, fresh}
@@ -22,7 +22,7 @@ record Fronted (s : Scan) (front payload : List ℕ) : Type 0 where
   leads : Leads s front payload final
   stands : Standing (length front) 0 final
 
-module _ (passes : Bool) (first : Stage) (filed : is_raw first ≡ false) (sound : IsSound first 0 0) (IsFile : List ℕ → List ℕ → Type 0)
+module _ (passes : Bool) (first : Stage) (filed : is_raw first ≡ false) (sound : IsSound first true 0 0) (IsFile : List ℕ → List ℕ → Type 0)
     (fronted : (front payload : List ℕ) → IsFile front payload → Fronted (fresh passes first) front payload) (bytes : List ℕ) (are : AreBytes bytes) where
   abbrev s : Scan
   s = fresh passes first
@@ -58,7 +58,7 @@ module _ (passes : Bool) (first : Stage) (filed : is_raw first ≡ false) (sound
       }
 
 fronted_by : (at : Scan → Scan) (s : Scan) (front bytes payload : List ℕ) (packets : List Captured) → ((t : Scan) (n : ℕ) → (at t).next ≡ place n → Standing n 0 (at t)) → s.next ≡ 0
-    → front ≡ bytes → payload ≡ whole_payload packets → Went at s bytes packets → Fronted s front payload
+    → front ≡ bytes → payload ≡ whole_payload s.alone packets → Went at s bytes packets → Fronted s front payload
 fronted_by at s front bytes payload packets stands zero same gives w =
     let size = ap length same in
     record {
@@ -70,22 +70,22 @@ fronted_by at s front bytes payload packets stands zero same gives w =
 pcap_fronted : (passes : Bool) (front payload : List ℕ) → IsPcap passes front payload → Fronted (fresh passes FileHeader) front payload
 pcap_fronted passes front payload (f, gives) =
     fronted_by (at_packets f.head.order f.head.nanoseconds) (fresh passes FileHeader) front _ payload _ (λ t n e. record { filed = refl; sound = tt; are = tt; at = (0, omega (arith, e), omega arith) }) refl f.joined gives
-    (pcap_file passes f.head f.fits f.packets f.fit)
+    (pcap_file passes f.head f.fits f.packets f.fit f.captured)
 
 pcapng_fronted : (passes : Bool) (front payload : List ℕ) → IsPcapng passes front payload → Fronted (fresh passes Section) front payload
 pcapng_fronted passes front payload (f, gives) =
     let last = last_section f.first f.sections in
     fronted_by (at_blocks last.order (interfaces_all [] last.blocks)) (fresh passes Section) front _ payload _ (λ t n e. record { filed = refl; sound = tt; are = tt; at = (0, omega (arith, e), omega arith) }) refl f.joined gives
-    (pcapng_file passes f.first f.sections f.fits f.fit)
+    (pcapng_file passes f.first f.sections f.fits f.fit f.captured)
 
 pub pcap_outcome : (passes : Bool) (bytes : List ℕ) → AreBytes bytes → first_stage bytes ≡ FileHeader
     → IsOutcome (IsPcap passes) bytes (given (first_scan passes bytes) bytes) (ended (run (first_scan passes bytes) bytes)).fault
 pcap_outcome passes bytes are first =
     outcome passes FileHeader refl tt (IsPcap passes) (pcap_fronted passes) bytes are first
-    (λ f. (f, ap (given (fresh passes FileHeader)) f.joined ∙ (pcap_file passes f.head f.fits f.packets f.fit).leads.gave))
+    (λ f. (f, ap (given (fresh passes FileHeader)) f.joined ∙ (pcap_file passes f.head f.fits f.packets f.fit f.captured).leads.gave))
 
 pub pcapng_outcome : (passes : Bool) (bytes : List ℕ) → AreBytes bytes → first_stage bytes ≡ Section
     → IsOutcome (IsPcapng passes) bytes (given (first_scan passes bytes) bytes) (ended (run (first_scan passes bytes) bytes)).fault
 pcapng_outcome passes bytes are first =
     outcome passes Section refl tt (IsPcapng passes) (pcapng_fronted passes) bytes are first
-    (λ f. (f, ap (given (fresh passes Section)) f.joined ∙ (pcapng_file passes f.first f.sections f.fits f.fit).leads.gave))
+    (λ f. (f, ap (given (fresh passes Section)) f.joined ∙ (pcapng_file passes f.first f.sections f.fits f.fit f.captured).leads.gave))

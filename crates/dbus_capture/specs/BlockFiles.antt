@@ -4,7 +4,7 @@ use Rattle.std.specs.Prelude.{◌≡◌, ◌≢◌, ℕ, ◌+◌, ◌<◌, ◌�
 use Rattle.dbus_capture.specs.Types.{ByteOrder, Interface}
 use Rattle.dbus_capture.specs.Numbers.{u32_bytes, u16_bytes}
 use Rattle.dbus_capture.specs.Blocks.{padded, captured_length}
-use Rattle.dbus_capture.specs.CutPackets.{Captured, IsCaptured}
+use Rattle.dbus_capture.specs.CutPackets.{Captured}
 
 -- a block of a type and a body, whose length is at both of its ends
 abbrev pub framed_bytes : ByteOrder → ℕ → List ℕ → List ℕ
@@ -115,10 +115,6 @@ interfaces_after interfaces (InterfaceBlock link_type reserved snap_length optio
     interfaces ++ with_options (record { link_type = link_type; snap_length = snap_length; resolution = 6; has_offset = false }) options ∷ []
 interfaces_after interfaces block = interfaces
 
--- a D-Bus packet was captured whole, or it may be passed over
-abbrev pub IsCapturedBy : (passes_cut : Bool) → Interface → (original : ℕ) → List ℕ → Type 0
-IsCapturedBy passes_cut i original bytes = i.link_type ≡ 231 → IsCaptured passes_cut original (length bytes)
-
 -- a packet's interface is there
 abbrev pub HasInterface : List Interface → ℕ → (Interface → Type 0) → Type 0
 HasInterface interfaces number P = (i : Interface) × (slice_get interfaces number ≡ Some i) × P i
@@ -135,17 +131,17 @@ FitsHead (EnhancedHead number high low) i captured original = number < 2 ^ 32
 FitsHead (ObsoleteHead number drops high low) i captured original = number < 2 ^ 16
 FitsHead SimpleHead i captured original = captured_length i.snap_length original ≡ captured
 
-abbrev pub FitsBlock : (passes_cut : Bool) → List Interface → FileBlock → Type 0
-FitsBlock passes_cut interfaces (InterfaceBlock link_type reserved snap_length options end) =
+abbrev pub FitsBlock : List Interface → FileBlock → Type 0
+FitsBlock interfaces (InterfaceBlock link_type reserved snap_length options end) =
     (link_type < 2 ^ 16) × (snap_length < 2 ^ 32) × AllFitOptions options × FitsEnd end × (length interfaces < 64)
-FitsBlock passes_cut interfaces (PacketBlock head original bytes rest) = (original < 2 ^ 32) × (padded (length bytes) ≤ length bytes + length rest)
-    × HasInterface interfaces (head_interface head) (λ i. FitsHead head i (length bytes) original × IsCapturedBy passes_cut i original bytes)
-FitsBlock passes_cut interfaces (OtherBlock kind body) =
+FitsBlock interfaces (PacketBlock head original bytes rest) = (original < 2 ^ 32) × (padded (length bytes) ≤ length bytes + length rest)
+    × HasInterface interfaces (head_interface head) (λ i. FitsHead head i (length bytes) original)
+FitsBlock interfaces (OtherBlock kind body) =
     (kind < 2 ^ 32) × (kind ≢ 1) × (kind ≢ 2) × (kind ≢ 3) × (kind ≢ 6) × (kind ≢ 0x0a0d0d0a)
 
-abbrev pub AllFitBlocks : (passes_cut : Bool) → ByteOrder → List Interface → List FileBlock → Type 0
-AllFitBlocks passes_cut order interfaces [] = Unit {0}
-AllFitBlocks passes_cut order interfaces (block ∷ blocks) = FitsBlock passes_cut interfaces block × FitsBody (block_body order block) × AllFitBlocks passes_cut order (interfaces_after interfaces block) blocks
+abbrev pub AllFitBlocks : ByteOrder → List Interface → List FileBlock → Type 0
+AllFitBlocks order interfaces [] = Unit {0}
+AllFitBlocks order interfaces (block ∷ blocks) = FitsBlock interfaces block × FitsBody (block_body order block) × AllFitBlocks order (interfaces_after interfaces block) blocks
 
 -- ---- sections
 
@@ -163,15 +159,15 @@ section_body s = (u32_bytes s.order 0x1a2b3c4d ++ (u16_bytes s.order 1 ++ (u16_b
 abbrev pub section_bytes : FileSection → List ℕ
 section_bytes s = framed_bytes s.order 0x0a0d0d0a (section_body s) ++ blocks_bytes s.order s.blocks
 
-pub record FitsSection (passes_cut : Bool) (s : FileSection) : Type 0 where
+pub record FitsSection (s : FileSection) : Type 0 where
   pub minor : (s.minor ≡ 0) ⊎ (s.minor ≡ 2)
   pub size : length s.size ≡ 8
   pub body : FitsBody (section_body s)
-  pub blocks : AllFitBlocks passes_cut s.order [] s.blocks
+  pub blocks : AllFitBlocks s.order [] s.blocks
 
-abbrev pub AllFitSections : (passes_cut : Bool) → List FileSection → Type 0
-AllFitSections passes_cut [] = Unit {0}
-AllFitSections passes_cut (s ∷ sections) = FitsSection passes_cut s × AllFitSections passes_cut sections
+abbrev pub AllFitSections : List FileSection → Type 0
+AllFitSections [] = Unit {0}
+AllFitSections (s ∷ sections) = FitsSection s × AllFitSections sections
 
 -- a file has one section or more
 abbrev pub sections_bytes : List FileSection → List ℕ

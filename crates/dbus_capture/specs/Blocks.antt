@@ -2,12 +2,12 @@
 -- File Structure" and "Block Definition".
 use Rattle.std.specs.Prelude.{ℕ, ◌+◌, ◌-◌, ◌*◌, ◌/◌, ◌^◌, ◌%◌, ◌&&◌, ◌||◌, ◌==◌, nat_lt, nat_le, Bool, true, false, if◌then◌else◌, List, [], ◌∷◌, ◌++◌, length, slice_get, slice_index, Option, Some, None}
 use Rattle.dbus_capture.specs.Types.{Stage, Raw, FileHeader, Record, Section, Block, InterfaceHead, OptionHead, Resolution}
-use Rattle.dbus_capture.specs.Types.{InterfaceTrailer, Enhanced, ObsoletePacket, Simple, Trailer, ByteOrder, Little, Big, Magic, Version}
+use Rattle.dbus_capture.specs.Types.{InterfaceTrailer, Enhanced, ObsoletePacket, Simple, RecordFront, BlockFront, Trailer, ByteOrder, Little, Big, Magic, Version}
 use Rattle.dbus_capture.specs.Types.{Lengths, BlockLength, BlockLengths, OrderMark, OptionLength, TooManyInterfaces, NoInterface, Interface}
 use Rattle.dbus_capture.specs.Types.{PacketHead, Scan}
 use Rattle.dbus_capture.specs.Stages.{begun}
 use Rattle.dbus_capture.specs.Scans.{place, refused}
-use Rattle.dbus_capture.specs.Heads.{file_header, record_head, pass_packet, packet_head}
+use Rattle.dbus_capture.specs.Heads.{file_header, record_head, pass_packet, packet_head, front_head}
 use Rattle.dbus_capture.specs.Numbers.{u32_at, u16_at}
 
 -- a length, up to a multiple of four
@@ -191,6 +191,8 @@ decoded_by InterfaceTrailer s head = interface_trailer s head
 decoded_by Enhanced s head = enhanced_head s head
 decoded_by ObsoletePacket s head = obsolete_head s head
 decoded_by Simple s head = simple_head s head
+decoded_by RecordFront s head = front_head s head
+decoded_by BlockFront s head = front_head s head
 decoded_by Trailer s head = trailer s head
 
 unfoldable pub decoded : Scan → List ℕ → Scan

@@ -1,5 +1,5 @@
 -- What a capture reads of its file, and what it hands on.
-use Rattle.std.specs.Prelude.{◌≡◌, ◌≢◌, ℕ, ◌+◌, ◌<◌, ◌≤◌, ◌^◌, ◌%◌, ◌⊎◌, ◌++◌, Bool, true, false, if◌then◌else◌, List, [], ◌∷◌, take, length, slice_range, Option, Some, None, is_some, Result, Ok, Err, IfOk}
+use Rattle.std.specs.Prelude.{◌≡◌, ◌≢◌, ℕ, ◌+◌, ◌<◌, ◌≤◌, ◌^◌, ◌%◌, ◌⊎◌, ◌++◌, Bool, true, false, if◌then◌else◌, List, [], ◌∷◌, take, length, replicate, get_or, slice_range, Option, Some, None, is_some, Result, Ok, Err, IfOk}
 use Rattle.std.specs.Io.KnownBytes.{Consumes, IsAtEnd, prepend_known}
 use Rattle.std.specs.List.{All}
 use Rattle.dbus_device.specs.Device.{one_more, ReadCounts}
@@ -8,7 +8,7 @@ use Rattle.dbus_capture.specs.Types.{DeviceFault, Packet, Scan}
 use Rattle.dbus_device.specs.Packets.{Packets}
 use Rattle.dbus_capture.specs.Stages.{begun}
 use Rattle.dbus_capture.specs.Beginnings.{first_stage}
-use Rattle.dbus_capture.specs.Steps.{IsPart, IsOfOnePacket, Leads, run, given, packet_given, ended}
+use Rattle.dbus_capture.specs.Steps.{run, given, packets_given, ended}
 use Rattle.dbus_capture.specs.declared.capture.Capture.{Capture}
 use Rattle.dbus_capture.specs.declared.input.Input.{Input}
 
@@ -35,6 +35,10 @@ source_of s = s.source
 abbrev pub scan_of : {R : Type 0} → Input R → Scan
 scan_of s = s.scan
 
+-- the first bytes of a packet that were not handed on yet
+abbrev pub owed_of : {R : Type 0} → Input R → List ℕ
+owed_of s = s.owed
+
 -- whether it is known what the input is
 abbrev pub chosen_of : {R : Type 0} → Input R → Bool
 chosen_of s = s.chosen
@@ -55,10 +59,10 @@ failures_of failures s = (failures (source_of s) + gave_up_of s) % 2 ^ 64
 abbrev pub file_of : {R : Type 0} → (R → Option (List ℕ)) → Input R → Option (List ℕ)
 file_of left s = prepend_known (kept_of s) (left (source_of s))
 
--- what is handed on of bytes, if they are known
-abbrev pub given_of : Scan → Option (List ℕ) → Option (List ℕ)
-given_of s None = None
-given_of s (Some bytes) = Some (given s bytes)
+-- what is handed on of bytes, if they are known, after those that are owed
+abbrev pub given_of : (owed : List ℕ) → Scan → Option (List ℕ) → Option (List ℕ)
+given_of owed s None = None
+given_of owed s (Some bytes) = Some (owed ++ given s bytes)
 
 -- What is kept before these bytes, the rest of the file: of an input of which nothing was taken,
 -- they say what it is.
@@ -75,16 +79,19 @@ opened_of left s = opened s (known (file_of left s))
 
 -- the bytes of the packets that were not handed on yet, if they are known
 abbrev pub left_of : {R : Type 0} → (R → Option (List ℕ)) → Input R → Option (List ℕ)
-left_of left s = given_of (opened_of left s) (file_of left s)
+left_of left s = given_of (owed_of s) (opened_of left s) (file_of left s)
 
--- of which packet each byte is that is handed on of bytes, if they are known
-abbrev pub packets_by : Scan → Option (List ℕ) → Option Packets
-packets_by s None = None
-packets_by s (Some bytes) = Some (packet_given s bytes)
+-- of which packet each of these is: those that are owed are of the one that began last
+abbrev pub packets_from : (owed : List ℕ) → Scan → List ℕ → List (Option Packet)
+packets_from owed s bytes = replicate (length owed) s.packet ++ packets_given s bytes
+
+abbrev pub packets_by : (owed : List ℕ) → Scan → Option (List ℕ) → Option Packets
+packets_by owed s None = None
+packets_by owed s (Some bytes) = Some (λ i. get_or (packets_from owed s bytes) i None)
 
 -- of which packet each byte is that was not handed on yet, if the bytes of the file are known
 abbrev pub packets_of : {R : Type 0} → (R → Option (List ℕ)) → Input R → Option Packets
-packets_of left s = packets_by (opened_of left s) (file_of left s)
+packets_of left s = packets_by (owed_of s) (opened_of left s) (file_of left s)
 
 -- No call of the source below was made but where it was not known what the input is, and fewer than
 -- four bytes of it were there; and each of these calls gave a byte.
@@ -98,6 +105,7 @@ pub record Fetches {R : Type 0} (left : R → Option (List ℕ)) (calls : R → 
   pub called : ReadsPieces left calls (source_of old) pieces (source_of new)
   pub first : AreFirst old pieces
   pub kept : kept_of new ≡ kept_of old ++ joined pieces
+  pub owed : owed_of new ≡ owed_of old
   pub gave_up : gave_up_of new ≡ gave_up_of old
 
 -- Four bytes of an input are there, or it ends; so it is known what it is. Nothing changes if that
@@ -109,6 +117,10 @@ pub record Begins {R : Type 0} (left : R → Option (List ℕ)) (calls failures 
   pub chosen : chosen_of new ≡ true
   pub unfailed : failures (source_of new) ≡ failures (source_of old)
 
+-- the file has a fault, and nothing is owed
+abbrev pub IsStopped : {R : Type 0} → Input R → Type 0
+IsStopped s = (is_some (scan_of s).fault ≡ true) × (owed_of s ≡ [])
+
 -- it is not known yet what an input is: the source below failed, or there is no room
 pub record Waits {R : Type 0} (left : R → Option (List ℕ)) (calls failures : R → ℕ) (old new : Input R) (result : Result ℕ DeviceFault) (room : ℕ) : Type 0 where
   pub fetches : Fetches left calls old new
@@ -116,7 +128,7 @@ pub record Waits {R : Type 0} (left : R → Option (List ℕ)) (calls failures :
   pub before : chosen_of old ≡ false
   pub after : chosen_of new ≡ false
   pub counted : ReadCounts (failures (source_of old)) (failures (source_of new)) result
-  pub nothing : IfOk result (λ n. (n ≡ 0) × (0 < room → is_some (scan_of new).fault ≡ true))
+  pub nothing : IfOk result (λ n. (n ≡ 0) × (0 < room → IsStopped new))
 
 -- bytes of the file are kept, or the input is at its end
 abbrev pub HasBytes : {R : Type 0} → (R → Option (List ℕ)) → Input R → Result Bool DeviceFault → Type 0
@@ -129,29 +141,31 @@ HasBytes left new (Err e) = kept_of new ≡ []
 abbrev pub Fills : {R : Type 0} → (R → Option (List ℕ)) → (R → ℕ) → Input R → Input R → Type 0
 Fills left calls old new = ((kept_of old ≢ []) × (new ≡ old)) ⊎ ((kept_of old ≡ []) × ReadsPiece left calls (source_of old) (kept_of new) (source_of new))
 
--- bytes that were kept were taken, and these n of them are a packet's
-pub record HandsOn {R : Type 0} (old new : Input R) (n : ℕ) (out : List ℕ) : Type 0 where
+-- These bytes of the file were taken, and these were handed on, all of the packet that began last.
+-- What was owed is handed on first.
+pub record Hands {R : Type 0} (old : Input R) (used out : List ℕ) (new : Input R) : Type 0 where
+  pub ran : run (scan_of old) used ≡ scan_of new
+  pub gave : owed_of old ++ given (scan_of old) used ≡ out ++ owed_of new
+  pub one : packets_from (owed_of old) (scan_of old) used ≡ replicate (length out) (scan_of new).packet ++ replicate (length (owed_of new)) (scan_of new).packet
+
+-- the bytes that were taken were kept
+pub record HandsOn {R : Type 0} (old new : Input R) (out : List ℕ) : Type 0 where
   pub used : List ℕ
   pub front : kept_of old ≡ used ++ kept_of new
-  pub leads : Leads (scan_of old) used out (scan_of new)
-  pub one : 0 < n → (length used ≡ n) × IsPart (scan_of old) (scan_of new) n
+  pub leads : Hands old used out new
 
--- bytes of the file were taken, and those of packets among them are these
+-- bytes of the file were taken
 pub record Reads {R : Type 0} (left : R → Option (List ℕ)) (old new : Input R) (out : List ℕ) : Type 0 where
   pub used : List ℕ
   pub consumed : Consumes (file_of left old) (file_of left new) used
-  pub leads : Leads (scan_of old) used out (scan_of new)
-
--- the same, and these n bytes are all of one packet
-pub record GivesPart {R : Type 0} (left : R → Option (List ℕ)) (old new : Input R) (n : ℕ) (out : List ℕ) : Type 0 where
-  pub reads : Reads left old new out
-  pub one : 0 < n → IsOfOnePacket (scan_of old) (scan_of new) reads.used n
+  pub leads : Hands old used out new
 
 -- the rest of the file was taken, no byte of which is a packet's
 pub record Ends {R : Type 0} (left : R → Option (List ℕ)) (old new : Input R) : Type 0 where
   pub used : List ℕ
   pub consumed : Consumes (file_of left old) (file_of left new) used
-  pub gave : given (scan_of old) used ≡ []
+  pub gave : owed_of old ++ given (scan_of old) used ≡ []
+  pub owed : owed_of new ≡ []
   pub ran : scan_of new ≡ ended (run (scan_of old) used)
   pub nothing : kept_of new ≡ []
   pub at_end : IsAtEnd (left (source_of new))
@@ -179,22 +193,22 @@ pub record GivesUp {R : Type 0} (left : R → Option (List ℕ)) (failures : R �
 -- if there is no room.
 abbrev pub ReadsPart : {R : Type 0} → (R → Option (List ℕ)) → (R → ℕ) → Input R → Input R → Result ℕ DeviceFault → List ℕ → Type 0
 ReadsPart left failures old new (Ok n) buffer = IsUnfailed failures old new
-    × ((GivesPart left old new n (take n buffer) × (n ≡ 0 → 0 < length buffer → is_some (scan_of new).fault ≡ true))
+    × ((Reads left old new (take n buffer) × (n ≡ 0 → 0 < length buffer → IsStopped new))
     ⊎ ((n ≡ 0) × Ends left old new))
 ReadsPart left failures old new (Err e) buffer = SourceFails left failures old new ⊎ GivesUp left failures old new
 
--- No call of the source below was made but where the bytes that were kept, and then those that the
--- calls before it gave, hold none of a packet; and each of these calls gave a byte.
-abbrev pub AreNeeded : Scan → (kept : List ℕ) → (pieces : List (List ℕ)) → Type 0
-AreNeeded s kept [] = Unit {0}
-AreNeeded s kept (last ∷ before) = (given s (kept ++ joined before) ≡ []) × All HasByte before
+-- No call of the source below was made but where nothing is owed, and the bytes that were kept, and
+-- then those that the calls before it gave, hold none of a packet; and each of these calls gave a byte.
+abbrev pub AreNeeded : {R : Type 0} → Input R → (pieces : List (List ℕ)) → Type 0
+AreNeeded s [] = Unit {0}
+AreNeeded s (last ∷ before) = (owed_of s ++ given (scan_of s) (kept_of s ++ joined before) ≡ []) × All HasByte before
 
 -- What a read asks of the source below. A call of it gives no byte only if the read fails, or finds
 -- the end.
 pub record Asks {R : Type 0} (left : R → Option (List ℕ)) (calls : R → ℕ) (old new : Input R) (result : Result ℕ DeviceFault) : Type 0 where
   pub pieces : List (List ℕ)
   pub called : ReadsPieces left calls (source_of old) pieces (source_of new)
-  pub needed : AreNeeded (scan_of old) (kept_of old) pieces
+  pub needed : AreNeeded old pieces
   pub found : All HasByte pieces ⊎ IfOk result (λ n. (n ≡ 0) × Ends left old new)
 
 -- after a fault, or if there is no room, nothing is read and nothing changes
@@ -202,9 +216,10 @@ pub record IsStill {R : Type 0} (old new : Input R) (result : Result ℕ DeviceF
   pub gives : result ≡ Ok 0
   pub source : source_of new ≡ source_of old
   pub scan : scan_of new ≡ scan_of old
+  pub owed : owed_of new ≡ owed_of old
 
 abbrev pub Stops : {R : Type 0} → Input R → Input R → Result ℕ DeviceFault → (room : ℕ) → Type 0
-Stops old new result room = (is_some (scan_of old).fault ≡ true) ⊎ (room ≡ 0) → IsStill old new result
+Stops old new result room = IsStopped old ⊎ (room ≡ 0) → IsStill old new result
 
 -- a read of an input of which it is known what it is, after what that took
 pub record ReadsOn {R : Type 0} (left : R → Option (List ℕ)) (calls failures : R → ℕ) (old new : Input R) (result : Result ℕ DeviceFault) (buffer : List ℕ) : Type 0 where

@@ -1,5 +1,5 @@
 -- What is reported of a packet.
-use Rattle.std.specs.Prelude.{◌≡◌, ◌+◌, ◌*◌, ◌^◌, ◌<◌, ℕ, zero, suc, List, ◌++◌, length, Option, Some, None, Result, Ok, Err}
+use Rattle.std.specs.Prelude.{◌≡◌, ◌+◌, ◌*◌, ◌^◌, ◌<◌, ℕ, zero, suc, true, List, ◌++◌, length, Option, Some, None, Result, Ok, Err}
 use Rattle.dbus_capture.specs.Types.{Packet, DeviceFault, ByteOrder, Interface, Scan}
 use Rattle.dbus_capture.specs.Scans.{place}
 use Rattle.dbus_capture.specs.Heads.{record_time}
@@ -23,7 +23,7 @@ Reports s packet = s.packet ≡ Some packet
 -- of the packet that follows these; those that were cut have no number
 abbrev pub pcap_packet_reported : PcapHeader → List PcapPacket → PcapPacket → Packet
 pcap_packet_reported h packets p = record {
-  number = place (whole_count (captures packets) + 1);
+  number = place (whole_count true (captures packets) + 1);
   at = place (length (pcap_bytes h packets));
   time = Some (record_time h.nanoseconds p.seconds p.fraction);
   length = length p.bytes;
@@ -49,7 +49,7 @@ block_front order form bytes rest =
 -- of a packet of this interface, whose block follows these sections
 abbrev pub pcapng_packet_reported : List FileSection → Interface → PacketForm → List ℕ → Packet
 pcapng_packet_reported sections i form bytes = record {
-  number = place (whole_count (sections_packets sections) + 1);
+  number = place (whole_count true (sections_packets sections) + 1);
   at = place (length (sections_bytes sections));
   time = head_time i form;
   length = length bytes;

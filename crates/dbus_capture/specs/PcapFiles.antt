@@ -3,7 +3,7 @@
 use Rattle.std.specs.Prelude.{◌≡◌, ℕ, ◌<◌, ◌^◌, Bool, true, false, List, [], ◌∷◌, ◌++◌, length}
 use Rattle.dbus_capture.specs.Types.{ByteOrder}
 use Rattle.dbus_capture.specs.Numbers.{u32_bytes, u16_bytes}
-use Rattle.dbus_capture.specs.CutPackets.{Captured, IsCaptured}
+use Rattle.dbus_capture.specs.CutPackets.{Captured}
 
 -- What the header of a file says. The twelve bytes of its two reserved fields and its snap length
 -- may be any.
@@ -41,20 +41,22 @@ abbrev pub pcap_bytes : PcapHeader → List PcapPacket → List ℕ
 pcap_bytes h packets = header_bytes h ++ packets_bytes h.order packets
 
 -- how its packets were captured
+abbrev pub capture_of : PcapPacket → Captured
+capture_of p = record { original = p.original; bytes = p.bytes }
+
 abbrev pub captures : List PcapPacket → List Captured
 captures [] = []
-captures (p ∷ packets) = record { original = p.original; bytes = p.bytes } ∷ captures packets
+captures (p ∷ packets) = capture_of p ∷ captures packets
 
 -- what has a spelling
 pub record FitsHeader (h : PcapHeader) : Type 0 where
   pub unread : length h.unread ≡ 12
 
-pub record FitsPacket (passes_cut : Bool) (p : PcapPacket) : Type 0 where
+pub record FitsPacket (p : PcapPacket) : Type 0 where
   pub seconds : p.seconds < 2 ^ 32
   pub fraction : p.fraction < 2 ^ 32
   pub original : p.original < 2 ^ 32
-  pub captured : IsCaptured passes_cut p.original (length p.bytes)
 
-abbrev pub AllFitPackets : (passes_cut : Bool) → List PcapPacket → Type 0
-AllFitPackets passes_cut [] = Unit {0}
-AllFitPackets passes_cut (p ∷ packets) = FitsPacket passes_cut p × AllFitPackets passes_cut packets
+abbrev pub AllFitPackets : List PcapPacket → Type 0
+AllFitPackets [] = Unit {0}
+AllFitPackets (p ∷ packets) = FitsPacket p × AllFitPackets packets

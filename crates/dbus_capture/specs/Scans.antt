@@ -1,5 +1,5 @@
 -- What is kept between the bytes of a file that were taken and those that come.
-use Rattle.std.specs.Prelude.{ℕ, ◌+◌, ◌^◌, ◌%◌, Bool, false, [], Some, None}
+use Rattle.std.specs.Prelude.{ℕ, ◌+◌, ◌^◌, ◌%◌, Bool, true, false, [], Some, None}
 use Rattle.dbus_capture.specs.Types.{Stage, Little, CaptureReason, Scan}
 use Rattle.dbus_capture.specs.Stages.{begun}
 
@@ -18,6 +18,8 @@ fresh passes stage = record {
   nanoseconds = false;
   total = 0;
   rest = 0;
+  behind = 0;
+  alone = true;
   interface = record { link_type = 0; snap_length = 0; resolution = 6; has_offset = false };
   interfaces = [];
   passes_cut = passes;

@@ -1,9 +1,10 @@
 -- How a file is read, byte by byte. The code takes many bytes at once, and gives what this gives.
-use Rattle.std.specs.Prelude.{◌≡◌, ◌≤◌, ◌⊎◌, ℕ, zero, suc, ◌+◌, ◌-◌, ◌^◌, nat_eq, Bool, true, false, if◌then◌else◌, List, [], ◌∷◌, ◌++◌, length, get_or, Option, Some, None}
+use Rattle.std.specs.Prelude.{◌≡◌, ℕ, zero, suc, ◌+◌, ◌-◌, ◌^◌, nat_eq, Bool, true, false, if◌then◌else◌, List, [], ◌∷◌, ◌++◌, length, replicate, get_or, Option, Some, None}
 use Rattle.dbus_capture.specs.Types.{Packet, Stage, Record, Block, CaptureFault, Truncated, Scan}
 use Rattle.dbus_device.specs.Packets.{Packets}
 use Rattle.dbus_capture.specs.Stages.{begun, want, is_raw}
 use Rattle.dbus_capture.specs.Scans.{place}
+use Rattle.dbus_capture.specs.Heads.{front_out}
 use Rattle.dbus_capture.specs.Blocks.{decoded}
 
 -- what is done with the next byte
@@ -44,11 +45,15 @@ stepped s b Gives = record s { give = s.give - 1 }
 stepped s b Skips = record s { skip = s.skip - 1 }
 stepped s b Gathers = gathered s (s.head.bytes ++ b ∷ [])
 
--- this of a byte, if it is handed on, and then the rest
-abbrev pub with_byte : {A : Type 0} → Turn → A → List A → List A
-with_byte Passes b rest = b ∷ rest
-with_byte Gives b rest = b ∷ rest
-with_byte _ b rest = rest
+-- what is handed on at a byte: it, or the first bytes of a packet at the last of them
+abbrev pub gathered_out : Scan → List ℕ → List ℕ
+gathered_out s bytes = if nat_eq (length bytes) (want s.head.stage) then front_out s bytes else []
+
+abbrev pub handed : Scan → ℕ → Turn → List ℕ
+handed s b Passes = b ∷ []
+handed s b Gives = b ∷ []
+handed s b Gathers = gathered_out s (s.head.bytes ++ b ∷ [])
+handed s b _ = []
 
 unfoldable pub step : Scan → ℕ → Scan
 step s b = stepped s b (turn_of s)
@@ -58,41 +63,29 @@ unfoldable pub run : Scan → List ℕ → Scan
 run s [] = s
 run s (b ∷ bytes) = run (step s b) bytes
 
--- what is told of each byte that is handed on of these, by what is kept before it
-unfoldable pub told : {A : Type 0} → (Scan → ℕ → A) → Scan → List ℕ → List A
-told tells s [] = []
-told tells s (b ∷ bytes) = with_byte (turn_of s) (tells s b) (told tells (step s b) bytes)
-
 -- what is handed on of these bytes
 unfoldable pub given : Scan → List ℕ → List ℕ
-given s bytes = told (λ t b. b) s bytes
+given s [] = []
+given s (b ∷ bytes) = handed s b (turn_of s) ++ given (step s b) bytes
+
+-- the packet of each byte that is handed on of these: the one that began last
+unfoldable pub packets_given : Scan → List ℕ → List (Option Packet)
+packets_given s [] = []
+packets_given s (b ∷ bytes) = replicate (length (handed s b (turn_of s))) (step s b).packet ++ packets_given (step s b) bytes
 
 -- these bytes lead from one state to another, and those that are handed on of them are these
 pub record Leads (old : Scan) (bytes out : List ℕ) (new : Scan) : Type 0 where
   pub ran : run old bytes ≡ new
   pub gave : given old bytes ≡ out
 
--- the packet of each byte that is handed on of these: the one that began last
-unfoldable pub packets_given : Scan → List ℕ → List (Option Packet)
-packets_given s bytes = told (λ t b. t.packet) s bytes
+-- the same, and these are all of one packet, the one that began last
+pub record LeadsWithin (old : Scan) (bytes out : List ℕ) (new : Scan) : Type 0 where
+  pub leads : Leads old bytes out new
+  pub one : packets_given old bytes ≡ replicate (length out) new.packet
 
 -- the packet of the byte of this number among those that are handed on
 abbrev pub packet_given : Scan → List ℕ → Packets
 packet_given s bytes i = get_or (packets_given s bytes) i None
-
--- so many bytes were handed on, all of the packet that was under way; or no file is around them
-abbrev pub IsPart : Scan → Scan → ℕ → Type 0
-IsPart old new n = ((n ≤ old.give) × (new.give ≡ old.give - n) × (new.packet ≡ old.packet)) ⊎ (is_raw new.head.stage ≡ true)
-
--- Nothing was handed on but the last n bytes, and these are all of one packet: the one that began
--- last.
-pub record IsOfOnePacket (old new : Scan) (used : List ℕ) (n : ℕ) : Type 0 where
-  pub before : List ℕ
-  pub last : List ℕ
-  pub joined : used ≡ before ++ last
-  pub size : length last ≡ n
-  pub nothing : given old before ≡ []
-  pub part : IsPart (run old before) new n
 
 -- whether the file may end here
 abbrev pub may_end : Turn → Stage → List ℕ → Bool

@@ -13,4 +13,4 @@ pub use Rattle.dbus_capture.specs.declared.packet.PacketHead.{PacketHead}
 pub use Rattle.dbus_capture.specs.declared.scan.Scan.{Scan}
 pub use Rattle.dbus_capture.specs.declared.stage.Stage.{Stage}
 pub use Rattle.dbus_capture.specs.declared.stage.Stage.TheVariants.{Raw, FileHeader, Record, Section, Block, InterfaceHead, OptionHead}
-pub use Rattle.dbus_capture.specs.declared.stage.Stage.TheVariants.{Resolution, InterfaceTrailer, Enhanced, ObsoletePacket, Simple, Trailer}
+pub use Rattle.dbus_capture.specs.declared.stage.Stage.TheVariants.{Resolution, InterfaceTrailer, Enhanced, ObsoletePacket, Simple, RecordFront, BlockFront, Trailer}

@@ -379,7 +379,7 @@ impl Scan {
         if link_type == 231 {
             self.packet_head(packet);
         } else {
-            self.pass_packet(packet.size, packet.room);
+            self.pass_packet(packet.size, packet.room as usize);
         }
     }
 }

@@ -2,7 +2,7 @@
 ghost use Rattle.std.specs.Prelude.{◌≡◌, ◌≤◌, [], None, false, length, IfOk};
 ghost use Rattle.dbus_device.specs.Device.{ReadCounts, one_more};
 ghost use Rattle.dbus_capture.specs.Packets.{last_packet};
-ghost use Rattle.dbus_capture.specs.Captures.{input_of, source_of, scan_of, chosen_of, kept_of, gave_up_of, calls_of, last_packet_of};
+ghost use Rattle.dbus_capture.specs.Captures.{input_of, source_of, scan_of, owed_of, chosen_of, kept_of, gave_up_of, calls_of, last_packet_of};
 
 use crate::fault::CaptureFault;
 use crate::input::Input;
@@ -45,10 +45,12 @@ impl<R: Source> Capture<R> {
     /// The capture that this source gives. It has read nothing yet.
     ///
     /// A packet of D-Bus of which not all bytes were captured is a fault, or is passed over if
-    /// `passes_cut`. Packets of other link types in a pcapng file are passed over.
+    /// `passes_cut`; so is one that has fewer bytes than its message states, if each packet before
+    /// it was one message. Packets of other link types in a pcapng file are passed over.
     pub fn new(source: R, passes_cut: bool) -> Self
         ensures source { source_of (input_of result) ≡ source }
         ensures kept { kept_of (input_of result) ≡ [] }
+        ensures owed { owed_of (input_of result) ≡ [] }
         ensures scan { scan_of (input_of result) ≡ fresh passes_cut Raw }
         ensures chosen { chosen_of (input_of result) ≡ false }
         ensures packet { last_packet_of result ≡ None }
@@ -77,8 +79,7 @@ impl<R: Source> Capture<R> {
         self.input.scan.passed_over
     }
 
-    /// The number of packets of D-Bus that were passed over since not all of their bytes were
-    /// captured, modulo 2^64. They are among those of [`Self::passed_over`].
+    /// The number of packets of D-Bus that were passed over since they were cut, modulo 2^64. They are among those of [`Self::passed_over`].
     pub fn cut_packets(&self) -> u64
         ensures { result ≡ (scan_of (input_of self.now)).cut }
     {
@@ -115,8 +116,8 @@ impl<R: Source> Source for Capture<R> {
     ///
     /// 0 bytes are the end of the input, a fault of the file, or the buffer has no room. The source
     /// below is called only until it gave four bytes, and while the bytes that it gave hold none of
-    /// a packet, so each packet of a live file is given as it comes. It is not called after a
-    /// fault, nor if there is no room.
+    /// a packet, so each packet of a live file is given as it comes, but for its first 16 bytes,
+    /// which are given together. It is not called after a fault, nor if there is no room.
     ///
     /// `DeviceFault`: the source below failed. No byte is lost, none of a packet is kept, and the
     /// call may be made again. It also comes if at least 2^64 - 1 bytes of the file in a row have

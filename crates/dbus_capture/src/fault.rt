@@ -26,7 +26,9 @@ pub enum CaptureReason {
     /// More bytes of a packet were captured than it had: at its original length. Or, in a pcapng
     /// file, more than its block has for it: at its captured length, as the former is there.
     Lengths,
-    /// Not all bytes of a packet were captured: at its captured length.
+    /// Not all bytes of a packet were captured: at its captured length. Or, if each packet before
+    /// it was one message, it has fewer bytes than its first 16 state, or fewer than 16: at its
+    /// first byte. D-Bus Specification, "Message Format".
     PacketCut,
     /// The length of a block is no multiple of four, or less than such a block has: at byte 4 of
     /// the block.

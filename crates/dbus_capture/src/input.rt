@@ -3,6 +3,7 @@ ghost use Rattle.std.specs.Prelude.{◌≡◌, ◌≢◌, ◌≤◌, [], false, 
 ghost use Rattle.dbus_device.specs.Device.{ReadCounts};
 
 use crate::head::Head;
+use crate::owed::Owed;
 use crate::scan::Scan;
 use crate::stage::{Stage, first_stage};
 use dbus_device::{DeviceFault, Source};
@@ -17,6 +18,8 @@ pub struct Input<R> {
     pub(crate) scan: Scan,
     // Whether it is known what the input is. Before that nothing is taken of it.
     chosen: bool,
+    // The first bytes of a packet that were taken and not handed on yet.
+    owed: Owed,
     // The bytes of the file that were read and not taken yet.
     bytes: [u8; ROOM],
     start: usize,
@@ -26,19 +29,21 @@ pub struct Input<R> {
     ghost in_order: { start ≤ end },
     ghost in_room: { end ≤ 65536 },
     ghost untaken: { chosen ≡ false → start ≡ 0 },
+    ghost unowed: { chosen ≡ false → owed ≡ [] },
 }
 
 impl<R: Source> Input<R> {
-    ghost use Rattle.std.specs.Prelude.{◌<◌, ◌⊎◌, IfOk, IfErr, IsTrue, take, true};
+    ghost use Rattle.std.specs.Prelude.{◌<◌, ◌⊎◌, ◌++◌, IfOk, IfErr, IsTrue, take, true};
     ghost use Rattle.dbus_capture.specs.Stages.{is_raw};
     ghost use Rattle.std.specs.Io.KnownBytes.{IsAtEnd};
     ghost use Rattle.dbus_capture.specs.Scans.{fresh};
-    ghost use Rattle.dbus_capture.specs.Captures.{source_of, scan_of, kept_of, gave_up_of, chosen_of, Fetches, Begins, HasBytes, Fills, HandsOn, ReadsPart, ReadsInput, Asks, Stops};
+    ghost use Rattle.dbus_capture.specs.Captures.{source_of, scan_of, owed_of, kept_of, gave_up_of, chosen_of, Fetches, Begins, HasBytes, Fills, HandsOn, ReadsPart, ReadsInput, Asks, Stops};
 
     // The input that this source gives. Nothing was read of it yet.
     pub(crate) fn new(source: R, passes_cut: bool) -> Self
         ensures source { source_of result ≡ source }
         ensures kept { kept_of result ≡ [] }
+        ensures owed { owed_of result ≡ [] }
         ensures scan { scan_of result ≡ fresh passes_cut Stage.Raw }
         ensures chosen { chosen_of result ≡ false }
         ensures gave_up { gave_up_of result ≡ 0 }
@@ -47,6 +52,7 @@ impl<R: Source> Input<R> {
             source,
             scan: Scan::new(passes_cut, Stage::Raw),
             chosen: false,
+            owed: Owed::new(),
             bytes: [0; ROOM],
             start: 0,
             end: 0,
@@ -105,6 +111,7 @@ impl<R: Source> Input<R> {
             (R.failures (source_of self.new)) result }
         ensures gave_up { gave_up_of self.new ≡ gave_up_of self.old }
         ensures chosen { chosen_of self.new ≡ chosen_of self.old }
+        ensures owed { owed_of self.new ≡ owed_of self.old }
     {
         if self.start < self.end {
             return Ok(true);
@@ -118,20 +125,25 @@ impl<R: Source> Input<R> {
 
     // Takes bytes that are kept, and hands on those of a packet.
     fn hand_on(&mut self, buffer: &mut [u8]) -> usize
-        requires { chosen_of self.old ≡ true }
+        requires chosen { chosen_of self.old ≡ true }
+        requires nothing { owed_of self.old ≡ [] }
         ensures bound { result ≤ length buffer.new }
-        ensures moved { HandsOn self.old self.new result (take result buffer.new) }
+        ensures moved { HandsOn self.old self.new (take result buffer.new) }
         ensures some { 0 < length (kept_of self.old) → 0 < length buffer.old →
             length (kept_of self.new) < length (kept_of self.old) }
+        ensures owed { result ≡ 0 → 0 < length buffer.old → owed_of self.new ≡ [] }
         ensures source { source_of self.new ≡ source_of self.old }
         ensures gave_up { gave_up_of self.new ≡ gave_up_of self.old }
         ensures chosen { chosen_of self.new ≡ true }
     {
         let bytes: &[u8] = &self.bytes;
         let piece = &bytes[self.start..self.end];
-        let (used, given) = self.scan.take(piece, buffer);
+        let (used, given) = self.scan.take(piece, buffer, &mut self.owed);
         self.start += used;
-        given
+        if given > 0 {
+            return given;
+        }
+        self.owed.give(buffer)
     }
 
     // Whether no bytes are kept of a stream with no file around it.
@@ -152,10 +164,13 @@ impl<R: Source> Input<R> {
         ensures stops { Stops self.old self.new result (length buffer.new) }
         ensures chosen { chosen_of self.new ≡ true }
     {
-        if self.scan.fault.is_some() {
+        if buffer.is_empty() {
             return Ok(0);
         }
-        if buffer.is_empty() {
+        if self.owed.len() > 0 {
+            return Ok(self.owed.give(buffer));
+        }
+        if self.scan.fault.is_some() {
             return Ok(0);
         }
         if self.passes_on() {

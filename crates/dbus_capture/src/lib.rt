@@ -9,9 +9,10 @@
 //!
 //! The formats are those of two IETF drafts, "PCAP Capture File Format" and "PCAP Now Generic
 //! (pcapng) Capture File Format", whose sections comments name by their titles. The packets of
-//! D-Bus have link type 231, LINKTYPE_DBUS: each is one message, from its byte-order flag on. A
-//! packet is not compared with the message that it should be. All places are in bytes from the
-//! start of the file.
+//! D-Bus have link type 231, LINKTYPE_DBUS: each is one message, from its byte-order flag on. As
+//! long as each is, by the size that its first 16 bytes state, one that has fewer bytes is as one of
+//! which not all bytes were captured; behind one that is not, messages may run over packets. All
+//! places are in bytes from the start of the file.
 //!
 //! [`laws`] says of whole files what is read of them. An example is at [`Capture`].
 //!
@@ -27,6 +28,7 @@ mod head;
 mod input;
 mod interface;
 pub mod laws;
+mod owed;
 mod packet;
 mod pcap;
 mod scan;

@@ -1,10 +1,11 @@
 //! A file, as its bytes come in pieces.
-ghost use Rattle.std.specs.Prelude.{◌≡◌, ◌≤◌, ◌<◌, length, take};
+ghost use Rattle.std.specs.Prelude.{◌≡◌, ◌≤◌, ◌<◌, [], ◌++◌, length, take};
 
 use crate::byte_order::ByteOrder;
 use crate::fault::{CaptureFault, CaptureReason};
 use crate::head::Head;
 use crate::interface::{Interface, Interfaces};
+use crate::owed::{Owed, copy_front};
 use crate::stage::Stage;
 use dbus_device::Packet;
 use std::mem;
@@ -21,9 +22,13 @@ pub struct Scan {
     pub(crate) next: u64,
     pub(crate) order: ByteOrder,
     pub(crate) nanoseconds: bool,
-    // The length of the block, and how many bytes of its options are left.
+    // The length of the block, and how many bytes of its options are left; or, before the first
+    // bytes of a packet, how many it has, and how many are passed over behind it.
     pub(crate) total: u32,
     pub(crate) rest: u32,
+    pub(crate) behind: u32,
+    // Whether each packet so far was one message.
+    pub(crate) alone: bool,
     // The interface that the block describes, and those of the section that came before.
     pub(crate) interface: Interface,
     pub(crate) interfaces: Interfaces,
@@ -39,10 +44,11 @@ pub struct Scan {
 }
 
 impl Scan {
-    ghost use Rattle.std.specs.Prelude.{[], None, false};
+    ghost use Rattle.std.specs.Prelude.{None, false};
     ghost use Rattle.dbus_capture.specs.Scans.{fresh, refused};
     ghost use Rattle.dbus_capture.specs.Stages.{is_raw, want};
-    ghost use Rattle.dbus_capture.specs.Steps.{IsPart, Leads, ended, may_end, turn_of};
+    ghost use Rattle.dbus_capture.specs.Steps.{LeadsWithin, ended, may_end, turn_of};
+    ghost use Rattle.dbus_capture.specs.Heads.{front_out};
     ghost use Rattle.dbus_capture.specs.Blocks.{decoded};
 
     // A file of which no byte was taken.
@@ -58,6 +64,8 @@ impl Scan {
             nanoseconds: false,
             total: 0,
             rest: 0,
+            behind: 0,
+            alone: true,
             interface: Interface {
                 link_type: 0,
                 snap_length: 0,
@@ -74,15 +82,15 @@ impl Scan {
         }
     }
 
-    // Takes bytes of the piece and hands on those of a packet: how many it took, and how many it
-    // handed on.
-    pub(crate) fn take(&mut self, piece: &[u8], out: &mut [u8]) -> (usize, usize)
+    // Takes bytes of the piece and hands on those of a packet, or owes them: how many it took, and
+    // how many it handed on.
+    pub(crate) fn take(&mut self, piece: &[u8], out: &mut [u8], owed: &mut Owed) -> (usize, usize)
+        requires { owed.old ≡ [] }
         ensures took { result.0 ≤ length piece.now }
         ensures gave { result.1 ≤ length out.new }
-        ensures leads { Leads self.old (take result.0 piece.now) (take result.1 out.new) self.new }
+        ensures leads { LeadsWithin self.old (take result.0 piece.now)
+            (take result.1 out.new ++ owed.new) self.new }
         ensures moves { 0 < length piece.now → 0 < length out.old → 0 < result.0 }
-        ensures one { 0 < result.1 → (result.0 ≡ result.1) ×
-            IsPart self.old self.new result.1 }
     {
         if self.fault.is_some() {
             return (piece.len(), 0);
@@ -98,7 +106,7 @@ impl Scan {
         if self.skip > 0 {
             return (self.skip_some(piece), 0);
         }
-        (self.gather(piece), 0)
+        (self.gather(piece, owed), 0)
     }
 
     // Hands on bytes of the packet under way.
@@ -108,9 +116,8 @@ impl Scan {
         requires filed { is_raw self.old.head.stage ≡ false }
         ensures took { result ≤ length piece.now }
         ensures gave { result ≤ length out.new }
-        ensures leads { Leads self.old (take result piece.now) (take result out.new) self.new }
+        ensures leads { LeadsWithin self.old (take result piece.now) (take result out.new) self.new }
         ensures moves { 0 < length piece.now → 0 < length out.old → 0 < result }
-        ensures part { IsPart self.old self.new result }
     {
         let most = self.give.min(piece.len());
         let count = copy_front(&piece[..most], out);
@@ -125,7 +132,7 @@ impl Scan {
         requires some { 0 < self.old.skip }
         requires given { self.old.give ≡ 0 }
         ensures took { result ≤ length piece.now }
-        ensures leads { Leads self.old (take result piece.now) [] self.new }
+        ensures leads { LeadsWithin self.old (take result piece.now) [] self.new }
         ensures moves { 0 < length piece.now → 0 < result }
     {
         let count = self.skip.min(piece.len());
@@ -134,13 +141,14 @@ impl Scan {
     }
 
     // Gathers bytes of a head, and follows what it says once it is whole.
-    fn gather(&mut self, piece: &[u8]) -> usize
+    fn gather(&mut self, piece: &[u8], owed: &mut Owed) -> usize
+        requires none { owed.old ≡ [] }
         requires unfaulted { self.old.fault ≡ None }
         requires filed { is_raw self.old.head.stage ≡ false }
         requires given { self.old.give ≡ 0 }
         requires skipped { self.old.skip ≡ 0 }
         ensures took { result ≤ length piece.now }
-        ensures leads { Leads self.old (take result piece.now) [] self.new }
+        ensures leads { LeadsWithin self.old (take result piece.now) owed.new self.new }
         ensures moves { 0 < length piece.now → 0 < result }
     {
         let missing = self.head.missing();
@@ -149,13 +157,26 @@ impl Scan {
             return piece.len();
         }
         if self.head.len() == 0 {
-            self.decode(&piece[..missing]);
+            self.follow(&piece[..missing], owed);
             return missing;
         }
         let stage = self.head.stage();
         let (bytes, size) = mem::replace(&mut self.head, Head::new(stage)).with(&piece[..missing]);
-        self.decode(&bytes[..size]);
+        self.follow(&bytes[..size], owed);
         missing
+    }
+
+    // Follows what a whole head says, and owes it if it is the first bytes of a packet.
+    fn follow(&mut self, head: &[u8], owed: &mut Owed)
+        requires whole { length head.now ≡ want self.old.head.stage }
+        requires none { owed.old ≡ [] }
+        ensures follows { self.new ≡ decoded self.old head.now }
+        ensures owes { owed.new ≡ front_out self.old head.now }
+    {
+        if self.hands_front(head) {
+            *owed = Owed::of(head);
+        }
+        self.decode(head);
     }
 
     // Follows what a whole head says.
@@ -177,6 +198,7 @@ impl Scan {
             Stage::Enhanced => self.enhanced(head),
             Stage::ObsoletePacket => self.obsolete_packet(head),
             Stage::Simple => self.simple(head),
+            Stage::RecordFront | Stage::BlockFront => self.front(head),
             Stage::Trailer => self.trailer(head),
         }
     }
@@ -212,16 +234,4 @@ impl Scan {
             reason: CaptureReason::Truncated,
         });
     }
-}
-
-// Copies the front of the bytes, as far as there is room, and returns how many those are.
-fn copy_front(bytes: &[u8], out: &mut [u8]) -> usize
-    ensures took { result ≤ length bytes.now }
-    ensures gave { result ≤ length out.new }
-    ensures same { take result bytes.now ≡ take result out.new }
-    ensures moves { 0 < length bytes.now → 0 < length out.old → 0 < result }
-{
-    let count = bytes.len().min(out.len());
-    out[..count].copy_from_slice(&bytes[..count]);
-    count
 }

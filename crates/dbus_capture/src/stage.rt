@@ -1,6 +1,6 @@
 //! Which head of a file comes next.
 ghost use Rattle.std.specs.Prelude.{◌≡◌, length};
-ghost use Rattle.dbus_capture.specs.Stages.{want, is_raw};
+ghost use Rattle.dbus_capture.specs.Stages.{want, is_raw, is_front, front_before, after_front};
 ghost use Rattle.dbus_capture.specs.Beginnings.{stage_by, first_stage};
 
 use crate::byte_order::ByteOrder;
@@ -34,6 +34,10 @@ pub enum Stage {
     ObsoletePacket,
     // What a simple packet block says of its packet. "Simple Packet Block".
     Simple,
+    // The first bytes of a packet of a pcap file, of which a message states its size.
+    RecordFront,
+    // Those of a packet in a block.
+    BlockFront,
     // The length at the end of another block.
     Trailer,
 }
@@ -45,10 +49,37 @@ impl Stage {
     {
         match self {
             Stage::Raw | Stage::FileHeader | Stage::Section => 24,
-            Stage::Record => 16,
+            Stage::Record | Stage::RecordFront | Stage::BlockFront => 16,
             Stage::Block | Stage::InterfaceHead => 8,
             Stage::Enhanced | Stage::ObsoletePacket => 20,
             _ => 4,
+        }
+    }
+
+    // Whether these are the first bytes of a packet, which are looked at before they are handed on.
+    pub(crate) fn is_front(self) -> bool
+        ensures { result ≡ is_front self }
+    {
+        matches!(self, Stage::RecordFront | Stage::BlockFront)
+    }
+
+    // The first bytes of the packet behind which this head comes.
+    pub(crate) fn front_before(self) -> Stage
+        ensures { result ≡ front_before self }
+    {
+        match self {
+            Stage::Record => Stage::RecordFront,
+            _ => Stage::BlockFront,
+        }
+    }
+
+    // The head behind the packet of these first bytes.
+    pub(crate) fn after_front(self) -> Stage
+        ensures { result ≡ after_front self }
+    {
+        match self {
+            Stage::RecordFront => Stage::Record,
+            _ => Stage::Trailer,
         }
     }
 

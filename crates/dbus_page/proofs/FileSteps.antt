@@ -1,16 +1,21 @@
 -- What a capture has read of its file, and the fault of the file.
-use Rattle.std.proofs.Common.{◌≡◌, ◌≢◌, ◌⊎◌, ℕ, ◌<◌, List, [], ◌++◌, length, take, true, Option, None, Some, Ok, Err, arith, length-append, inl, inr, is_some, refl, sym, ap, subst, ◌∙◌, append-nil}
+use Rattle.std.proofs.Common.{◌≡◌, ◌≢◌, ◌⊎◌, ℕ, ◌<◌, List, [], ◌++◌, length, take, true, false, Option, None, Some, Ok, Err, arith, length-append, inl, inr, is_some, refl, sym, ap, subst, ◌∙◌, append-nil}
 use Rattle.std.specs.Io.KnownBytes.{Consumes, IsAtEnd, prepend_known}
 use Rattle.std.proofs.KnownBytes.{Consumes-nil, Consumes-trans}
 use Rattle.dbus_device.specs.Device.{one_more}
 use Rattle.dbus_device.specs.declared.device_fault.DeviceFault.{DeviceFault}
 use Rattle.dbus_page.specs.Failing.{MayFail}
-use Rattle.dbus_capture.specs.Captures.{Begins, Ends, GivesPart, Reads, ReadsOn, ReadsPart, ReadsInput, Waits, chosen_of, file_of, kept_of, known, opened, opened_of, scan_of, source_of}
-use Rattle.dbus_capture.specs.Steps.{ended, run}
+use Rattle.dbus_capture.specs.Beginnings.{first_scan, first_stage}
+use Rattle.dbus_capture.specs.Captures.{Begins, Ends, Reads, ReadsOn, ReadsPart, ReadsInput, Waits, chosen_of, file_of, kept_of, known, opened, opened_of, owed_of, packets_by, packets_of, scan_of, source_of}
+use Rattle.dbus_capture.specs.Scans.{fresh}
+use Rattle.dbus_capture.specs.Stages.{begun}
+use Rattle.dbus_capture.specs.Steps.{ended, packet_given, run}
+use Rattle.dbus_capture.specs.declared.stage.Stage.TheVariants.{Raw}
 use Rattle.dbus_capture.specs.declared.input.Input.{Input}
 use Rattle.dbus_capture.specs.declared.fault.CaptureFault.{CaptureFault}
 use Rattle.dbus_capture.specs.declared.scan.Scan.{Scan}
 use Rattle.dbus_capture.proofs.StepLaws.{run-append, stopped_after}
+use Rattle.dbus_capture.proofs.Choices.{when_false}
 use Rattle.dbus_capture.proofs.BeginSteps.{fetched_file, opened_chosen, opened_known, opened_waiting, waiting_fault}
 
 front_of : (a b : Option (List ℕ)) (used bytes : List ℕ) → Consumes a b used → a ≡ Some bytes → (rest : List ℕ) × (b ≡ Some rest) × (bytes ≡ used ++ rest)
@@ -25,6 +30,15 @@ none_left kept (Some x) rest none end is = let same : kept ++ x ≡ rest = cc in
 some_fault : (o : Option CaptureFault) → is_some o ≡ true → (f : CaptureFault) × (o ≡ Some f)
 some_fault None some = absurd cc
 some_fault (Some f) some = (f, refl)
+
+-- of which packet each byte is of a file of which nothing was read
+pub packets_at_first : {R : Type 0} (left : R → Option (List ℕ)) (s : Input R) (bytes : List ℕ) → owed_of s ≡ [] → kept_of s ≡ [] → chosen_of s ≡ false → scan_of s ≡ fresh false Raw
+    → left (source_of s) ≡ Some bytes → packets_of left s ≡ Some (packet_given (first_scan false bytes) bytes)
+packets_at_first left s bytes owed kept chosen scan there =
+    let is : file_of left s ≡ Some bytes = ap (λ (k : List ℕ). prepend_known k (left (source_of s))) kept ∙ ap (λ (o : Option (List ℕ)). prepend_known [] o) there in
+    let begins : opened s bytes ≡ first_scan false bytes = when_false _ _ _ chosen ∙ ap (λ (v : Scan). record v { head = begun (first_stage bytes) }) scan in
+    ap (λ (o : Option (List ℕ)). packets_by (owed_of s) (opened s (known o)) o) is
+    ∙ (ap (λ (l : List ℕ). packets_by l (opened s bytes) (Some bytes)) owed ∙ ap (λ (v : Scan). packets_by [] v (Some bytes)) begins)
 
 -- bytes of the file were taken, and what is kept of them is this
 pub record Ran {R : Type 0} (left : R → Option (List ℕ)) (old now : Input R) : Type 0 where
@@ -87,17 +101,17 @@ module _ {R : Type 0} (left : R → Option (List ℕ)) (calls failures : R → �
   module _ (old now new : Input R) (buffer : List ℕ) (r : Ran left old now) where
     pub input_ran : (n : ℕ) → ReadsInput left calls failures now new (Ok n) buffer → n ≢ 0 → Ran left old new
     input_ran n (inr w) some = absurd (some w.nothing.0)
-    input_ran n (inl i) some = elim i.part.1 [ inl g ↦ ran_on old now r i.mid new i.begins (take n buffer) g.0.reads i.chosen | inr e ↦ absurd (some e.0) ]
+    input_ran n (inl i) some = elim i.part.1 [ inl g ↦ ran_on old now r i.mid new i.begins (take n buffer) g.0 i.chosen | inr e ↦ absurd (some e.0) ]
 
     pub end_fault : (n : ℕ) (bytes : List ℕ) → ReadsInput left calls failures now new (Ok n) buffer → n ≡ 0 → 0 < length buffer → file_of left old ≡ Some bytes
         → (ended (run (opened old bytes) bytes)).fault ≡ (scan_of new).fault
     end_fault n bytes (inr w) none room is =
-        stopped_fault old new bytes (waited old now r new n (length buffer) w) (waiting_fault left calls failures now new (Ok n) (length buffer) w) (w.nothing.1 room) is
+        stopped_fault old new bytes (waited old now r new n (length buffer) w) (waiting_fault left calls failures now new (Ok n) (length buffer) w) (w.nothing.1 room).0 is
     end_fault n bytes (inl i) none room is =
         elim i.part.1 [
           | inl g ↦
-              stopped_fault old new bytes (ran_on old now r i.mid new i.begins (take n buffer) g.0.reads i.chosen)
-              (ap (λ (s : Scan). s.fault) (opened_chosen new (known (file_of left new)) i.chosen)) (g.1 none room) is
+              stopped_fault old new bytes (ran_on old now r i.mid new i.begins (take n buffer) g.0 i.chosen)
+              (ap (λ (s : Scan). s.fault) (opened_chosen new (known (file_of left new)) i.chosen)) (g.1 none room).0 is
           | inr e ↦ ended_fault old now r i.mid new i.begins bytes e.1 is
         ]
 

@@ -1,8 +1,9 @@
 -- Which pcap file is written of messages. "PCAP Capture File Format", "File Header" and "Packet
 -- Record".
-use Rattle.std.specs.Prelude.{ℕ, ◌<◌, ◌^◌, ◌/◌, ◌%◌, min, List, [], ◌∷◌, ◌++◌, true, length, map, Option, Some, None}
+use Rattle.std.specs.Prelude.{◌≡◌, ℕ, ◌<◌, ◌≤◌, ◌^◌, ◌/◌, ◌%◌, min, List, [], ◌∷◌, ◌++◌, true, length, map, Option, Some, None}
 use Rattle.dbus_capture.specs.declared.byte_order.ByteOrder.TheVariants.{Little}
 use Rattle.dbus_capture.specs.Numbers.{u32_bytes}
+use Rattle.dbus_capture.specs.CutPackets.{stated}
 use Rattle.dbus_capture.specs.PcapFiles.{PcapHeader, PcapPacket, pcap_bytes}
 
 -- a message, and when it was captured, in nanoseconds since 1970, if that is known
@@ -37,7 +38,12 @@ abbrev pub messages_bytes : List CapturedMessage → List ℕ
 messages_bytes [] = []
 messages_bytes (m ∷ messages) = m.bytes ++ messages_bytes messages
 
--- their lengths have a spelling
+-- a message has as many bytes as its first 16 state
+pub record FitsMessage (m : CapturedMessage) : Type 0 where
+  pub size : stated m.bytes ≡ length m.bytes
+  pub least : 16 ≤ length m.bytes
+  pub most : length m.bytes < 2 ^ 32
+
 abbrev pub AllFit : List CapturedMessage → Type 0
 AllFit [] = Unit {0}
-AllFit (m ∷ messages) = (length m.bytes < 2 ^ 32) × AllFit messages
+AllFit (m ∷ messages) = FitsMessage m × AllFit messages

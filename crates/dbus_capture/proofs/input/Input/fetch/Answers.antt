@@ -24,7 +24,7 @@ returns-in_err-count-clause-fetched g c =
     let e = c.in_err-count.ensures in
     fetches_more left g.R.Source.calls g.R.Source.failures c.loop-number.number c.args.self.now now _ [] c.requires l (omega (arith, c.if-kept-ge4.false))
     (record { gave = Consumes-kept (left now.source) (left now.source) (left c.read.new.self) [] (Consumes-nil (left now.source)) e.bytes; counted = e.called })
-    (kept_none now.bytes c.read.new.buffer now.start now.end _ l.start size) refl
+    (kept_none now.bytes c.read.new.buffer now.start now.end _ l.start size) refl refl
 
 pub returns-then-count-eq0-clause-fetched : goal.returns-then-count-eq0-clause-fetched
 returns-then-count-eq0-clause-fetched g c =
@@ -37,7 +37,7 @@ returns-then-count-eq0-clause-fetched g c =
     let none : take c.in_ok-count.count c.read.new.buffer ≡ [] = ap (λ (k : ℕ). take k c.read.new.buffer) zero in
     fetches_more left g.R.Source.calls g.R.Source.failures c.loop-number.number c.args.self.now now _ [] c.requires l (omega (arith, c.if-kept-ge4.false))
     (record { gave = subst (Consumes (left now.source) (left c.read.new.self)) none e.bytes.0; counted = e.called })
-    (kept_none now.bytes c.read.new.buffer now.start now.end _ l.start size) refl
+    (kept_none now.bytes c.read.new.buffer now.start now.end _ l.start size) refl refl
 
 pub loop-number-preserved : goal.loop-number-preserved
 loop-number-preserved g c =
@@ -52,4 +52,4 @@ loop-number-preserved g c =
     let some : 0 < length (take count part) = omega (arith, long, c.if-count-eq0.false) in
     fetched_more left g.R.Source.calls g.R.Source.failures c.loop-number.number c.args.self.now now _ (take count part) c.requires l (omega (arith, c.if-kept-ge4.false))
     (record { gave = e.bytes.0; counted = e.called })
-    (kept_put now.bytes part now.start now.end _ count l.start size e.bound) some refl refl refl refl e.failed
+    (kept_put now.bytes part now.start now.end _ count l.start size e.bound) some refl refl refl refl refl e.failed
