@@ -53,7 +53,7 @@ _dbus_wire() {
         json) is_ruled=1 options='--no-time --safe-integers --invert --may-match --as-bus --owner --learn-owners --json --explain --keep-going --resync --resync-window --skip --limit --check-rest --handshake --max-message --max-array --max-depth --fds -h --help' ;;
         list) is_ruled=1 options='--width --invert --may-match --as-bus --owner --learn-owners --json --explain --keep-going --resync --resync-window --skip --limit --check-rest --handshake --max-message --max-array --max-depth --fds -h --help' ;;
         check) options='--json --explain --keep-going --resync --resync-window --handshake --max-message --max-array --max-depth --fds -h --help' ;;
-        count) options='--json --explain --keep-going --resync --resync-window --handshake --max-message --max-array --max-depth --fds -h --help' ;;
+        count) is_ruled=1 options='--invert --may-match --as-bus --owner --learn-owners --json --explain --keep-going --resync --resync-window --handshake --max-message --max-array --max-depth --fds -h --help' ;;
         calls) options='--members --unanswered --errors --slower --json --explain --keep-going --resync --resync-window --handshake --max-message --max-array --max-depth --fds -h --help' ;;
         swap) is_ruled=1 options='--to --invert --may-match --as-bus --owner --learn-owners --raw --json --explain --handshake --max-message --max-array --max-depth --fds -h --help' ;;
         filter) is_ruled=1 options='--invert --may-match --as-bus --owner --learn-owners --raw --json --explain --keep-going --resync --resync-window --skip --limit --check-rest --handshake --max-message --max-array --max-depth --fds -h --help' ;;

@@ -41,7 +41,7 @@ use std::alloc::Global;
 /// set. `--handshake` names the side whose handshake comes before the messages. `--skip` and `--limit`, of `show`, `json`, `list` and `filter`, are the numbers of the
 /// window; without them it leaves no message out. `--check-rest` of these is set if it is among the
 /// words. `--width` of `list` is the number of cells of its lines; without it they have 80. The
-/// words that stand alone after `show`, `json`, `list`, `swap` and `filter` are rules, and
+/// words that stand alone after `show`, `json`, `list`, `count`, `swap` and `filter` are rules, and
 /// `--invert`, `--may-match`, `--as-bus` and `--owner` say more of what they select. Without rules
 /// there is the one that matches all messages. Each of them learns owners, but `filter` only if
 /// `--learn-owners` is among the words.

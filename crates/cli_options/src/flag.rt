@@ -51,9 +51,9 @@ pub(crate) enum Flag {
     Errors,
     /// List the calls replied to later: milliseconds
     Slower,
-    /// Write the messages that match no rule
+    /// Select the messages that match no rule
     Invert,
-    /// Write those that a rule may match
+    /// Select those that a rule may match
     MayMatch,
     /// Match as a bus does
     AsBus,
@@ -134,7 +134,7 @@ pub(crate) fn argument<'a>(alloc: Global, flag: Flag) -> Arg<'a>
             "Lists the calls replied to later: 0 to 4294967295 ms",
         ),
         Flag::Invert => set(alloc, "invert").help(
-            "Writes the messages that match none of the rules",
+            "Selects the messages that match none of the rules",
         ),
         Flag::MayMatch => set(alloc, "may-match").help("Asks whether rules may match, as a policy"),
         Flag::AsBus => set(alloc, "as-bus").help("Matches as a bus: unicast only by eavesdrop"),

@@ -170,7 +170,7 @@ pub(crate) const CHECK: Texts = Texts {
 /// The help of `count`.
 pub(crate) const COUNT: Texts = Texts {
     about: "Counts the messages of each type, sender, member and so on",
-    usage: "dbus-wire count [OPTIONS] < FILE",
+    usage: "dbus-wire count [OPTIONS] [RULE]... < FILE",
     more: more!(
     going "
   Tables on standard output: for each type, sender, destination, interface,
@@ -180,8 +180,8 @@ pub(crate) const COUNT: Texts = Texts {
   --json each line is an object: the name behind its word, `messages` and
   `bytes`; the last one `seconds`, `messages` and `messages_per_second`. If the
   input is refused, `refused at P: NAME` on standard error, and the tables are
-  those of the messages before. Memory is allocated for each name, and not for
-  each message.",
+  those of the messages before. With rules only the messages that list would
+  list are counted. Memory is allocated for each name, and not for each message.",
     "
   dbus-wire count < capture | grep ' member '"
 ),

@@ -157,7 +157,7 @@ pub(crate) fn wire<'a>(alloc: Global) -> Result<Command<'a>, AllocError>
     let check = command(alloc, "check", help::CHECK, &[]);
     let check = with_going(alloc, check, LinesJson);
     let count = command(alloc, "count", help::COUNT, &[]);
-    let count = with_going(alloc, count, LinesJson);
+    let count = with_going(alloc, with_selection(alloc, count, Rules), LinesJson);
     let calls = [Members, Unanswered, Errors, Slower];
     let calls = command(alloc, "calls", help::CALLS, &calls);
     let calls = with_going(alloc, calls, LinesJson);

@@ -18,21 +18,22 @@ use Rattle.dbus_stream.specs.declared.read_fault.ReadFault.TheVariants as read
 use Rattle.dbus_stream.proofs.FaultPackets.{partial_take, shows_last}
 use Rattle.dbus_stream.proofs.NextSteps.{both_ways}
 use Rattle.cli_options.specs.Limiting.{ask_more}
+use Rattle.cli_options.specs.declared.selection.Selection.{Selection}
 use Rattle.cli_options.specs.declared.settings.Settings.{Settings}
 use Rattle.cli_report.specs.Devices.{Reading, Taken, reading, taken}
 use Rattle.cli_report.specs.Telling.{line_of}
 use Rattle.cli_report.specs.declared.telling.RefusedMessage.{RefusedMessage}
 use Rattle.cli_report.specs.declared.ending.Cause.{Cause}
 use Rattle.cli_report.specs.declared.ending.Cause.TheVariants.{Memory, ReadFailed, WriteFailed, TooManyReads}
-use Rattle.dbus_count.specs.Spans.{with_times}
 use Rattle.dbus_count.specs.Tables.{IsSummary}
 use Rattle.dbus_count.specs.declared.form.Form.{Form}
-use Rattle.cli_run.specs.ByName.{CountsState, EndsCounts, MakesCounts, Tallies, after_messages, counting, first_counts, span_of, times_of}
+use Rattle.cli_run.specs.ByName.{CountsState, EndsCounts, MakesCounts, Tallies, counting, counts_after, first_counts, span_of}
 use Rattle.cli_run.specs.Going.{Covers, IsMore, IsStopOf, IsToldIn, IsToldLast}
 use Rattle.cli_run.specs.Onward.{HasPacketsIf, HasRead, HandsAllOn, HandsOn, HandsSomeOn}
 use Rattle.cli_run.specs.Needed.{IsReadFor, IsUnshown, ReadsToSee}
 use Rattle.cli_run.specs.Refusals.{IsFaultIn, IsRefusedIn, number_of}
 use Rattle.cli_run.specs.Inputs.{Placed, looked_in, sizes_of, wholes}
+use Rattle.cli_run.specs.Learning.{AreSelected, known}
 use Rattle.cli_run.specs.Output.{fault_line}
 use Rattle.cli_run.specs.Told.{IsUnwritten}
 use Rattle.cli_run.specs.Visiting.{AddsUp, WantsAll}
@@ -42,6 +43,7 @@ use Rattle.cli_run.specs.declared.visitor.RunStop.TheVariants.{Cause as ByCause}
 use Rattle.cli_run.proofs.GoSteps.{wholes_tally}
 use Rattle.cli_run.proofs.HandSteps.{Faults}
 use Rattle.cli_run.proofs.KnownPackets.{refused_there}
+use Rattle.cli_run.proofs.Outputs.{selects_or}
 use Rattle.cli_run.proofs.PartLaws.{is_last, parts_of, reach_wholes, sizes-wholes, some_placed, told_of}
 use Rattle.cli_run.proofs.Wanted.{wanted_all}
 
@@ -197,11 +199,20 @@ module _ {R : Type 0} (left : R → Option (List ℕ)) (calls failures : R → �
 
 -- What is made of a message, and how a run ends, if messages are counted by their names.
 
-pub counts_one : (s : CountsState) (item : Placed) (P : CountsState → List ℕ → Type 0)
-    → P (record { form = s.form; counts = λ name. after_messages (item ∷ []) name (s.counts name); span = with_times (times_of (item ∷ [])) s.span }) []
-    → (t : CountsState) × (text : List ℕ) × MakesCounts s (item ∷ []) text t × P t text
-counts_one s item P p = (record { form = s.form; counts = λ name. after_messages (item ∷ []) name (s.counts name); span = with_times (times_of (item ∷ [])) s.span }, [], record { form_is = refl; counts_are = λ name. refl; span_is = refl; none = refl }, p)
+pub counts_one : (was : CountsState) (item : Placed) (selected : List Placed) → AreSelected was.selection was.owners (item ∷ []) selected → (P : CountsState → List ℕ → Type 0) → P (counts_after was (item ∷ []) selected) []
+    → (s : CountsState) → s ≡ was → (t : CountsState) × (text : List ℕ) × MakesCounts s (item ∷ []) text t × P t text
+counts_one was item selected are P p s there =
+    subst (λ (x : CountsState). (t : CountsState) × (text : List ℕ) × MakesCounts x (item ∷ []) text t × P t text) (sym there)
+    (counts_after was (item ∷ []) selected, [], record { selected = selected; are = are; none = refl; then = refl }, p)
 
--- the counts and the span are those of the messages
-pub counts_all : (form : Form) (items : List Placed) (t : CountsState) (text last note : List ℕ) → MakesCounts (first_counts form) items text t → EndsCounts t last note → IsSummary form (counting items) (span_of items) last × (note ≡ [])
-counts_all form items t text last note h e = (transport (λ i. IsSummary (h.form_is i) (λ name. h.counts_are name i) (h.span_is i) last) e.0, e.1)
+-- whether it is selected or not
+pub counts_some : (s : CountsState) (item : Placed) → (t : CountsState) × (text : List ℕ) × MakesCounts s (item ∷ []) text t × Unit {0}
+counts_some s item = elim (selects_or s.selection s.owners item.item.message) [
+  | inl is ↦ counts_one s item (item ∷ []) ([], refl, inl (is, refl)) (λ t text. Unit {0}) tt s refl
+  | inr not ↦ counts_one s item [] ([], refl, inr (not, refl)) (λ t text. Unit {0}) tt s refl
+]
+
+-- the counts and the span are those of the messages that are selected
+pub counts_all : (form : Form) (selection : Option Selection) (items : List Placed) (t : CountsState) (text last note : List ℕ) → MakesCounts (first_counts form selection) items text t → EndsCounts t last note
+    → (selected : List Placed) × AreSelected selection (known selection None) items selected × IsSummary form (counting selected) (span_of selected) last × (note ≡ [])
+counts_all form selection items t text last note h e = (h.selected, h.are, subst (λ (x : CountsState). IsSummary x.form x.counts x.span last) h.then e.0, e.1)

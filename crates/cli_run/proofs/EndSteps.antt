@@ -11,9 +11,9 @@ use Rattle.cli_report.specs.Telling.{Told}
 use Rattle.cli_report.specs.declared.ending.Cause.TheVariants.{Memory, ReadFailed, WriteFailed, TooManyReads}
 use Rattle.cli_report.specs.declared.ending.ExitStatus.{ExitStatus}
 use Rattle.cli_report.specs.declared.ending.ExitStatus.TheVariants as status
-use Rattle.cli_run.specs.Going.{Goes, GoesFar, GoesThrough, IsMore, StopsWithin}
+use Rattle.cli_run.specs.Going.{GivesUp, Goes, GoesFar, GoesThrough, IsMore, StopsWithin}
 use Rattle.cli_run.specs.Inputs.{ArePlaced, Part, Placed}
-use Rattle.cli_run.specs.Making.{RunsBy}
+use Rattle.cli_run.specs.Making.{LeavesMade}
 use Rattle.cli_run.specs.Needed.{ReadsToSee, WantMore, WantToSee}
 use Rattle.cli_run.specs.OutputWriting.{LeavesFirst}
 use Rattle.cli_run.specs.Told.{GotFirst, IsUnwritten}
@@ -117,10 +117,10 @@ got_nothing held failures w0 w1 true Untold bytes p nothing = absurd (p.some not
 got_nothing held failures w0 w1 false Untold bytes p nothing = (tt, passes_unwritten held failures bytes [] [] w0 w1 refl nothing p)
 
 -- nothing is read for want of memory
-pub unread : {S R W E : Type 0} (makes : S → List Placed → List ℕ → S → Type 0) (s : S) (full : S → Bool) (is_check : Bool) (left : R → Option (List ℕ)) (calls read_failures : R → ℕ) (packets : R → Option Packets) (r : R) (held : W → Option (List ℕ)) (failures : W → ℕ) (w : W)
+pub unread : {S R W E : Type 0} (makes : S → List Placed → List ℕ → S → Type 0) (s : S) (filled : List Placed → Bool → Type 0) (is_check : Bool) (left : R → Option (List ℕ)) (calls read_failures : R → ℕ) (packets : R → Option Packets) (r : R) (held : W → Option (List ℕ)) (failures : W → ℕ) (w : W)
     (second_held : E → Option (List ℕ)) (second_failures : E → ℕ) (e0 e1 : E) (settings : Settings) (most : ℕ) (end : ExitStatus) → makes s [] [] s → end ≡ status.Failed → Told second_held second_failures e0 e1 Memory
-    → RunsBy makes s full is_check (reading left calls read_failures packets r r) (writing held failures w w) (writing second_held second_failures e0 e1) settings most end
-unread makes s full is_check left calls read_failures packets r held failures w second_held second_failures e0 e1 settings most end nothing failed told = inr (record {
+    → GivesUp (taken (reading left calls read_failures packets r r)) settings most is_check filled (writing second_held second_failures e0 e1) (λ before. LeavesMade makes s is_check (writing held failures w w) (writing second_held second_failures e0 before)) end
+unread makes s filled is_check left calls read_failures packets r held failures w second_held second_failures e0 e1 settings most end nothing failed told = record {
   failed = failed;
   stop = ByCause Memory;
   before = e0;
@@ -146,4 +146,4 @@ unread makes s full is_check left calls read_failures packets r held failures w 
     };
   };
   tells = told;
-})
+}

@@ -13,6 +13,7 @@ use Rattle.cli_options.specs.declared.settings.Settings.{Settings}
 use Rattle.cli_options.specs.declared.window.Window.{Window}
 use Rattle.cli_options.specs.declared.wanted_lines.WantedLines.{WantedLines}
 use Rattle.dbus_call_lines.specs.Listing.{Numbered, nth}
+use Rattle.cli_run.specs.ByName.{items_of}
 use Rattle.cli_run.specs.Going.{EndsWhole, passed_count}
 use Rattle.cli_run.specs.CallListing.{number_and_time}
 use Rattle.cli_run.specs.LineListing.{AreLinesFilled, AreLinesOf}
@@ -23,11 +24,6 @@ use Rattle.cli_run.specs.Output.{IsFilledBy, IsOutputOfAll, Picks, after, is_spe
 use Rattle.cli_run.specs.Visiting.{AreWanted}
 use Rattle.cli_run.proofs.SameOutputs.{ActsAs}
 use Rattle.cli_run.proofs.SameParts.{ArePassed, AreSamePackets, EndsHere, along, none_after}
-
--- messages without their places
-abbrev pub items_of : List Placed → List CutMessage
-items_of [] = []
-items_of (m ∷ messages) = m.item ∷ items_of messages
 
 -- ---- as many texts of the same messages
 
@@ -100,7 +96,7 @@ placed_split packets n offset (PassedOver front fault by size ∷ P) more a p =
     (rest.0, rest.1, rest.2, rest.3, λ none. transport (λ i. ArePlaced packets (number i) (place i) more []) (rest.4 none))
 
 -- the same parts have the same messages
-same_items : (packets others : Option Packets) (n offset : ℕ) (P : List Part) (a b : List Placed) → ArePlaced packets n offset P a → ArePlaced others n offset P b → items_of a ≡ items_of b
+pub same_items : (packets others : Option Packets) (n offset : ℕ) (P : List Part) (a b : List Placed) → ArePlaced packets n offset P a → ArePlaced others n offset P b → items_of a ≡ items_of b
 same_items packets others n offset [] a b p q = ap items_of (p ∙ sym q)
 same_items packets others n offset (Whole item ∷ P) [] b p q = absurd p
 same_items packets others n offset (Whole item ∷ P) (m ∷ a) [] p q = absurd q

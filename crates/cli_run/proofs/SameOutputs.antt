@@ -4,12 +4,10 @@ use Rattle.std.proofs.Common.{◌≡◌, ◌↔◌, ◌⊎◌, if◌then◌else�
 use Rattle.std.proofs.lemmas.Bool.{false≢true}
 use Rattle.std.specs.FinSet.{from_list}
 use Rattle.std.specs.declared.alloc.Global.{Global}
-use Rattle.dbus_count.specs.Counting.{names_of, with_names}
-use Rattle.dbus_count.specs.declared.count.Count.{Count}
 use Rattle.dbus_device.specs.Packets.{Packets}
 use Rattle.dbus_header.specs.MessageOutcomes.{IsRefused}
 use Rattle.dbus_header.specs.NoMessage.{IsFaultAtEnd}
-use Rattle.dbus_stream.specs.Cut.{CutMessage, CutOutcome, Ended, Unfinished, Refused, IsOutcome}
+use Rattle.dbus_stream.specs.Cut.{CutOutcome, Ended, Unfinished, Refused, IsOutcome}
 use Rattle.dbus_stream.specs.CutEnds.{fault_at_end, truncated}
 use Rattle.dbus_value_model.specs.declared.fault.Fault.{Fault}
 use Rattle.dbus_value_model.specs.declared.order.Order.{Order}
@@ -44,8 +42,7 @@ use Rattle.dbus_value_model.specs.declared.limits.Limits.{Limits}
 use Rattle.cli_report.specs.declared.telling.RefusedMessage.{RefusedMessage}
 use Rattle.cli_report.proofs.FaultFronts.{one_front, own_front}
 use Rattle.cli_report.specs.declared.ending.ExitStatus.TheVariants as status
-use Rattle.cli_run.specs.Learning.{Selects, known as known_by, known_after, matters, name_sender}
-use Rattle.cli_run.specs.ByName.{after_messages}
+use Rattle.cli_run.specs.Learning.{AreSelected, Selects, known as known_by, known_after, matters, name_sender}
 use Rattle.cli_run.specs.Inputs.{ArePlaced, BeginWithParts, By, IsFaultOf, IsPart, Part, PassedOver, Placed, Whole, looked_after, looked_for, size_of}
 use Rattle.cli_run.specs.Laws.{HaveNoDouble}
 use Rattle.cli_run.specs.Output.{AreAlike, IsExact, form_of, IsOutputOf, IsOutputOfAll, IsTextOf, Picks, PicksBy, is_check}
@@ -72,17 +69,6 @@ one_placed packets n offset (Whole item ∷ parts) (m ∷ a) (l ∷ b) p q =
     let more = one_placed packets (n + 1) (offset + item.size) parts a b p.1 q.1 in
     λ i. record { place = record { number = number i; offset = there i; time = time i; in_packet = packet i }; item = same i } ∷ more i
 one_placed packets n offset (PassedOver front fault by size ∷ parts) a b p q = one_placed packets (n + 1) (offset + size) parts a b p q
-
--- the messages of the same parts count alike
-pub same_counts : (packets others : Option Packets) (n offset : ℕ) (parts : List Part) (a b : List Placed) (name : List ℕ) (c : Option Count) → ArePlaced packets n offset parts a → ArePlaced others n offset parts b
-    → after_messages a name c ≡ after_messages b name c
-same_counts packets others n offset [] a b name c p q = ap (λ (l : List Placed). after_messages l name c) (p ∙ sym q)
-same_counts packets others n offset (Whole item ∷ parts) [] b name c p q = absurd p
-same_counts packets others n offset (Whole item ∷ parts) (m ∷ a) [] name c p q = absurd q
-same_counts packets others n offset (Whole item ∷ parts) (m ∷ a) (l ∷ b) name c p q =
-    let same : m.item ≡ l.item = p.0.item_is ∙ sym q.0.item_is in
-    same_counts packets others (n + 1) (offset + item.size) parts a b name _ p.1 q.1 ∙ ap (λ (x : CutMessage). after_messages b name (with_names (names_of x.message) x.size name c)) same
-same_counts packets others n offset (PassedOver front fault by size ∷ parts) a b name c p q = same_counts packets others (n + 1) (offset + size) parts a b name c p q
 
 -- ---- what is told
 
@@ -238,6 +224,29 @@ same_first None None h = refl
 same_first None (Some b) h = absurd h
 same_first (Some a) None h = absurd h
 same_first (Some a) (Some b) h = ap (λ (owners : List Ownership). known_first (from_list owners)) h.owners
+
+-- of messages that are the same, selections that are the same select the same ones: all is the same
+-- of them that f says, which says the messages without their places at least
+module _ (a b : Option Selection) (h : AreSameSelected a b) {X : Type 0} (f : Placed → X) (message : (m l : Placed) → f m ≡ f l → m.item.message ≡ l.item.message) where
+  same_choice : {P Q : Type 0} → (P → Q) → (Q → P) → (m l : Placed) (u v x y : List Placed) → f m ≡ f l → map f u ≡ map f v → (P × (x ≡ m ∷ u)) ⊎ ((P → ⊥) × (x ≡ u)) → (Q × (y ≡ l ∷ v)) ⊎ ((Q → ⊥) × (y ≡ v)) → map f x ≡ map f y
+  same_choice to from m l u v x y one rest (inl is) (inl too) = ap (map f) is.1 ∙ ((λ i. one i ∷ rest i) ∙ sym (ap (map f) too.1))
+  same_choice to from m l u v x y one rest (inl is) (inr not) = absurd (not.0 (to is.0))
+  same_choice to from m l u v x y one rest (inr not) (inl is) = absurd (not.0 (from is.0))
+  same_choice to from m l u v x y one rest (inr not) (inr too) = ap (map f) not.1 ∙ (rest ∙ sym (ap (map f) too.1))
+
+  pub same_selected : (os ns : NameState) (s t x y : List Placed) → os ≡ ns → map f s ≡ map f t → AreSelected a os s x → AreSelected b ns t y → map f x ≡ map f y
+  same_selected os ns [] [] x y is e p q = ap (map f) (p ∙ sym q)
+  same_selected os ns [] (l ∷ t) x y is e p q = absurd cc
+  same_selected os ns (m ∷ s) [] x y is e p q = absurd cc
+  same_selected os ns (m ∷ s) (l ∷ t) x y is e p q =
+      let one : f m ≡ f l = cc in
+      let more : map f s ≡ map f t = cc in
+      let same = message m l one in
+      let learned = same_after a b os m.item.message h ∙ (λ i. known_after b (is i) (same i)) in
+      let picks = same_picks a b h os m.item.message in
+      let to = λ (k : Selects a os m.item.message). transport (λ i. Selects b (is i) (same i)) (picks.0 k) in
+      let from = λ (k : Selects b ns l.item.message). picks.1 (transport (λ i. Selects b (sym is i) (sym same i)) k) in
+      same_choice to from m l p.0 q.0 x y one (same_selected (known_after a os m.item.message) (known_after b ns l.item.message) s t p.0 q.0 learned more p.1 q.1) p.2 q.2
 
 -- ---- a command that is the same acts the same
 

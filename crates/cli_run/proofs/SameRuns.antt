@@ -1,5 +1,6 @@
 -- Two runs that read the same input, and do not fail, end alike.
-use Rattle.std.proofs.Common.{◌≡◌, ◌⊎◌, ℕ, ◌+◌, ◌-◌, ◌^◌, min, Bool, false, List, [], ◌∷◌, ◌++◌, arith, length, drop, take, None, Some, Option, Result, Ok, Err, String, string_bytes, refl, sym, ap, ◌∙◌, subst, inl, inr, take-append-drop, ◌≢◌}
+use Rattle.std.proofs.Common.{◌≡◌, ◌⊎◌, ℕ, ◌+◌, ◌-◌, ◌^◌, min, Bool, false, List, [], ◌∷◌, ◌++◌, arith, length, drop, take, map, None, Some, Option, Result, Ok, Err, String, string_bytes, refl, sym, ap, ◌∙◌, subst, inl, inr, take-append-drop, ◌≢◌}
+use Rattle.std.proofs.lemmas.List.{map-id}
 use Rattle.std.proofs.Math.Path.{transport}
 use Rattle.std.specs.Io.KnownBytes.{Consumes, IsAtEnd}
 use Rattle.dbus_device.specs.Device.{Wrote}
@@ -8,7 +9,6 @@ use Rattle.dbus_value_model.specs.ByteNumbers.{IsBytes}
 use Rattle.dbus_value_model.proofs.Numbers.{IsBytes-rest}
 use Rattle.dbus_value_model.specs.declared.fault.Fault.{Fault}
 use Rattle.dbus_value_model.specs.declared.limits.Limits.{Limits}
-use Rattle.dbus_count.specs.Counting.{Counting}
 use Rattle.dbus_count.specs.Spans.{span_text}
 use Rattle.dbus_count.specs.Tables.{AreTables, words, OneTable}
 use Rattle.dbus_call_lines.specs.Keeping.{ended_rows}
@@ -33,7 +33,7 @@ use Rattle.cli_report.specs.declared.ending.Cause.{Cause}
 use Rattle.cli_report.specs.declared.ending.ExitStatus.{ExitStatus}
 use Rattle.cli_report.specs.declared.ending.ExitStatus.TheVariants as status
 use Rattle.cli_run.specs.Laws.{AreOfOneInput, AreOfSamePackets, AreToldAlike, EndAlike, MadeAlike, OneCalls, OneCount, OneListing, OneRun, OneSums, OneWithin, HaveNoDouble, TellsOne}
-use Rattle.cli_run.specs.ByName.{EndsCounts, MakesCounts, counting, first_counts, span_of}
+use Rattle.cli_run.specs.ByName.{EndsCounts, MakesCounts, after_messages, counting, first_counts, items_of, span_of, table_form}
 use Rattle.cli_run.specs.CallListing.{EndsCalls, IsNote, MakesCalls, all_named, first_calls, lack_times, notes, numbered}
 use Rattle.cli_run.specs.CallSumming.{EndsSums, MakesSums, first_sums}
 use Rattle.cli_run.specs.Going.{AreTold, Goes, GoesFar, GoesThrough, IsThrough, IsToldLast, closing_line, cut_tally, passed_count, status_at, tally_of, tally_with}
@@ -56,8 +56,8 @@ use Rattle.cli_run.proofs.FrontSteps.{HaveSameFronts, refused_as, told_as}
 use Rattle.cli_run.proofs.GoSteps.{none_is as none_refused_is}
 use Rattle.cli_run.proofs.Outputs.{header_one}
 use Rattle.cli_run.proofs.PartLaws.{is_last, parts_more, parts_of}
-use Rattle.cli_run.proofs.SameOutputs.{TellsOneOf, acts_as, are_passed, none_last, none_refused, none_told, one_placed, same_counts, same_last, same_outputs, same_told}
-use Rattle.cli_run.proofs.SameFar.{filled_alike, items_of, lines_filled, not_through, same_far}
+use Rattle.cli_run.proofs.SameOutputs.{TellsOneOf, acts_as, are_passed, none_last, none_refused, none_told, one_placed, same_first, same_last, same_outputs, same_selected, same_told}
+use Rattle.cli_run.proofs.SameFar.{filled_alike, lines_filled, not_through, same_far, same_items as items_alike}
 use Rattle.cli_run.proofs.SameParts.{AreKnown, EndsAll, EndsHere, ends_here, one_packet, same_cut, same_parts}
 use Rattle.cli_run.proofs.SumSteps.{sums_all}
 use Rattle.std.specs.List.{concat}
@@ -353,9 +353,9 @@ one_listing R S W V E F r s w v e f settings wanted most more end other (inr gav
 
 -- ---- runs that write more at their ends
 
-module _ {T : Type 0} (makes : T → List Placed → List ℕ → T → Type 0) (t : T) (ends : T → (text note : List ℕ) → Type 0) where
+module _ {T : Type 0} (makes : T → List Placed → List ℕ → T → Type 0) (ends : T → (text note : List ℕ) → Type 0) where
   -- the texts of messages and of the end were written, and its note was told after this
-  record WroteAll {W E : Type 0} (w : Writing W) (e : Writing E) (items : List Placed) (told : List ℕ) : Type 0 where
+  record WroteAll (t : T) {W E : Type 0} (w : Writing W) (e : Writing E) (items : List Placed) (told : List ℕ) : Type 0 where
     then : T
     text : List ℕ
     last : List ℕ
@@ -366,11 +366,11 @@ module _ {T : Type 0} (makes : T → List Placed → List ℕ → T → Type 0) 
     second : Wrote e.held e.failures e.old (told ++ note) e.new
 
   -- unless the run failed
-  wrote_all : {W E : Type 0} (w : Writing W) (e : Writing E) (middle : W) (before : E) (last : Result (String Global) Cause) (due end : ExitStatus) (items : List Placed) (told : List ℕ) → (end ≡ status.Failed → ⊥)
+  wrote_all : (t : T) {W E : Type 0} (w : Writing W) (e : Writing E) (middle : W) (before : E) (last : Result (String Global) Cause) (due end : ExitStatus) (items : List Placed) (told : List ℕ) → (end ≡ status.Failed → ⊥)
       → (made : WritesMade makes t false (writing w.held w.failures w.old middle) (writing e.held e.failures e.old before) items told) × WritesLast ends made.then (writing w.held w.failures middle w.new) last
-      → EndsSo (writing e.held e.failures before e.new) due end last → WroteAll w e items told × (end ≡ due)
-  wrote_all w e middle before (Err cause) due end items told done came so = absurd (done so.1)
-  wrote_all w e middle before (Ok note) due end items told done (h, last) so = elim so [
+      → EndsSo (writing e.held e.failures before e.new) due end last → WroteAll t w e items told × (end ≡ due)
+  wrote_all t w e middle before (Err cause) due end items told done came so = absurd (done so.1)
+  wrote_all t w e middle before (Ok note) due end items told done (h, last) so = elim so [
     | inl noted ↦ (
       record {
         then = h.then;
@@ -387,60 +387,63 @@ module _ {T : Type 0} (makes : T → List Placed → List ℕ → T → Type 0) 
     | inr stopped ↦ absurd (done stopped.1)
   ]
 
-  module _ {R S W V E F : Type 0} (r : Reading R) (s : Reading S) (w : Writing W) (v : Writing V) (e : Writing E) (f : Writing F) (settings : Settings) {most more : ℕ} {end other : ExitStatus} where
-    all_alike : (g : EndsAfterAll makes t ends r w e settings most end) (h : EndsAfterAll makes t ends s v f settings more other) → AreOfOneInput r s settings end other
-        → AreAlikeRuns (taken r) (taken s) (WroteAll w e) (WroteAll v f) end other
+  module _ {R S W V E F : Type 0} (t u : T) (r : Reading R) (s : Reading S) (w : Writing W) (v : Writing V) (e : Writing E) (f : Writing F) (settings : Settings) {most more : ℕ} {end other : ExitStatus} where
+    all_alike : (g : EndsAfterAll makes t ends r w e settings most end) (h : EndsAfterAll makes u ends s v f settings more other) → AreOfOneInput r s settings end other
+        → AreAlikeRuns (taken r) (taken s) (WroteAll t w e) (WroteAll u v f) end other
     all_alike g h is =
         let input = is.input in
-        let due = (wrote_all w e g.middle g.before g.last g.due end g.through.messages _ is.done g.through.came g.ends_so).1 in
+        let due = (wrote_all t w e g.middle g.before g.last g.due end g.through.messages _ is.done g.through.came g.ends_so).1 in
         let tells = subst (λ (x : ExitStatus). TellsOne (r.packets r.old) settings input.0 x) due is.one in
         let all = goes_alike settings false input.0 input.1 g.through h.through tells input.2 input.3 (taken_alike r s _ g.due (sym due) is.told) in
-        let one = wrote_all w e g.middle g.before g.last g.due end all.0 all.2 is.done all.3 g.ends_so in
-        let too = wrote_all v f h.middle h.before h.last h.due other all.1 all.2 is.other_done all.4 h.ends_so in
+        let one = wrote_all t w e g.middle g.before g.last g.due end all.0 all.2 is.done all.3 g.ends_so in
+        let too = wrote_all u v f h.middle h.before h.last h.due other all.1 all.2 is.other_done all.4 h.ends_so in
         (all.0, all.1, all.2, one.0, too.0, too.1 ∙ (all.5 ∙ sym one.1), all.6, all.7, all.8)
 
     -- the law: if what is made of the same messages is the same, they end alike
-    one_meaning : ((items : List Placed) (a b : T) (p q x y m n : List ℕ) → makes t items p a → ends a x m → makes t items q b → ends b y n → (p ++ x ≡ q ++ y) × (m ≡ n)) → RunsToEnd makes t ends r w e settings most end → RunsToEnd makes t ends s v f settings more other
+    one_meaning : ((items : List Placed) (a b : T) (p q x y m n : List ℕ) → makes t items p a → ends a x m → makes u items q b → ends b y n → (p ++ x ≡ q ++ y) × (m ≡ n)) → RunsToEnd makes t ends r w e settings most end → RunsToEnd makes u ends s v f settings more other
         → AreOfOneInput r s settings end other → AreOfSamePackets r s → EndAlike w v e f end other
     one_meaning one (inl g) (inl h) is packets =
         let all = all_alike g h is in
         let a = all.3 in
-        let b = subst (λ (l : List Placed). WroteAll v f l all.2) (sym (same_items r s all packets)) all.4 in
+        let b = subst (λ (l : List Placed). WroteAll u v f l all.2) (sym (same_items r s all packets)) all.4 in
         let same = one all.0 a.then b.then a.text b.text a.last b.last a.note b.note a.made a.at_end b.made b.at_end in
         got_alike w v e f all.5 same.0 (ap (λ l. all.2 ++ l) same.1) a.first b.first a.second b.second
     one_meaning one (inl g) (inr gave_up) is packets = absurd (is.other_done gave_up.failed)
     one_meaning one (inr gave_up) ran is packets = absurd (is.done gave_up.failed)
 
 pub one_count : (R S W V E F : Type 0) → OneTable → OneCount R S W V E F
-one_count R S W V E F one_table r s w v e f settings form most more end other (inl g) (inl h) is =
-    let all = all_alike MakesCounts (first_counts form) EndsCounts r s w v e f settings g h is in
-    let items = all.0 in
-    let also = all.1 in
+one_count R S W V E F one_table r s w v e f settings most more selection copy end other alike (inl g) (inl h) is =
+    let form = table_form settings.as_json in
+    let all = all_alike MakesCounts EndsCounts (first_counts form selection) (first_counts form copy) r s w v e f settings g h is in
     let told = all.2 in
     let a = all.3 in
     let b = all.4 in
-    let one = counts_all form items a.then a.text a.last a.note a.made a.at_end in
-    let too = counts_all form also b.then b.text b.last b.note b.made b.at_end in
-    let counts_too = λ (name : List ℕ). same_counts (s.packets s.old) (r.packets r.old) 1 0 all.6 also items name None all.8 all.7 in
-    let same = subst (λ (c : Counting). AreTables form c words too.0.tables) (λ i name. counts_too name i) too.0.are in
-    let table = one_table form (counting items) words one.0.tables too.0.tables one.0.are same in
-    let note : told ++ a.note ≡ told ++ b.note = ap (λ l. told ++ l) (one.1 ∙ sym too.1) in
+    let one = counts_all form selection all.0 a.then a.text a.last a.note a.made a.at_end in
+    let too = counts_all form copy all.1 b.then b.text b.last b.note b.made b.at_end in
+    let known_first = same_first selection copy alike in
+    let items : items_of one.0 ≡ items_of too.0
+    = same_selected selection copy alike (λ m. m.item) (λ m l e. ap (λ (i : CutMessage). i.message) e) _ _ all.0 all.1 one.0 too.0 known_first (items_alike (r.packets r.old) (s.packets s.old) 1 0 all.6 all.0 all.1 all.7 all.8) one.1 too.1 in
+    let placed : AreOfSamePackets r s → one.0 ≡ too.0
+    = λ packets. sym (map-id one.0) ∙ (same_selected selection copy alike (λ m. m) (λ m l e. ap (λ (x : Placed). x.item.message) e) _ _ all.0 all.1 one.0 too.0 known_first (ap (map (λ m. m)) (same_items r s all packets)) one.1 too.1 ∙ map-id too.0) in
+    let same = subst (λ (l : List CutMessage). AreTables form (λ name. after_messages l name None) words too.2.tables) (sym items) too.2.are in
+    let table = one_table form (counting one.0) words one.2.tables too.2.tables one.2.are same in
+    let note : told ++ a.note ≡ told ++ b.note = ap (λ l. told ++ l) (one.3 ∙ sym too.3) in
     let second = subst (λ l. Wrote f.held f.failures f.old l f.new) (sym note) b.second in
-    let text : a.text ++ a.last ≡ one.0.tables ++ span_text form (span_of items) = λ i. a.made.none i ++ one.0.is i in
-    let other_text : b.text ++ b.last ≡ one.0.tables ++ span_text form (span_of also) = λ i. b.made.none i ++ (too.0.is ∙ ap (λ l. l ++ span_text form (span_of also)) (sym table)) i in (
+    let text : a.text ++ a.last ≡ one.2.tables ++ span_text form (span_of one.0) = λ i. a.made.none i ++ one.2.is i in
+    let other_text : b.text ++ b.last ≡ one.2.tables ++ span_text form (span_of too.0) = λ i. b.made.none i ++ (too.2.is ∙ ap (λ l. l ++ span_text form (span_of too.0)) (sym table)) i in (
       record {
         status_is = all.5;
-        tables = one.0.tables;
-        span = span_of items;
-        other_span = span_of also;
+        tables = one.2.tables;
+        span = span_of one.0;
+        other_span = span_of too.0;
         one = subst (λ l. Wrote w.held w.failures w.old l w.new) text a.first;
         same = subst (λ l. Wrote v.held v.failures v.old l v.new) other_text b.first;
         second = (told ++ a.note, a.second, second);
       },
-      λ packets. got_alike w v e f all.5 (text ∙ (ap (λ (l : List Placed). one.0.tables ++ span_text form (span_of l)) (same_items r s all packets) ∙ sym other_text)) note a.first b.first a.second b.second,
+      λ packets. got_alike w v e f all.5 (text ∙ (ap (λ (l : List Placed). one.2.tables ++ span_text form (span_of l)) (placed packets) ∙ sym other_text)) note a.first b.first a.second b.second,
     )
-one_count R S W V E F one_table r s w v e f settings form most more end other (inl g) (inr gave_up) is = absurd (is.other_done gave_up.failed)
-one_count R S W V E F one_table r s w v e f settings form most more end other (inr gave_up) counted is = absurd (is.done gave_up.failed)
+one_count R S W V E F one_table r s w v e f settings most more selection copy end other alike (inl g) (inr gave_up) is = absurd (is.other_done gave_up.failed)
+one_count R S W V E F one_table r s w v e f settings most more selection copy end other alike (inr gave_up) counted is = absurd (is.done gave_up.failed)
 
 -- of the same messages the note is the same
 one_note : (lacks : Bool) (xs : List Numbered) (note other : List ℕ) → IsNote lacks xs note → IsNote lacks xs other → note ≡ other
@@ -450,13 +453,13 @@ one_note lacks xs note other h k =
     h.2 ∙ (ap (notes lacks) same ∙ sym k.2)
 
 pub one_calls : (R S W V E F : Type 0) → OneCalls R S W V E F
-one_calls R S W V E F r s w v e f settings wanted most more end other = one_meaning MakesCalls (first_calls wanted) EndsCalls r s w v e f settings (λ items a b p q x y m n made ends again too.
+one_calls R S W V E F r s w v e f settings wanted most more end other = one_meaning MakesCalls EndsCalls (first_calls wanted) (first_calls wanted) r s w v e f settings (λ items a b p q x y m n made ends again too.
     let h = rows_all wanted items a p x m made ends in
     let k = rows_all wanted items b q y n again too in
     (h.2 ∙ (ap (rows_text wanted) (one_list (all_named items) h.0 k.0 h.1 k.1) ∙ sym k.2), one_note (lack_times wanted items) (all_named items) m n h.3 k.3))
 
 pub one_sums : (R S W V E F : Type 0) → OneSums R S W V E F
-one_sums R S W V E F r s w v e f settings wanted most more end other = one_meaning MakesSums (first_sums wanted) EndsSums r s w v e f settings (λ items a b p q x y m n made ends again too.
+one_sums R S W V E F r s w v e f settings wanted most more end other = one_meaning MakesSums EndsSums (first_sums wanted) (first_sums wanted) r s w v e f settings (λ items a b p q x y m n made ends again too.
     let h = sums_all wanted items a p x m made ends in
     let k = sums_all wanted items b q y n again too in
     let rows = one_list (numbered items) h.0.0 k.0.0 h.0.1 k.0.1 in

@@ -17,6 +17,7 @@ use Rattle.dbus_message_model.specs.Messages.{IsValidMessage}
 use Rattle.dbus_explain.specs.Laws.{HeaderHasNoDouble}
 use Rattle.dbus_names.specs.NameStates.{NameState}
 use Rattle.cli_options.specs.declared.resync.Resync.TheVariants.{Within}
+use Rattle.cli_options.specs.declared.selection.Selection.{Selection}
 use Rattle.cli_options.specs.declared.settings.Settings.{Settings}
 use Rattle.cli_report.specs.Devices.{reading, writing, Reading, Writing}
 use Rattle.cli_report.specs.declared.ending.ExitStatus.{ExitStatus}
@@ -29,14 +30,14 @@ use Rattle.dbus_value_model.specs.declared.limits.Limits.{Limits}
 use Rattle.dbus_count.specs.Spans.{span_text}
 use Rattle.dbus_count.specs.declared.form.Form.{Form}
 use Rattle.dbus_count.specs.declared.span.Span.{Span}
-use Rattle.cli_options.specs.Selections.{AreSameCommand}
+use Rattle.cli_options.specs.Selections.{AreSameCommand, AreSameSelected}
 use Rattle.cli_report.specs.declared.ending.ExitStatus.TheVariants as status
 use Rattle.cli_run.specs.Running.{Runs, RunsWith, Writes}
 use Rattle.cli_run.specs.Going.{AreTold}
 use Rattle.cli_run.specs.Output.{AreAlike, IsExact, IsFirstOutput, IsFront, IsOutputOfAll, form_of, output_of}
 use Rattle.dbus_call_lines.specs.Listing.{AreNames}
 use Rattle.dbus_call_lines.specs.declared.wanted.Wanted.{Wanted}
-use Rattle.cli_run.specs.ByName.{CountsByName}
+use Rattle.cli_run.specs.ByName.{CountsByName, table_form}
 use Rattle.cli_run.specs.CallListing.{ListsCalls, all_named}
 use Rattle.cli_run.specs.CallSumming.{SumsCalls}
 use Rattle.cli_run.specs.Inputs.{BeginWithParts, Part, Placed, looked_in, sizes_of}
@@ -179,11 +180,11 @@ pub record CountAlike {W V E F : Type 0} (w : Writing W) (v : Writing V) (e : Wr
   pub same : Wrote v.held v.failures v.old (tables ++ span_text form other_span) v.new
   pub second : GotAlike e f
 
--- two runs that count messages by their names
+-- two runs that count messages by their names, and select the same ones
 abbrev pub OneCount : (R S W V E F : Type 0) → Type 0
-OneCount R S W V E F = (r : Reading R) (s : Reading S) (w : Writing W) (v : Writing V) (e : Writing E) (f : Writing F) (settings : Settings) (form : Form) (most more : ℕ) (end other : ExitStatus)
-    → CountsByName r w e settings form most end → CountsByName s v f settings form more other → AreOfOneInput r s settings end other
-    → CountAlike w v e f form end other × (AreOfSamePackets r s → EndAlike w v e f end other)
+OneCount R S W V E F = (r : Reading R) (s : Reading S) (w : Writing W) (v : Writing V) (e : Writing E) (f : Writing F) (settings : Settings) (most more : ℕ) (selection copy : Option Selection) (end other : ExitStatus)
+    → AreSameSelected selection copy → CountsByName r w e settings selection most end → CountsByName s v f settings copy more other → AreOfOneInput r s settings end other
+    → CountAlike w v e f (table_form settings.as_json) end other × (AreOfSamePackets r s → EndAlike w v e f end other)
 
 -- two runs that list calls, of the same packets: a line has the time of its call's packet
 abbrev pub OneCalls : (R S W V E F : Type 0) → Type 0

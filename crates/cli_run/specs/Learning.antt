@@ -1,6 +1,6 @@
 -- Which messages a selection selects, by the owners of well-known names that it knows: its own, and
 -- those that the messages of the input tell. D-Bus Specification, "Message Bus Names".
-use Rattle.std.specs.Prelude.{◌≡◌, ◌↔◌, ◌&&◌, ℕ, List, [], ◌∷◌, Bool, true, IsTrue, if◌then◌else◌, Option, None, Some, option_map}
+use Rattle.std.specs.Prelude.{◌≡◌, ◌↔◌, ◌⊎◌, ◌&&◌, ℕ, List, [], ◌∷◌, Bool, true, IsTrue, if◌then◌else◌, Option, None, Some, option_map}
 use Rattle.std.specs.FinSet.{empty, from_list}
 use Rattle.std.specs.List.{list_any}
 use Rattle.std.specs.declared.alloc.Global.{Global}
@@ -60,6 +60,12 @@ known_after_all selection state (m ∷ items) = known_after_all selection (known
 abbrev pub Selects : Option Selection → NameState → MessageTree → Type 0
 Selects None state m = Unit {0}
 Selects (Some selection) state m = SelectsBy selection (owners_in state.owners) m
+
+-- the messages that it selects of these, in their order, if it knows this before them
+abbrev pub AreSelected : Option Selection → NameState → (items selected : List Placed) → Type 0
+AreSelected selection state [] selected = selected ≡ []
+AreSelected selection state (m ∷ items) selected = (later : List Placed) × AreSelected selection (known_after selection state m.item.message) items later
+    × ((Selects selection state m.item.message × (selected ≡ m ∷ later)) ⊎ ((Selects selection state m.item.message → ⊥) × (selected ≡ later)))
 
 -- the selection of a selector
 abbrev pub selection_of : Option Selector → Option Selection

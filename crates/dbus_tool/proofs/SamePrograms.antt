@@ -56,7 +56,7 @@ use Rattle.cli_run.proofs.SameRuns.{one_calls, one_count, one_run, one_sums}
 use Rattle.cli_encode_laws.proofs.OneEncoding.{one_encoding}
 use Rattle.dbus_tool.specs.Alike.{AskAlike, IsOneTask, IsOneWay, OneProgram, RunAlike, TaskAlike, TellsOneBehind}
 use Rattle.dbus_tool.specs.Handshaking.{TakesHandshake, TellsHandshake, ahead, handshake_line, EndsList, IsListed, Lengthens, Lists, WritesLines, last_line}
-use Rattle.dbus_tool.specs.Words.{Does, DoesBy, DoesCalls, DoesTask, Notes, RunsNoted, calls_wanted, encoding_wanted, owner_note, table_form}
+use Rattle.dbus_tool.specs.Words.{Does, DoesBy, DoesCalls, DoesTask, Notes, RunsNoted, calls_wanted, encoding_wanted, owner_note}
 use Rattle.cli_options.proofs.Nothing.{no_task}
 use Rattle.dbus_tool.proofs.SameAsked.{AreSameAsked, request, same_asked, same_by, same_lacks}
 
@@ -279,7 +279,7 @@ module _ {R S W V : Type 0} (one_table : OneTable) (left : R → Option (List �
         (one_run (ReadAhead R) (ReadAhead S) W V E F (ahead left calls failures packets packet r r1) (ahead other_left other_calls other_failures other_packets other_packet s s1) w v e f settings _ _ (record { output = output; selection = a }) (record { output = output; selection = b }) end other (refl, same) does doing
         (record { input = here.0; told = told_from r s here (told_of (form_of output) run); one = tells here.0.0 here.0.2; done = done; other_done = other_done })).1 exact (placed_alike (form_of output) run r s here))
     done_alike Count a b same exact run = tasks_alike Count a b (λ r s here tells does doing.
-        (one_count (ReadAhead R) (ReadAhead S) W V E F one_table (ahead left calls failures packets packet r r1) (ahead other_left other_calls other_failures other_packets other_packet s s1) w v e f settings (table_form settings.as_json) _ _ end other does doing
+        (one_count (ReadAhead R) (ReadAhead S) W V E F one_table (ahead left calls failures packets packet r r1) (ahead other_left other_calls other_failures other_packets other_packet s s1) w v e f settings _ _ a b end other same does doing
         (record { input = here.0; told = inl (here.1 run); one = tells here.0.0 here.0.2; done = done; other_done = other_done })).1 (here.1 run))
     done_alike (Calls wanted) a b same exact run = tasks_alike (Calls wanted) a b (λ r s here tells does doing.
         either_alike (ahead left calls failures packets packet r r1) (ahead other_left other_calls other_failures other_packets other_packet s s1) wanted.by_member (calls_wanted settings.as_json wanted) (here.1 run) does doing

@@ -29,8 +29,6 @@ use Rattle.cli_options.specs.declared.command.Request.{Request}
 use Rattle.cli_options.specs.declared.command.Task.{Task}
 use Rattle.cli_options.specs.declared.command.Task.TheVariants.{Write, Count, Lines, Calls}
 use Rattle.cli_options.specs.declared.selection.Selection.{Selection}
-use Rattle.dbus_count.specs.declared.form.Form as tables
-use Rattle.dbus_count.specs.declared.form.Form.TheVariants as written
 use Rattle.dbus_call_lines.specs.declared.form.Form.TheVariants.{Text as InWords, Json as InJson}
 use Rattle.dbus_call_lines.specs.declared.wanted.Wanted.{Wanted}
 use Rattle.cli_options.specs.declared.settings.Settings.{Settings}
@@ -67,11 +65,6 @@ abbrev pub ShowsText : {W E : Type 0} → Writing W → Writing E → List ℕ �
 ShowsText w e text end = ((end ≡ status.Done) × Wrote w.held w.failures w.old text w.new × (e.new ≡ e.old))
     ⊎ ((end ≡ status.Failed) × Told e.held e.failures e.old e.new cause.WriteFailed × (n : ℕ) × Stopped w.held w.failures w.old text n w.new)
 
--- the form in which the tables are written
-abbrev pub table_form : (as_json : Bool) → tables.Form
-table_form true = written.Json
-table_form false = written.Text
-
 -- the list that `calls` asks for
 abbrev pub calls_wanted : (as_json : Bool) → WantedCalls → Wanted
 calls_wanted as_json wanted = record { form = if as_json then InJson else InWords; unanswered = wanted.unanswered; errors = wanted.errors; slower = wanted.slower }
@@ -89,7 +82,7 @@ DoesCalls r w e settings false wanted end = ListsCalls r w e settings wanted (2 
 -- are counted by their names, they are listed, or their calls are listed or summed up
 abbrev pub DoesBy : {R W E : Type 0} → Reading R → Writing W → Writing E → Settings → Option Selection → Task → ExitStatus → Type 0
 DoesBy r w e settings selection (Write output) end = RunsWith r w e settings (2 ^ 32) (record { output = output; selection = selection }) end
-DoesBy r w e settings selection Count end = CountsByName r w e settings (table_form settings.as_json) (2 ^ 32) end
+DoesBy r w e settings selection Count end = CountsByName r w e settings selection (2 ^ 32) end
 DoesBy r w e settings selection (Lines width) end = ListsLines r w e settings (record { selection = selection; width = width }) (2 ^ 32) end
 DoesBy r w e settings selection (Calls wanted) end = DoesCalls r w e settings wanted.by_member (calls_wanted settings.as_json wanted) end
 

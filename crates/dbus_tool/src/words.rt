@@ -2,7 +2,7 @@
 ghost use Rattle.std.specs.Prelude.{◌≡◌, map, string_bytes};
 ghost use Rattle.cli_report.specs.Devices.{writing};
 ghost use Rattle.dbus_tool.specs.Handshaking.{Shows, TakesHandshake, TellsHandshake, Lists, ahead};
-ghost use Rattle.dbus_tool.specs.Words.{Does, DoesCalls, DoesTask, Notes, RefusesRule, RunsWords, ShowsText, calls_wanted, encoding_wanted, is_noted, table_form};
+ghost use Rattle.dbus_tool.specs.Words.{Does, DoesCalls, DoesTask, Notes, RefusesRule, RunsWords, ShowsText, calls_wanted, encoding_wanted, is_noted};
 
 use crate::lines::handshake_line;
 use crate::listing::write_lines;
@@ -42,8 +42,8 @@ const OWNER_NOTE: &str =
 /// the start of the input and the name of the reason.
 ///
 /// If they name `count`, the second writer gets the report of what is refused as from [`run_with`],
-/// and then the first gets the tables of the number of messages with each name, as
-/// [`dbus_count::Counts::tables`] says.
+/// and then the first gets the tables of the number of messages with each name, as from
+/// [`cli_run::count_by_name`].
 ///
 /// If they name `list`, the first writer gets the lines of the messages, as from
 /// [`cli_run::list_lines`].
@@ -151,10 +151,7 @@ fn do_task<R: Source, W: Sink, E: Sink>(
                 let command = Command { output, selection };
                 run_with(alloc, command, settings, MOST_READS, reader, first, second)
             }
-            Task::Count => {
-                let form = table_form(settings.as_json);
-                count_by_name(alloc, settings, form, reader, first, second)
-            }
+            Task::Count => count_by_name(alloc, settings, &selection, reader, first, second),
             Task::Calls(wanted) => do_calls(alloc, settings, wanted, reader, first, second),
             Task::Lines(width) => {
                 let wanted = WantedLines { selection, width };
@@ -199,17 +196,6 @@ fn take_handshake<R: Source>(
     match side {
         Some(side) => pass_handshake(alloc, side, reader),
         None => Ok(()),
-    }
-}
-
-// The form of tables.
-fn table_form(as_json: bool) -> dbus_count::Form
-    ensures { result ≡ table_form as_json }
-{
-    if as_json {
-        dbus_count::Form::Json
-    } else {
-        dbus_count::Form::Text
     }
 }
 

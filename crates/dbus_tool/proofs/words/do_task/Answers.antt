@@ -1,7 +1,4 @@
-use Rattle.std.proofs.Common.{inl, subst}
-use Rattle.cli_report.specs.Devices.{writing}
-use Rattle.cli_run.specs.ByName.{CountsByName}
-use Rattle.dbus_tool.specs.Handshaking.{ahead}
+use Rattle.std.proofs.Common.{inl}
 use Rattle.dbus_tool.proofs.words.do_task.Goals as goal
 
 pub returns-in-Write : goal.returns-in-Write
@@ -11,12 +8,7 @@ pub returns-in-Calls : goal.returns-in-Calls
 returns-in-Calls g c = rw c.in-Calls.is (inl (c.take_handshake.new.reader, c.in-Ok.ensures, c.do_calls.ensures))
 
 pub returns-in-Count : goal.returns-in-Count
-returns-in-Count g c =
-    let r = ahead g.R.Source.left g.R.Source.calls g.R.Source.failures g.R.Source.packets g.R.Source.packet c.take_handshake.new.reader c.count_by_name.new.reader in
-    let w = writing g.W.Sink.held g.W.Sink.failures c.args.first.now c.count_by_name.new.first in
-    let e = writing g.E.Sink.held g.E.Sink.failures c.args.second.now c.count_by_name.new.second in
-    let counts = subst (λ form. CountsByName r w e c.args.request.settings form _ c.count_by_name.result) c.table_form-form.ensures c.count_by_name.ensures in
-    rw c.in-Count.is (inl (c.take_handshake.new.reader, c.in-Ok.ensures, counts))
+returns-in-Count g c = rw c.in-Count.is (inl (c.take_handshake.new.reader, c.in-Ok.ensures, c.count_by_name.ensures))
 
 pub returns-in-Lines : goal.returns-in-Lines
 returns-in-Lines g c = rw c.in-Lines.is (inl (c.take_handshake.new.reader, c.in-Ok.ensures, c.list_lines.ensures))
