@@ -340,11 +340,26 @@ def head(members, number):
     return kind, integer(members["serial"], "u") if "serial" in members else number
 
 
+def known_value(node, code, kind):
+    if code not in KNOWN_TEXTS:
+        found = integer(node, kind) if kind == "u" else text(node, kind)
+        if code == 5 and found == 0:
+            refuse(node.at, "ZeroSerial")
+        return found
+    reason, form = KNOWN_TEXTS[code]
+    if node.kind != "string":
+        refuse(node.at, "Form")
+    if len(node.value.encode()) > 255 or not re.fullmatch(form, node.value):
+        refuse(node.at, reason)
+    return node.value
+
+
 def known_fields(whole):
+    """The codes and values of the known header fields, in the order of their members."""
     for name, _, node in whole.value:
         if name in NAMES:
             code, kind = NAMES[name]
-            yield code, node, integer(node, kind) if kind == "u" else text(node, kind)
+            yield code, known_value(node, code, kind)
 
 
 def other_fields(node, end):
@@ -378,7 +393,7 @@ def message(whole, number):
     kind, serial = head(members, number)
     known = list(known_fields(whole))
     others = list(other_fields(members["fields"], len(known))) if "fields" in members else []
-    types = types_of(next((found for code, _, found in known if code == 8), ""))
+    types = types_of(next((found for code, found in known if code == 8), ""))
     if "body" in members:
         values(members["body"], types, DEPTH)
     elif types:
@@ -392,18 +407,12 @@ def rules(whole, members, kind, serial, known, others):
         refuse(members["type"].at, "Kind")
     if serial == 0:
         refuse(members["serial"].at, "ZeroSerial")
-    for code, node, found in known:
-        if code == 5 and found == 0:
-            refuse(node.at, "ZeroSerial")
     for code, item in others:
         if code == 0:
             refuse(item.at, "FieldCode")
     for code in REQUIRED.get(kind, ()):
         if code not in [it[0] for it in known]:
             refuse(whole.at, f"FieldMissing({code})")
-    for code, node, found in known:
-        if code in KNOWN_TEXTS and (len(found.encode()) > 255 or not re.fullmatch(KNOWN_TEXTS[code][1], found)):
-            refuse(node.at, KNOWN_TEXTS[code][0])
 
 
 def is_utf8(text):

@@ -22,7 +22,7 @@ parsed E text n h plus zeros =
 pub not_parsed : (E : Type 0) (text : List ℕ) (e : E) (n : ℕ) → ParsesUnsigned {E = E} 64 10 text (Err e) → n < 2 ^ 64 → text ≡ decimal n → ⊥
 not_parsed E text e n h small is = let ok = parse-decimal 64 n text (Err e) small small is h in cc
 
-zero_text : decimal 0 ≡ 48 ∷ []
+pub zero_text : decimal 0 ≡ 48 ∷ []
 unfolding digits
 zero_text = refl
 

@@ -1,10 +1,13 @@
 -- Known header fields that are read one after another.
-use Rattle.std.proofs.Common.{◌≡◌, ℕ, Bool, true, false, not, ◌||◌, cond, inl, inr, List, [], ◌∷◌, ◌++◌, IsTrue, refl, sym, ap, ◌∙◌, subst, append_assoc}
+use Rattle.std.proofs.Common.{◌≡◌, ℕ, Bool, true, false, not, ◌||◌, cond, inl, inr, List, [], ◌∷◌, ◌++◌, IsTrue, refl, sym, ap, ◌∙◌, subst, ◌+◌, ◌<◌, length, get_or, take, drop, filter}
 use Rattle.std.proofs.lemmas.Bool.{and_from, cases_Bool}
 use Rattle.std.proofs.lemmas.List.{append-nil, map-append}
+use Rattle.std.proofs.lemmas.List.Elements.{filter-append}
 use Rattle.std.specs.List.{AllZip, list_all}
 use Rattle.json.specs.Json.{Json, Members, no_members, member}
 use Rattle.json.specs.Strict.{keys}
+use Rattle.json.specs.Value.{value_view, members_view}
+use Rattle.json.specs.declared.value.Value.{Value}
 use Rattle.dbus_value_model.specs.PackedBytes.{keeps_bytes, keep_bytes}
 use Rattle.dbus_value_model.proofs.Formed.{keep_push}
 use Rattle.dbus_message_model.specs.Messages.{FieldTree}
@@ -12,28 +15,21 @@ use Rattle.dbus_message_model.specs.PackedParts.{field_values}
 use Rattle.dbus_message_model.specs.PartsViews.{field_tree, field_trees}
 use Rattle.dbus_message_model.specs.declared.header_field.HeaderField.{HeaderField}
 use Rattle.dbus_json.specs.declared.integers.Integers.{Integers}
-use Rattle.dbus_json_reader.specs.JsonMessages.{is_among, plain_names, field_members}
+use Rattle.dbus_json_reader.specs.JsonMessages.{is_among, plain_names, field_members, named_values}
 use Rattle.dbus_json_reader.specs.JsonNames.{known_names, message_names}
 use Rattle.dbus_json_reader.specs.JsonParts.{IsKnownField, AreAllKnown}
+use Rattle.dbus_json_reader.proofs.MemberNames.{parts_at, values_more}
+use Rattle.dbus_json_reader.proofs.TokenCounts.{Key}
 use Rattle.dbus_json_reader.proofs.KnownNames.{of_message, one_known, some_field}
 
 abbrev pub AreRead : (integers : Integers) → ℕ → List FieldTree → Members → Type 0
 AreRead integers depth fs ms = AllZip (IsKnownField integers depth) fs (field_members ms)
 
--- Of all these members those before `rest` spell the known fields `fs`: what `rest` spells
--- completes them, and only what begins so is spelled.
-pub record AreGoing (integers : Integers) (ms rest : Members) (fs : List FieldTree) : Type 0 where
-  pub fits : (depth : ℕ) (gs : List FieldTree) → AreRead integers depth gs rest → AreRead integers depth (fs ++ gs) ms
-  pub only : (depth : ℕ) (gs : List FieldTree) → AreRead integers depth gs ms → (hs : List FieldTree) × AreRead integers depth hs rest
-
-pub begins : (integers : Integers) (ms : Members) (fs : List FieldTree) → fs ≡ [] → AreGoing integers ms ms fs
-begins integers ms fs none = subst (AreGoing integers ms ms) (sym none) (record { fits = λ depth gs h. h; only = λ depth gs h. (gs, h) })
-
-pub record IsFirst (integers : Integers) (depth : ℕ) (fs : List FieldTree) (m : List ℕ × Json) (ms : List (List ℕ × Json)) : Type 0 where
-  pub f : FieldTree
-  pub one : IsKnownField integers depth f m
-  pub gs : List FieldTree
-  pub rest : AllZip (IsKnownField integers depth) gs ms
+record IsFirst (integers : Integers) (depth : ℕ) (fs : List FieldTree) (m : List ℕ × Json) (ms : List (List ℕ × Json)) : Type 0 where
+  f : FieldTree
+  one : IsKnownField integers depth f m
+  gs : List FieldTree
+  rest : AllZip (IsKnownField integers depth) gs ms
 
 first_of : (integers : Integers) (depth : ℕ) (fs : List FieldTree) (m : List ℕ × Json) (ms : List (List ℕ × Json)) → AllZip (IsKnownField integers depth) fs (m ∷ ms) → IsFirst integers depth fs m ms
 first_of integers depth [] m ms h = absurd h
@@ -57,35 +53,52 @@ all_named integers depth fs (member name j ms) h =
           )
     ]
 
-module _ (integers : Integers) (ms : Members) (name : List ℕ) (j : Json) (rest : Members) (fs : List FieldTree) (going : AreGoing integers ms (member name j rest) fs) where
+-- ---- the members up to an index
+
+pub begins : (integers : Integers) (depth : ℕ) (fs : List FieldTree) → fs ≡ [] → AreRead integers depth fs no_members
+begins integers depth fs none = subst (λ (gs : List FieldTree). AreRead integers depth gs no_members) (sym none) tt
+
+zip_push : {A B : Type 0} (R : A → B → Type 0) (xs : List A) (ys : List B) (x : A) (y : B) → AllZip R xs ys → R x y → AllZip R (xs ++ x ∷ []) (ys ++ y ∷ [])
+zip_push R [] [] x y h r = (r, tt)
+zip_push R [] (b ∷ ys) x y h r = absurd h
+zip_push R (a ∷ xs) [] x y h r = absurd h
+zip_push R (a ∷ xs) (b ∷ ys) x y h r = (h.0, zip_push R xs ys x y h.1 r)
+
+zip_at : {A B : Type 0} (R : A → B → Type 0) (xs : List A) (before after : List B) (y : B) → AllZip R xs (before ++ y ∷ after) → (x : A) × R x y
+zip_at R [] [] after y h = absurd h
+zip_at R (x ∷ xs) [] after y h = (x, h.0)
+zip_at R [] (b ∷ before) after y h = absurd h
+zip_at R (x ∷ xs) (b ∷ before) after y h = zip_at R xs before after y h.1
+
+abbrev is_field_member : List ℕ × Json → Bool
+is_field_member m = not (is_among plain_names m.0)
+
+module _ {A : Type 0} (ms : List (Key × Value A)) (i : ℕ) (m : Key × Value A) (within : i < length ms) (is : m ≡ get_or ms i m) where
+  abbrev here : List ℕ × Json
+  here = (m.0.now, value_view m.1)
+
+  more : (b : Bool) → is_field_member here ≡ b → field_members (members_view (take (i + 1) ms)) ≡ field_members (members_view (take i ms)) ++ cond b (here ∷ []) []
+  more b e = ap (filter is_field_member) (values_more ms i m within is) ∙ filter-append is_field_member (named_values (members_view (take i ms))) (here ∷ [])
+      ∙ ap (λ (c : Bool). field_members (members_view (take i ms)) ++ cond c (here ∷ []) []) e
+
   -- a member that is no header field
-  pub passes : is_among plain_names name ≡ true → AreGoing integers ms rest fs
-  passes e = record {
-    fits = λ depth gs h. going.fits depth gs (subst (λ (l : List (List ℕ × Json)). AllZip (IsKnownField integers depth) gs l) (sym (plain_same name j rest e)) h);
-    only = λ depth gs h. let r = going.only depth gs h in (r.0, subst (λ (l : List (List ℕ × Json)). AllZip (IsKnownField integers depth) r.0 l) (plain_same name j rest e) r.1);
-  }
+  pub plain_more : is_among plain_names m.0.now ≡ true → field_members (members_view (take (i + 1) ms)) ≡ field_members (members_view (take i ms))
+  plain_more plain = more false (ap not plain) ∙ append-nil _
 
-  -- a member that is
-  pub goes_on : is_among plain_names name ≡ false → (f : FieldTree) (all : List FieldTree) → all ≡ fs ++ f ∷ [] → ((depth : ℕ) → IsKnownField integers depth f (name, j)) → AreGoing integers ms rest all
-  goes_on e f all is one = subst (AreGoing integers ms rest) (sym is) (record {
-    fits = λ depth gs h.
-        let both : AllZip (IsKnownField integers depth) (f ∷ gs) ((name, j) ∷ field_members rest) = (one depth, h) in
-        subst (λ (l : List FieldTree). AreRead integers depth l ms) (sym (append_assoc fs (f ∷ []) gs)) (going.fits depth (f ∷ gs) (subst (λ (l : List (List ℕ × Json)). AllZip (IsKnownField integers depth) (f ∷ gs) l) (sym (field_next name j rest e)) both));
-    only = λ depth gs h.
-        let r = going.only depth gs h in
-        let p = first_of integers depth r.0 (name, j) (field_members rest) (subst (λ (l : List (List ℕ × Json)). AllZip (IsKnownField integers depth) r.0 l) (field_next name j rest e) r.1) in
-        (p.gs, p.rest);
-  })
+  module _ (integers : Integers) (depth : ℕ) (other : is_among plain_names m.0.now ≡ false) where
+    -- a member that is
+    pub field_more : (fs all : List FieldTree) (f : FieldTree) → all ≡ fs ++ f ∷ [] → AreRead integers depth fs (members_view (take i ms)) → IsKnownField integers depth f here → AreRead integers depth all (members_view (take (i + 1) ms))
+    field_more fs all f is_all h one =
+        subst (λ (gs : List FieldTree). AreRead integers depth gs (members_view (take (i + 1) ms))) (sym is_all)
+        (subst (AllZip (IsKnownField integers depth) (fs ++ f ∷ [])) (sym (more true (ap not other))) (zip_push _ fs _ f here h one))
 
-  pub stops : is_among plain_names name ≡ false → ((depth : ℕ) (f : FieldTree) → IsKnownField integers depth f (name, j) → ⊥) → (depth : ℕ) (gs : List FieldTree) → AreRead integers depth gs ms → ⊥
-  stops e none depth gs h =
-      let r = going.only depth gs h in
-      let p = first_of integers depth r.0 (name, j) (field_members rest) (subst (λ (l : List (List ℕ × Json)). AllZip (IsKnownField integers depth) r.0 l) (field_next name j rest e) r.1) in
-      none depth p.f p.one
-
-pub ends : (integers : Integers) (ms rest : Members) (fs : List FieldTree) → AreGoing integers ms rest fs → rest ≡ no_members → (depth : ℕ) → AreRead integers depth fs ms
-ends integers ms rest fs going none depth =
-    subst (λ (l : List FieldTree). AreRead integers depth l ms) (append-nil fs) (going.fits depth [] (subst (AreRead integers depth []) (sym none) tt))
+    pub field_at : (fs : List FieldTree) → AreRead integers depth fs (members_view ms) → (f : FieldTree) × IsKnownField integers depth f here
+    field_at fs h =
+        let rest = named_values (members_view (drop (i + 1) ms)) in
+        let parts : field_members (members_view ms) ≡ field_members (members_view (take i ms)) ++ here ∷ filter is_field_member rest =
+        ap (filter is_field_member) (parts_at ms i m within is) ∙ filter-append is_field_member (named_values (members_view (take i ms))) (here ∷ rest)
+        ∙ ap (λ (c : Bool). field_members (members_view (take i ms)) ++ cond c (here ∷ filter is_field_member rest) (filter is_field_member rest)) (ap not other) in
+        zip_at _ fs _ _ here (subst (AllZip (IsKnownField integers depth) fs) parts h)
 
 -- ---- lists of fields
 

@@ -2,20 +2,16 @@
 use Rattle.std.proofs.Common.{◌≡◌, ℕ, ◌+◌, ◌*◌, ◌<◌, ◌≤◌, Bool, true, false, ◌||◌, cond, eqb, List, [], ◌∷◌, map, get_or, refl, sym, ap, ◌∙◌, subst, arith}
 use Rattle.std.proofs.lemmas.Bool.{and_parts, ne_eqb, eq-eqb, eqb-true, true≢false}
 use Rattle.std.proofs.lemmas.List.Folds.{list_any-append}
-use Rattle.std.proofs.lemmas.Option.{same_Some}
 use Rattle.std.specs.List.{list_all}
 use Rattle.std.specs.Str.{bytes_eq}
 use Rattle.json.specs.Json.{Json}
-use Rattle.dbus_texts.specs.Types.{TypeTree}
-use Rattle.dbus_message_model.specs.Messages.{FieldTree, Want, want, is_known, is_particular}
-use Rattle.dbus_value_model.specs.Values.{ValueTree}
-use Rattle.dbus_build.specs.BuildFaults.{type_wanted}
+use Rattle.dbus_message_model.specs.Messages.{FieldTree, Suits, Want, Anything, OfType, Name, Serial, want, is_known, is_particular}
+use Rattle.dbus_value_model.specs.Values.{ValueTree, type_of}
 use Rattle.dbus_show.specs.ShownMessages.{field_name}
 use Rattle.dbus_json.specs.declared.integers.Integers.{Integers}
 use Rattle.dbus_json_reader.specs.JsonMessages.{is_among, plain_names}
 use Rattle.dbus_json_reader.specs.JsonNames.{known_names, message_names}
 use Rattle.dbus_json_reader.specs.JsonParts.{IsKnownField}
-use Rattle.dbus_json_reader.specs.JsonValues.{IsRead}
 use Rattle.dbus_json_reader.proofs.MemberNames.{next_or, other_bytes}
 use Rattle.dbus_json_reader.proofs.OneValue.{one_value}
 
@@ -30,23 +26,23 @@ code_in t =
 
 -- it is one of the nine, and its name is of it
 abbrev Named : ℕ → List ℕ → Type 0
-Named code name = (1 ≤ code) × (code < 10) × (code_in name ≡ code) × (is_among known_names name ≡ true)
+Named code name = (1 ≤ code) × (code < 10) × (code_in name ≡ code) × (is_among known_names name ≡ true) × (is_among plain_names name ≡ false)
 
-named_if : (b : Bool) (code k : ℕ) (name rest : List ℕ) → 1 ≤ k → k < 10 → eqb code k ≡ b → code_in name ≡ k → is_among known_names name ≡ true → ((code ≡ k → ⊥) → Named code rest) → Named code (cond b name rest)
-named_if true code k name rest low high e is among other = let same = eqb-true code k e in (omega (arith, same, low), omega (arith, same, high), is ∙ sym same, among)
-named_if false code k name rest low high e is among other = other (λ same. true≢false (sym (eq-eqb code k same) ∙ e))
+named_if : (b : Bool) (code k : ℕ) (name rest : List ℕ) → 1 ≤ k → k < 10 → eqb code k ≡ b → code_in name ≡ k → is_among known_names name ≡ true → is_among plain_names name ≡ false → ((code ≡ k → ⊥) → Named code rest) → Named code (cond b name rest)
+named_if true code k name rest low high e is among plain other = let same = eqb-true code k e in (omega (arith, same, low), omega (arith, same, high), is ∙ sym same, among, plain)
+named_if false code k name rest low high e is among plain other = other (λ same. true≢false (sym (eq-eqb code k same) ∙ e))
 
 pub named : (code : ℕ) → is_known code ≡ true → Named code (field_name code)
 named code known =
-    named_if (eqb code 1) code 1 _ _ (omega arith) (omega arith) refl refl refl (λ a.
-    named_if (eqb code 2) code 2 _ _ (omega arith) (omega arith) refl refl refl (λ b.
-    named_if (eqb code 3) code 3 _ _ (omega arith) (omega arith) refl refl refl (λ c.
-    named_if (eqb code 4) code 4 _ _ (omega arith) (omega arith) refl refl refl (λ d.
-    named_if (eqb code 5) code 5 _ _ (omega arith) (omega arith) refl refl refl (λ e.
-    named_if (eqb code 6) code 6 _ _ (omega arith) (omega arith) refl refl refl (λ f.
-    named_if (eqb code 7) code 7 _ _ (omega arith) (omega arith) refl refl refl (λ g.
-    named_if (eqb code 8) code 8 _ _ (omega arith) (omega arith) refl refl refl (λ h.
-    named_if (eqb code 9) code 9 _ _ (omega arith) (omega arith) refl refl refl (λ i.
+    named_if (eqb code 1) code 1 _ _ (omega arith) (omega arith) refl refl refl refl (λ a.
+    named_if (eqb code 2) code 2 _ _ (omega arith) (omega arith) refl refl refl refl (λ b.
+    named_if (eqb code 3) code 3 _ _ (omega arith) (omega arith) refl refl refl refl (λ c.
+    named_if (eqb code 4) code 4 _ _ (omega arith) (omega arith) refl refl refl refl (λ d.
+    named_if (eqb code 5) code 5 _ _ (omega arith) (omega arith) refl refl refl refl (λ e.
+    named_if (eqb code 6) code 6 _ _ (omega arith) (omega arith) refl refl refl refl (λ f.
+    named_if (eqb code 7) code 7 _ _ (omega arith) (omega arith) refl refl refl refl (λ g.
+    named_if (eqb code 8) code 8 _ _ (omega arith) (omega arith) refl refl refl refl (λ h.
+    named_if (eqb code 9) code 9 _ _ (omega arith) (omega arith) refl refl refl refl (λ i.
     absurd (true≢false (sym known ∙ unknown code a b c d e f g h i)))))))))))
 
 pub known_codes : (code : ℕ) → is_known code ≡ true → (1 ≤ code) × (code < 10)
@@ -87,6 +83,13 @@ no_field name none = none_in name (1 ∷ 2 ∷ 3 ∷ 4 ∷ 5 ∷ 6 ∷ 7 ∷ 8 �
 pub some_field : (name : List ℕ) (code : ℕ) → is_known code ≡ true → name ≡ field_name code → is_among known_names name ≡ true
 some_field name code known is = ap (is_among known_names) is ∙ (named code known).3
 
+pub not_plain : (name : List ℕ) (code : ℕ) → is_known code ≡ true → name ≡ field_name code → is_among plain_names name ≡ false
+not_plain name code known is = ap (is_among plain_names) is ∙ (named code known).4
+
+pub or_first : (a b : Bool) → (a || b) ≡ true → b ≡ false → a ≡ true
+or_first true b h none = refl
+or_first false b h none = absurd (true≢false (sym h ∙ none))
+
 -- a message may have a member of either kind
 pub of_message : (name : List ℕ) → is_among message_names name ≡ (is_among plain_names name || is_among known_names name)
 of_message name = list_any-append (bytes_eq name) plain_names known_names
@@ -96,9 +99,16 @@ of_message name = list_any-append (bytes_eq name) plain_names known_names
 pub same_field : (f g : FieldTree) → f.code ≡ g.code → f.value ≡ g.value → f ≡ g
 same_field f g code value = ap (λ (c : ℕ). record { code = c; value = f.value }) code ∙ ap (λ (v : ValueTree). record { code = g.code; value = v }) value
 
+same_type : (w : Want) (v u : ValueTree) → is_particular w ≡ true → Suits w v → Suits w u → type_of v ≡ type_of u
+same_type Anything v u known h k = absurd (true≢false (sym known))
+same_type (OfType t) v u known h k = h ∙ sym k
+same_type (Name w) v u known h k = ap type_of h.1 ∙ sym (ap type_of k.1)
+same_type Serial v u known h k = ap type_of h.1 ∙ sym (ap type_of k.1)
+
 -- no member spells two known fields
 pub one_known : (integers : Integers) (depth other : ℕ) (f g : FieldTree) (m : List ℕ × Json) → IsKnownField integers depth f m → IsKnownField integers other g m → f ≡ g
 one_known integers depth other f g m a b =
     let code = one_code f.code g.code a.known b.known (sym a.named ∙ b.named) in
-    let type = same_Some a.type b.type (sym a.wanted ∙ ap (λ (c : ℕ). type_wanted (want c)) code ∙ b.wanted) in
-    same_field f g code (one_value integers depth other b.type f.value g.value m.1 (subst (λ (t : TypeTree). IsRead integers depth t f.value m.1) type a.read) b.read)
+    let suits = subst (λ (c : ℕ). Suits (want c) f.value) code a.held.suits in
+    let type = same_type (want g.code) f.value g.value b.known suits b.held.suits in
+    same_field f g code (one_value integers depth other (type_of g.value) f.value g.value m.1 (record { spelled = a.held.spelled; typed = type; formed = a.held.formed }) (record { spelled = b.held.spelled; typed = refl; formed = b.held.formed }))

@@ -13,6 +13,7 @@ pub mod MemberNames
 pub mod KnownFields
 pub mod Objects
 pub mod KnownNames
+mod FieldValues
 pub mod Merging
 pub mod Messages
 pub mod Placing

@@ -91,12 +91,22 @@ module _ {A : Type 0} (ms : List (Bor (List ℕ) × Value A)) (i : ℕ) (m : Bor
   names_more =
       ap names_of (take_more ms i m within) ∙ names_append (take i ms) (get_or ms i m ∷ []) ∙ ap (λ (n : Bor (List ℕ) × Value A). names_of (take i ms) ++ n.0.now ∷ []) (sym is)
 
+  pub values_more : named_values (members_view (take (i + 1) ms)) ≡ named_values (members_view (take i ms)) ++ (m.0.now, value_view m.1) ∷ []
+  values_more =
+      ap (λ (ns : List (Bor (List ℕ) × Value A)). named_values (members_view ns)) (take_more ms i m within) ∙ named_append (take i ms) (get_or ms i m ∷ [])
+      ∙ ap (λ (n : Bor (List ℕ) × Value A). named_values (members_view (take i ms)) ++ (n.0.now, value_view n.1) ∷ []) (sym is)
+
   pub parts_at : named_values (members_view ms) ≡ named_values (members_view (take i ms)) ++ (m.0.now, value_view m.1) ∷ named_values (members_view (drop (i + 1) ms))
   parts_at =
       ap (λ (ns : List (Bor (List ℕ) × Value A)). named_values (members_view ns)) (sym (take-append-drop i ms)) ∙ named_append (take i ms) (drop i ms)
       ∙ ap (λ (ns : Members). named_values (members_view (take i ms)) ++ named_values ns) (members_at ms i m within is)
 
   module _ (names : List (List ℕ)) where
+    pub named_here : list_all (is_among names) (names_of ms) ≡ true → is_among names m.0.now ≡ true
+    named_here h =
+        let all = sym (list_all-append (is_among names) (names_of (take i ms)) (m.0.now ∷ names_of (drop (i + 1) ms))) ∙ (ap (list_all (is_among names)) (sym front) ∙ h) in
+        (and_parts _ _ (and_parts _ _ all).1).0
+
     -- a member that may have its name
     pub named_more : AreNamed names (members_view (take i ms)) → name_reason names (names_of (take i ms)) m.0.now ≡ None → AreNamed names (members_view (take (i + 1) ms))
     named_more h none =
@@ -110,9 +120,7 @@ module _ {A : Type 0} (ms : List (Bor (List ℕ) × Value A)) (i : ℕ) (m : Bor
     module _ (why : JsonReason) (broken : name_reason names (names_of (take i ms)) m.0.now ≡ Some why) where
       pub not_named : AreNamed names (members_view ms) → ⊥
       not_named h =
-          let all = sym (list_all-append (is_among names) (names_of (take i ms)) (m.0.now ∷ names_of (drop (i + 1) ms))) ∙ (ap (list_all (is_among names)) (sym front) ∙ h.named) in
-          let rest = (and_parts _ _ all).1 in
-          some_reason (is_among names m.0.now) (is_among (names_of (take i ms)) m.0.now) why broken (and_parts _ _ rest).0 (not_before m.0.now (names_of (take i ms)) (names_of (drop (i + 1) ms)) (subst AreDistinct front h.distinct))
+          some_reason (is_among names m.0.now) (is_among (names_of (take i ms)) m.0.now) why broken (named_here h.named) (not_before m.0.now (names_of (take i ms)) (names_of (drop (i + 1) ms)) (subst AreDistinct front h.distinct))
 
       pub fault_at : AreNamed names (members_view (take i ms)) → IsNameFault names (members_view ms) why (length (members_tokens (members_view (take i ms))))
       fault_at h = record {

@@ -9,7 +9,7 @@ use Rattle.json.specs.Json as json
 use Rattle.json.specs.Json.{Json, Members}
 use Rattle.json.specs.Strict.{AreDistinct, keys}
 use Rattle.json.specs.Value.{items_of}
-use Rattle.dbus_texts.specs.Types.{UINT32, STRING, SIGNATURE, TextCode, TypeTree, NumberType, TextType, NoTypes}
+use Rattle.dbus_texts.specs.Types.{SIGNATURE, TextCode, NumberType, TextType, NoTypes}
 use Rattle.dbus_texts.specs.Kinds.{IsKind}
 use Rattle.dbus_texts.specs.declared.text_kind.TextKind.TheVariants.{Signature}
 use Rattle.dbus_texts.proofs.TypeTexts.{sigs_same}
@@ -18,7 +18,7 @@ use Rattle.dbus_value_model.specs.declared.order.Order.{Order}
 use Rattle.dbus_value_model.specs.declared.order.Order.TheVariants.{Little}
 use Rattle.dbus_value_model.specs.Values.{ValueTree, ValueTrees, NumberValue, TextValue, VariantValue, ArrayValue, StructValue, EntryValue, NoValues, MoreValues, value_trees, type_of, IsWellFormed, AreWellFormed}
 use Rattle.dbus_value_model.specs.Verdicts.{HoldsNumbers, HoldNumbers}
-use Rattle.dbus_message_model.specs.Messages.{FieldTree, MessageTree, Want, Anything, OfType, Name, Serial, want, is_known, is_particular, Suits, AreFields, field_array, field_struct, body_signature, text_in, IsValidMessage}
+use Rattle.dbus_message_model.specs.Messages.{FieldTree, MessageTree, want, is_known, Suits, AreFields, field_array, field_struct, body_signature, text_in, IsValidMessage}
 use Rattle.dbus_message_model.specs.MessageTypes.{type_name}
 use Rattle.dbus_message_model.specs.MessageViews.{message_tree}
 use Rattle.dbus_message_model.specs.PackedParts.{PartsKeepBytes}
@@ -26,7 +26,7 @@ use Rattle.dbus_message_model.specs.PartsViews.{parts_tree}
 use Rattle.dbus_message_model.specs.declared.message.Message.{Message}
 use Rattle.dbus_message_model.specs.declared.parts.Parts.{Parts}
 use Rattle.dbus_message_model.proofs.Widening.{kept_valid}
-use Rattle.dbus_build.specs.BuildFaults.{type_wanted, HoldFieldNumbers, HoldTheirNumbers, IsBuilt, IsTaken, IsFirstFault}
+use Rattle.dbus_build.specs.BuildFaults.{HoldFieldNumbers, HoldTheirNumbers, IsBuilt, IsTaken, IsFirstFault}
 use Rattle.dbus_build.specs.declared.build_fault.BuildFault.{BuildFault}
 use Rattle.dbus_build.proofs.Built.{valid}
 use Rattle.dbus_json.specs.declared.integers.Integers.{Integers}
@@ -67,21 +67,8 @@ all_fit : (depth : ℕ) (fs : List FieldTree) → AreFields [] fs → IsWellForm
 all_fit zero fs are formed = absurd formed
 all_fit (suc depth) fs are formed = let less : depth - 2 ≡ suc depth - 3 = omega arith in subst (λ (n : ℕ). AllFit n fs) less (structs_fit depth [] fs are formed.1)
 
-record IsOfKnownType (w : Want) (v : ValueTree) : Type 0 where
-  type : TypeTree
-  wanted : type_wanted w ≡ Some type
-  typed : type_of v ≡ type
-
-known_type : (w : Want) (v : ValueTree) → is_particular w ≡ true → Suits w v → IsOfKnownType w v
-known_type Anything v known h = absurd (true≢false (sym known))
-known_type (OfType t) v known h = record { type = t; wanted = refl; typed = h }
-known_type (Name k) v known h = record { type = TextType STRING; wanted = refl; typed = ap type_of h.1 }
-known_type Serial v known h = record { type = NumberType UINT32; wanted = refl; typed = ap type_of h.1 }
-
 known_field : (integers : Integers) (depth : ℕ) (p : Placed) (m : List ℕ × Json) → Fit depth p.1 → is_known p.1.code ≡ true → IsKnown integers p m → IsKnownField integers depth p.1 m
-known_field integers depth p m fit known h =
-    let t = known_type (want p.1.code) p.1.value known fit.suits in
-    record { known = known; named = h.0; type = t.type; wanted = t.wanted; read = record { spelled = h.1; typed = t.typed; formed = fit.formed.formed } }
+known_field integers depth p m fit known h = record { known = known; named = h.0; held = record { suits = fit.suits; spelled = h.1; formed = fit.formed.formed } }
 
 abbrev is_known_at : Placed → Bool
 is_known_at p = is_known p.1.code
@@ -115,7 +102,7 @@ known_zip integers depth n (f ∷ fs) ms fit h =
 
 zip_back : (integers : Integers) (depth : ℕ) (ps : List Placed) (ms : List (List ℕ × Json)) → AllZip (IsKnownField integers depth) (map field_of ps) ms → AllZip (IsKnown integers) ps ms
 zip_back integers depth [] [] h = tt
-zip_back integers depth (p ∷ ps) (m ∷ ms) h = ((h.0.named, h.0.read.spelled), zip_back integers depth ps ms h.1)
+zip_back integers depth (p ∷ ps) (m ∷ ms) h = ((h.0.named, h.0.held.spelled), zip_back integers depth ps ms h.1)
 zip_back integers depth ps ms h = absurd h
 
 formed_others : (depth n : ℕ) (fs : List FieldTree) → AllFit depth fs → AreFormedFields depth (others n fs)
@@ -196,7 +183,7 @@ mutual
 known_hold : (integers : Integers) (depth : ℕ) (fs : List FieldTree) (ms : List (List ℕ × Json)) → AllZip (IsKnownField integers depth) fs ms → HoldFieldNumbers fs
 known_hold integers depth [] ms h = tt
 known_hold integers depth (f ∷ fs) [] h = absurd h
-known_hold integers depth (f ∷ fs) (m ∷ ms) h = let code = (known_codes f.code h.0.known).1 in ((omega (arith, code), formed_holds depth f.value h.0.read.formed), known_hold integers depth fs ms h.1)
+known_hold integers depth (f ∷ fs) (m ∷ ms) h = let code = (known_codes f.code h.0.known).1 in ((omega (arith, code), formed_holds depth f.value h.0.held.formed), known_hold integers depth fs ms h.1)
 
 all_hold : (depth n : ℕ) (fs : List FieldTree) → HoldFieldNumbers (map field_of (knowns n fs)) → AreFormedFields depth (others n fs) → HoldFieldNumbers fs
 all_hold depth n [] h k = tt

@@ -4,18 +4,17 @@
 use Rattle.std.specs.Prelude.{◌≡◌, ℕ, ◌<◌, ◌≤◌, List, [], ◌∷◌, map, true, false, nat_lt, Option, Some, codes, decimal}
 use Rattle.json.specs.Find.{get}
 use Rattle.json.specs.Json.{Json, number, string, object, Members}
-use Rattle.dbus_texts.specs.Types.{TypeTree, IsSingleType, sigs}
+use Rattle.dbus_texts.specs.Types.{IsSingleType, sigs}
 use Rattle.dbus_value_model.specs.declared.order.Order.{Order}
-use Rattle.dbus_value_model.specs.Values.{ValueTrees, type_of, types_of, IsWellFormed, AreWellFormed}
-use Rattle.dbus_message_model.specs.Messages.{FieldTree, want, is_known}
-use Rattle.dbus_build.specs.BuildFaults.{type_wanted}
+use Rattle.dbus_value_model.specs.Values.{ValueTree, ValueTrees, type_of, types_of, IsWellFormed, AreWellFormed}
+use Rattle.dbus_message_model.specs.Messages.{FieldTree, Suits, Want, want, is_known}
 use Rattle.dbus_show.specs.ShownMessages.{field_name}
 use Rattle.dbus_json.specs.declared.integers.Integers.{Integers}
 use Rattle.dbus_json.specs.JsonMessages.{known_fields, other_fields}
 use Rattle.dbus_json_reader.specs.JsonMembers.{SpellsKind}
 use Rattle.dbus_json_reader.specs.JsonMessages.{SpellsOrder, SpellsOr, AreOthers, AreBody, IsOther, other_names}
 use Rattle.dbus_json_reader.specs.JsonNames.{AreNamed}
-use Rattle.dbus_json_reader.specs.JsonValues.{IsRead}
+use Rattle.dbus_json_reader.specs.JsonValues.{Spells}
 
 -- what is neither a header field nor the body
 pub record IsHead (default : ℕ) (order : Order) (kind flags serial : ℕ) (j : Json) : Type 0 where
@@ -26,13 +25,17 @@ pub record IsHead (default : ℕ) (order : Order) (kind flags serial : ℕ) (j :
   pub flags_are : SpellsOr 0 flags (get (codes "flags") j)
   pub serial_is : SpellsOr default serial (get (codes "serial") j)
 
--- a known field, which is of its own type
+-- the JSON spells a value that is wanted of a known field
+pub record IsFieldValue (integers : Integers) (depth : ℕ) (w : Want) (v : ValueTree) (j : Json) : Type 0 where
+  pub suits : Suits w v
+  pub spelled : Spells integers v j
+  pub formed : IsWellFormed depth v
+
+-- a known field
 pub record IsKnownField (integers : Integers) (depth : ℕ) (f : FieldTree) (m : List ℕ × Json) : Type 0 where
   pub known : is_known f.code ≡ true
   pub named : m.0 ≡ field_name f.code
-  pub type : TypeTree
-  pub wanted : type_wanted (want f.code) ≡ Some type
-  pub read : IsRead integers depth type f.value m.1
+  pub held : IsFieldValue integers depth (want f.code) f.value m.1
 
 -- fields that are known
 abbrev pub AreAllKnown : List FieldTree → Type 0

@@ -2,7 +2,7 @@
 //! types".
 #![tactic(auto)]
 
-ghost use Rattle.std.specs.Prelude.{◌≡◌, ◌^◌, ◌<◌, ℕ, List, None, Err, IsTrue, IfSome, IfOk, length, string_bytes};
+ghost use Rattle.std.specs.Prelude.{◌≡◌, ◌^◌, ◌<◌, ℕ, List, None, Err, IsTrue, IfSome, IfOk, IfErr, length, string_bytes};
 ghost use Rattle.json.specs.Json.{string};
 ghost use Rattle.json.specs.Value.{value_view};
 ghost use Rattle.dbus_texts.specs.Kinds.{IsKind};
@@ -11,6 +11,8 @@ ghost use Rattle.dbus_types.specs.SigTypes.{type_tree};
 ghost use Rattle.dbus_value_model.specs.PackedBytes.{keeps_bytes};
 ghost use Rattle.dbus_value_model.specs.Values.{ValueTree};
 ghost use Rattle.dbus_value_model.specs.ValueViews.{value_tree};
+ghost use Rattle.dbus_json_reader.specs.JsonFaults.{IsShown, IsUnspelled};
+ghost use Rattle.dbus_json_reader.specs.JsonRules.{string_reason};
 ghost use Rattle.dbus_json_reader.specs.JsonValues.{IsRead};
 ghost use Rattle.dbus_json_reader.specs.declared.unread.Broken.{Broken as TheBroken};
 
@@ -50,7 +52,7 @@ fn number<A: Allocator>(ty: &SigType<A>, json: &Json<'_, A>, integers: Integers)
 }
 
 /// A copy of the text of a string that is of the kind and has a length that fits in 32 bits.
-fn copied<A: Allocator + Copy>(
+pub(crate) fn copied<A: Allocator + Copy>(
     alloc: A,
     json: &Json<'_, A>,
     kind: TextKind,
@@ -59,6 +61,8 @@ fn copied<A: Allocator + Copy>(
         × IsKind kind (string_bytes s) × (length (string_bytes s) < 2 ^ 32)) }
     ensures refused { (broken : TheBroken) → result ≡ Err (Unread.Unspelled broken) → (t : List ℕ) → IsKind kind t →
         length t < 2 ^ 32 → value_view json.now ≡ string t → ⊥ }
+    ensures shown { IfErr result (λ why. IsUnspelled why →
+        IsShown why (string_reason kind (value_view json.now)) 0) }
 {
     match text(json, kind) {
         Some(text) => Ok(String::from_str(alloc, text)?),

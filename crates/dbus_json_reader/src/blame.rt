@@ -8,7 +8,7 @@ ghost use Rattle.json.specs.Json.{Json as JsonTree};
 ghost use Rattle.json.specs.Value.{value_view};
 ghost use Rattle.dbus_json_reader.specs.JsonFaults.{IsShown, counted};
 ghost use Rattle.dbus_json_reader.specs.JsonReasons.{is_of_json};
-ghost use Rattle.dbus_json_reader.specs.JsonRules.{IsToldAt, has_fraction, integer_reason, kind_reason, order_reason, unsigned_reason};
+ghost use Rattle.dbus_json_reader.specs.JsonRules.{IsToldAt, has_fraction, integer_reason, kind_reason, order_reason, string_reason, text_reason, unsigned_reason};
 
 use crate::integers::{signed_in, unsigned_in};
 use crate::names::{Names, named, strange_member};
@@ -17,9 +17,6 @@ use crate::reasons::JsonReason;
 use crate::tokens::{tokens_in_items, tokens_in_members};
 use crate::unread::Unread;
 use dbus_build::BuildFault;
-use dbus_message_model::field_code::{
-    DESTINATION, ERROR_NAME, INTERFACE, MEMBER, SENDER, SIGNATURE,
-};
 use dbus_types::{SigType, TextKind};
 use json::Value as Json;
 use std::alloc::Allocator;
@@ -110,16 +107,29 @@ pub(crate) fn no_number<A: Allocator>(ty: &SigType<A>, json: &Json<'_, A>) -> Js
     }
 }
 
+/// Why a text is none of a kind.
+fn text_reason(kind: TextKind) -> JsonReason
+    ensures of_json { IsTrue (is_of_json result) }
+    ensures reason { result ≡ text_reason kind }
+{
+    match kind {
+        TextKind::Path => JsonReason::Path,
+        TextKind::Signature => JsonReason::Signature,
+        TextKind::Interface => JsonReason::Interface,
+        TextKind::Member => JsonReason::Member,
+        TextKind::ErrorName => JsonReason::ErrorName,
+        TextKind::BusName => JsonReason::BusName,
+        TextKind::Text | TextKind::Single => JsonReason::Text,
+    }
+}
+
 /// Why a value is no text of a kind.
 pub(crate) fn no_text<A: Allocator>(json: &Json<'_, A>, kind: TextKind) -> JsonReason
-    ensures { IsTrue (is_of_json result) }
+    ensures of_json { IsTrue (is_of_json result) }
+    ensures reason { result ≡ string_reason kind (value_view json.now) }
 {
     match json {
-        Json::String(_) => match kind {
-            TextKind::Path => JsonReason::Path,
-            TextKind::Signature => JsonReason::Signature,
-            _ => JsonReason::Text,
-        },
+        Json::String(_) => text_reason(kind),
         _ => JsonReason::Form,
     }
 }
@@ -203,20 +213,6 @@ pub(crate) fn not_counted<A: Allocator>(json: &Json<'_, A>) -> Unread {
 
 // ---- messages
 
-/// What the text of a known field is to be.
-fn name_reason(code: u8) -> JsonReason
-    ensures { IsTrue (is_of_json result) }
-{
-    match code {
-        INTERFACE => JsonReason::Interface,
-        MEMBER => JsonReason::Member,
-        ERROR_NAME => JsonReason::ErrorName,
-        DESTINATION | SENDER => JsonReason::BusName,
-        SIGNATURE => JsonReason::Signature,
-        _ => JsonReason::Path,
-    }
-}
-
 /// The tokens of an object before the item of this number in the array of a name.
 fn before_item<A: Allocator>(json: &Json<'_, A>, name: &str, number: usize) -> usize {
     let before = before_value(json, name);
@@ -248,33 +244,22 @@ fn codeless<A: Allocator>(json: &Json<'_, A>) -> usize {
     0
 }
 
-/// Why the parts that an object spells, with this serial, are no message.
-pub(crate) fn no_message<A: Allocator>(
-    json: &Json<'_, A>,
-    serial: u32,
-    fault: BuildFault,
-) -> Unread {
+/// Why the parts that an object spells, of which each known field is one, are no message.
+pub(crate) fn no_message<A: Allocator>(json: &Json<'_, A>, fault: BuildFault) -> Unread {
     match fault {
         BuildFault::Memory => Unread::Memory,
         BuildFault::Kind => at_value(json, "type", JsonReason::Kind),
-        BuildFault::ZeroSerial => {
-            let name = if serial == 0 {
-                "serial"
-            } else {
-                "reply_serial"
-            };
-            at_value(json, name, JsonReason::ZeroSerial)
-        }
+        BuildFault::ZeroSerial => at_value(json, "serial", JsonReason::ZeroSerial),
         BuildFault::FieldCode => Unread::here(JsonReason::FieldCode).after(before_item(
             json,
             "fields",
             codeless(json),
         )),
-        BuildFault::FieldTwice(code) => at_value(json, named(code), JsonReason::MemberTwice),
-        BuildFault::FieldType(code) => at_value(json, named(code), JsonReason::Form),
+        BuildFault::FieldTwice(code) | BuildFault::FieldType(code) | BuildFault::Name(code) => {
+            at_value(json, named(code), JsonReason::Form)
+        }
         BuildFault::FieldMissing(code) => Unread::here(JsonReason::FieldMissing(code)),
         BuildFault::TooDeep => Unread::here(JsonReason::TooDeep),
-        BuildFault::Name(code) => at_value(json, named(code), name_reason(code)),
         BuildFault::FieldValue(_) => at_value(json, "fields", JsonReason::Form),
         BuildFault::Value(number) => {
             Unread::here(JsonReason::Form).after(before_item(json, "body", number))

@@ -88,8 +88,9 @@ fn read_body<A: Allocator + Copy>(
 /// `Unspelled` exactly if it spells no valid message: for `Form` if it is no object; else for the
 /// first member whose name may not be there, at that name; else for the first of `order`, `type`,
 /// `flags` and `serial` that is not as it has to be, at its value, or at the object if there is no
-/// `type`; else for a rule that comes after these. `Memory` if an allocation failed. RFC 8259;
-/// D-Bus Specification, "Message Format" and "Header Fields".
+/// `type`; else for the first known header field that is not, at its value; else for a rule that
+/// comes after these. `Memory` if an allocation failed. RFC 8259; D-Bus Specification, "Message
+/// Format" and "Header Fields".
 pub fn read_message<A: Allocator + Copy>(
     alloc: A,
     json: &Json<'_, A>,
@@ -115,7 +116,7 @@ pub fn read_message<A: Allocator + Copy>(
         Ok(head) => head,
         Err(why) => return Err(why),
     };
-    let known = read_known_fields(alloc, members, integers)?;
+    let known = read_known_fields(alloc, members)?;
     let depth = limits.depth.saturating_sub(AROUND_FIELD);
     let fields = match with_others(alloc, known, json, depth, integers) {
         Ok(fields) => fields,
@@ -131,6 +132,6 @@ pub fn read_message<A: Allocator + Copy>(
     };
     match Message::new_within(alloc, parts, limits) {
         Ok(message) => Ok((head.order, message)),
-        Err(refused) => Err(no_message(json, head.serial, refused.1)),
+        Err(refused) => Err(no_message(json, refused.1)),
     }
 }

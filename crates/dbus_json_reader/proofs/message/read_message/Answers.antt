@@ -10,10 +10,11 @@ use Rattle.dbus_message_model.specs.declared.parts.Parts.{Parts}
 use Rattle.dbus_message_model.specs.Messages.{FieldTree, body_signature}
 use Rattle.dbus_message_model.specs.PartsViews.{field_trees, parts_tree}
 use Rattle.dbus_json.specs.JsonMessages.{known_fields}
+use Rattle.dbus_json.specs.declared.integers.Integers.TheVariants.{Exact}
 use Rattle.dbus_json_reader.specs.JsonFaults.{IsOneOf}
 use Rattle.dbus_json_reader.specs.JsonNames.{IsNameFault, message_names}
 use Rattle.dbus_json_reader.specs.JsonParts.{AreReadFields, IsReadBody}
-use Rattle.dbus_json_reader.specs.JsonRules.{IsHeadFault, IsMessageFault, no_object, misnamed, head}
+use Rattle.dbus_json_reader.specs.JsonRules.{HasHead, HaveFields, IsFieldFault, IsHeadFault, IsMessageFault, no_object, misnamed, head, field}
 use Rattle.dbus_json_reader.specs.declared.reasons.JsonReason.TheVariants.{Form}
 use Rattle.dbus_json_reader.specs.declared.unread.Broken.{Broken}
 use Rattle.dbus_json_reader.specs.declared.unread.Unread.TheVariants.{Unspelled}
@@ -21,9 +22,9 @@ use Rattle.dbus_json_reader.proofs.KnownFields.{all_known}
 use Rattle.dbus_json_reader.proofs.Messages.{AreParts, head_of, named_of, known_of, fields_of, fit_of, body_of, signature_kind, made, never_refused}
 use Rattle.dbus_json_reader.proofs.Placing.{field_of}
 use Rattle.dbus_json_reader.proofs.Shapes.{object_seen, no_object as not_object, failed, through}
-use Rattle.dbus_json_reader.proofs.Shown.{one_of, shown_by, shown_later}
+use Rattle.dbus_json_reader.proofs.Shown.{one_of, shown_by, shown_later, has_head}
 use Rattle.dbus_json_reader.proofs.message.read_message.Goals as goal
-use Rattle.dbus_json_reader.proofs.message.read_message.Goals.{After-strange_member, In-Ok, After-new_within}
+use Rattle.dbus_json_reader.proofs.message.read_message.Goals.{After-strange_member, In-Ok, After-new_within, In_ok-known}
 
 -- the object, and the parts of the message
 seen : (g : _) (c : After-strange_member g) → value_view c.args.json.now ≡ object (members_view c.as_slice-members.result.now)
@@ -51,7 +52,7 @@ parts g c =
       flags_fit = flags;
       serial_fits = serial;
       ks = ks;
-      known = c.in_ok-known.ensures.ok (c.args.limits.depth - 3);
+      known = c.in_ok-known.ensures.ok c.args.integers (c.args.limits.depth - 3);
       fields = subst (λ (n : ℕ). AreReadFields c.args.integers n ks told gs) depth c.in-Ok-with_others.ensures.ok;
       only = λ fs k. c.in-Ok-with_others.ensures.only fs (subst (λ (n : ℕ). AreReadFields c.args.integers n ks told fs) (sym depth) k);
       body = body;
@@ -70,18 +71,18 @@ returns-in-Err-clause-refused g c = λ b e order m h.
 
 pub returns-in_err-known-clause-refused : goal.returns-in_err-known-clause-refused
 returns-in_err-known-clause-refused g c = λ b e order m h.
-    c.in_err-known.ensures.refused b (failed c.from_residual.result c.in_err-known.field-0.0 c.from_residual.ensures.1 b e) (c.args.limits.depth - 3) (map field_of (known_fields m.fields))
+    c.in_err-known.ensures.refused b (failed c.from_residual.result c.in_err-known.field-0.0 c.from_residual.ensures.1 b e) c.args.integers (c.args.limits.depth - 3) (map field_of (known_fields m.fields))
     (known_of c.args.integers c.args.limits c.args.number order m _ h _ (seen g (goal.at.returns-in_err-known-clause-refused g c).After-strange_member))
 
 pub with_others-requires-clause-known : goal.with_others-requires-clause-known
-with_others-requires-clause-known g c = all_known c.args.integers 0 _ _ (c.in_ok-known.ensures.ok 0)
+with_others-requires-clause-known g c = all_known c.args.integers 0 _ _ (c.in_ok-known.ensures.ok c.args.integers 0)
 
 pub returns-in-Err-with_others-clause-refused : goal.returns-in-Err-with_others-clause-refused
 returns-in-Err-with_others-clause-refused g c = λ b e order m h.
     let there = seen g (goal.at.returns-in-Err-with_others-clause-refused g c).After-strange_member in
     let ks = field_trees c.in_ok-known.known.items in
     let depth : c.saturating_sub-depth.result ≡ c.args.limits.depth - 3 = omega arith in
-    let read = fields_of c.args.integers c.args.limits c.args.number order m _ h _ there ks (c.in_ok-known.ensures.ok (c.args.limits.depth - 3)) in
+    let read = fields_of c.args.integers c.args.limits c.args.number order m _ h _ there ks (c.in_ok-known.ensures.ok c.args.integers (c.args.limits.depth - 3)) in
     through c.after.result c.in-Err-with_others.why c.after.ensures.unspelled b e c.in-Err-with_others.ensures.refused m.fields
     (subst (λ (n : ℕ). AreReadFields c.args.integers n ks (get (codes "fields") (value_view c.args.json.now)) m.fields) (sym depth) read)
 
@@ -90,7 +91,7 @@ returns-in_err-body-clause-refused g c = λ b e order m h.
     let there = seen g (goal.at.returns-in_err-body-clause-refused g c).After-strange_member in
     let ks = field_trees c.in_ok-known.known.items in
     let depth : c.saturating_sub-depth.result ≡ c.args.limits.depth - 3 = omega arith in
-    let read = fields_of c.args.integers c.args.limits c.args.number order m _ h _ there ks (c.in_ok-known.ensures.ok (c.args.limits.depth - 3)) in
+    let read = fields_of c.args.integers c.args.limits c.args.number order m _ h _ there ks (c.in_ok-known.ensures.ok c.args.integers (c.args.limits.depth - 3)) in
     let same : m.fields ≡ field_trees c.deref.result.now =
     c.in-Ok-with_others.ensures.only m.fields (subst (λ (n : ℕ). AreReadFields c.args.integers n ks (get (codes "fields") (value_view c.args.json.now)) m.fields) (sym depth) read) ∙ ap field_trees (sym c.deref.ensures.value) in
     c.in_err-body.ensures.refused b (failed c.from_residual-in_err-body.result c.in_err-body.field-0.0 c.from_residual-in_err-body.ensures.1 b e)
@@ -129,20 +130,36 @@ returns-in-Err-clause-shown g c = λ b e.
     let named = c.strange_member.ensures.none c.in_default-strange_member.is in
     shown_by (IsMessageFault j) c.in-Err.why b e (one_of (IsHeadFault j) (IsMessageFault j) c.in-Err.why (λ r n h. head _ there named h) c.in-Err.ensures.shown)
 
--- a rule that comes later
-later : (g : _) (c : In-Ok g) (b : Broken) → IsOneOf (IsMessageFault (value_view c.args.json.now)) (Unspelled b)
-later g c b =
-    let there = object_seen c.args.json.now c.in-Object.members c.as_slice-members.result.now c.in-Object.is c.as_slice-members.ensures.value in
-    shown_later b there (c.strange_member.ensures.none c.in_default-strange_member.is) c.in-Ok.ensures.ok (omega arith) (omega arith) (omega arith)
+headed : (g : _) (c : In-Ok g) → HasHead (value_view c.args.json.now)
+headed g c = has_head c.args.number c.in-Ok.head.order c.in-Ok.head.kind c.in-Ok.head.flags c.in-Ok.head.serial _ (omega arith) (omega arith) (omega arith) c.in-Ok.ensures.ok
 
 pub returns-in_err-known-clause-shown : goal.returns-in_err-known-clause-shown
-returns-in_err-known-clause-shown g c = λ b e. later g (goal.at.returns-in_err-known-clause-shown g c).In-Ok b
+returns-in_err-known-clause-shown g c = λ b e.
+    let j = value_view c.args.json.now in
+    let ms = members_view c.as_slice-members.result.now in
+    let at = goal.at.returns-in_err-known-clause-shown g c in
+    let named = c.strange_member.ensures.none c.in_default-strange_member.is in
+    let err = failed c.from_residual.result c.in_err-known.field-0.0 c.from_residual.ensures.1 b e in
+    one_of (IsFieldFault ms) (IsMessageFault j) (Unspelled b) (λ r n h. field ms (seen g at.After-strange_member) named (headed g at.In-Ok) h) (c.in_err-known.ensures.shown b err)
+
+-- a rule that comes later
+later : (g : _) (c : In_ok-known g) (h : HasHead (value_view c.args.json.now)) (b : Broken) → IsOneOf (IsMessageFault (value_view c.args.json.now)) (Unspelled b)
+later g c h b =
+    let there = object_seen c.args.json.now c.in-Object.members c.as_slice-members.result.now c.in-Object.is c.as_slice-members.ensures.value in
+    let fields : HaveFields (members_view c.as_slice-members.result.now) = (field_trees c.in_ok-known.known.items, c.in_ok-known.ensures.ok Exact 0) in
+    shown_later b there (c.strange_member.ensures.none c.in_default-strange_member.is) h fields
 
 pub returns-in-Err-with_others-clause-shown : goal.returns-in-Err-with_others-clause-shown
-returns-in-Err-with_others-clause-shown g c = λ b e. later g (goal.at.returns-in-Err-with_others-clause-shown g c).In-Ok b
+returns-in-Err-with_others-clause-shown g c =
+    let at = goal.at.returns-in-Err-with_others-clause-shown g c in
+    λ b e. later g at.In_ok-known (headed g at.In-Ok) b
 
 pub returns-in_err-body-clause-shown : goal.returns-in_err-body-clause-shown
-returns-in_err-body-clause-shown g c = λ b e. later g (goal.at.returns-in_err-body-clause-shown g c).In-Ok b
+returns-in_err-body-clause-shown g c =
+    let at = goal.at.returns-in_err-body-clause-shown g c in
+    λ b e. later g at.In_ok-known (headed g at.In-Ok) b
 
 pub returns-in-Err-new_within-clause-shown : goal.returns-in-Err-new_within-clause-shown
-returns-in-Err-new_within-clause-shown g c = λ b e. later g (goal.at.returns-in-Err-new_within-clause-shown g c).In-Ok b
+returns-in-Err-new_within-clause-shown g c =
+    let at = goal.at.returns-in-Err-new_within-clause-shown g c in
+    λ b e. later g at.In_ok-known (headed g at.In-Ok) b
