@@ -292,9 +292,10 @@ def inputs(paths):
     whole = [it for case in read_cases(DATA / "messages.txt") if case[4].startswith("whole") and not case[1] for it in case[2:4]]
     yield "messages.txt", b"".join(map(read_bytes, whole))
     yield "printed.txt", b"".join(read_bytes(case[2]) for case in read_cases(DATA / "printed.txt"))
-    for name, column, _, size, fault in read_cases(DATA / "captures.txt"):
-        if not fault and int(size) % captures.MESSAGE == 0:
-            yield name, read_parts(column, DATA)
+    for name, column, _, _, fault in read_cases(DATA / "captures.txt"):
+        data = read_parts(column, DATA)
+        if not fault and all(it in captures.MESSAGES for it in split(captures.read(data).data)):
+            yield name, data
     samples = pathlib.Path(__file__).resolve().parent.parent / "samples"
     paths = [pathlib.Path(it) for it in paths] + sorted(it for it in samples.iterdir() if it.suffix in (".dbus", ".pcap", ".pcapng"))
     yield from ((it.name, it.read_bytes()) for it in paths)
